@@ -1,0 +1,10 @@
+pub mod Bools
+pub mod Below
+pub mod Pointwise
+pub mod Members
+pub mod Folds
+pub mod Sizes
+pub mod Numbers
+pub mod Shifts
+pub mod Keys
+pub mod Product

@@ -1,0 +1,54 @@
+-- The number and the square that each refusal comes back with (document 01, "Turned back because of the input", "of the state").
+use Prim.Native.Nat.{ℕ}
+use Rattle.squares.specs.declared.refusal.Refusal.{Refusal}
+use Rattle.squares.specs.declared.refusal.Refusal.the-variants.{TextTooLong, NoSide, NoColor, BadSquare, BadHubByte, NotFifty, Overlap, ManOnPromotionRow, BadMoveText, BeyondLimit, NoSuchSquare, BadPosition, BadGame, GameOver, NoMoveFits, SeveralFit, TooManyMoves, FenTooLong, SpaceTooShort}
+use Rattle.squares.specs.declared.refusal.Answer.{Answer}
+use Rattle.squares.specs.declared.refusal.Answer.the-variants.{Done, Refused}
+
+abbrev pub numberOf : Refusal → ℕ
+numberOf TextTooLong = 1
+numberOf NoSide = 2
+numberOf NoColor = 3
+numberOf BadSquare = 4
+numberOf BadHubByte = 5
+numberOf NotFifty = 6
+numberOf (Overlap n) = 7
+numberOf (ManOnPromotionRow n) = 8
+numberOf BadMoveText = 9
+numberOf BeyondLimit = 10
+numberOf NoSuchSquare = 11
+numberOf BadPosition = 12
+numberOf BadGame = 13
+numberOf GameOver = 14
+numberOf NoMoveFits = 15
+numberOf SeveralFit = 16
+numberOf TooManyMoves = 17
+numberOf FenTooLong = 18
+numberOf SpaceTooShort = 19
+
+-- the lowest square for 7 and 8, else 0
+abbrev pub squareOf : Refusal → ℕ
+squareOf TextTooLong = 0
+squareOf NoSide = 0
+squareOf NoColor = 0
+squareOf BadSquare = 0
+squareOf BadHubByte = 0
+squareOf NotFifty = 0
+squareOf (Overlap n) = n
+squareOf (ManOnPromotionRow n) = n
+squareOf BadMoveText = 0
+squareOf BeyondLimit = 0
+squareOf NoSuchSquare = 0
+squareOf BadPosition = 0
+squareOf BadGame = 0
+squareOf GameOver = 0
+squareOf NoMoveFits = 0
+squareOf SeveralFit = 0
+squareOf TooManyMoves = 0
+squareOf FenTooLong = 0
+squareOf SpaceTooShort = 0
+
+-- 0 where nothing was refused
+abbrev pub answerNumberOf : Answer → ℕ
+answerNumberOf Done = 0
+answerNumberOf (Refused e) = numberOf e
