@@ -39,9 +39,9 @@ pub fn splitmix64(state: u64) -> Drawn
     }
 }
 
-// One key for each kind of piece and bit, the outputs of SplitMix64 from 0x64616D65 ("dame") in this order.
+// One key for each kind of piece and bit: 64 for white men, black men, white kings, black kings, the outputs of
+// SplitMix64 from 0x64616D65 ("dame") in this order.
 const PIECE_KEYS: [u64; 256] = [
-    // white men
     0x687B_1986_4A3F_7771,
     0x1E98_557B_34C6_91B9,
     0x3A1A_7B1C_E297_A55D,
@@ -106,7 +106,6 @@ const PIECE_KEYS: [u64; 256] = [
     0xAE4D_0934_601D_6883,
     0xFBEC_47EB_3C16_43A6,
     0xD487_17DD_A27A_327F,
-    // black men
     0x902F_FC5A_6D25_41DD,
     0x8AD0_F8D1_4EBA_2269,
     0x7FE4_50A0_766B_3471,
@@ -171,7 +170,6 @@ const PIECE_KEYS: [u64; 256] = [
     0xEAC7_4321_5D7D_D306,
     0xBEE6_F47E_DAFA_C395,
     0x5178_CF10_3EDA_6E16,
-    // white kings
     0x5715_1531_DBF6_CEFA,
     0xAD56_9CB7_449D_5C96,
     0xB0E7_46DC_7351_9F23,
@@ -236,7 +234,6 @@ const PIECE_KEYS: [u64; 256] = [
     0xB255_AFAE_12E8_119C,
     0x3105_70F2_B51B_6BBD,
     0x1F78_FC3B_EE2A_6958,
-    // black kings
     0x54E1_1E15_83B4_C67D,
     0x3319_7884_E72A_5E68,
     0xA358_09B3_E0DB_B7E8,
