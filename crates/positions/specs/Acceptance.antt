@@ -1,0 +1,66 @@
+-- What a board must be (document 01, "position.rs"): pieces on squares, no square with both colours, no man on its promotion
+-- row; kings marked on empty squares are dropped where sets are handed in, and refused where a position is.
+use mathlib.Core.Path.{_≡_}
+use Prim.Native.Nat.{ℕ, _<_, _^_}
+use mathlib.Core.Bool.{Bool, true, false, not, cond, _&&_, _||_}
+use lib.Dec.{eqb}
+use lib.Bits.{bitAnd, bitOr}
+use Rattle.squares.specs.Sets.{has, without}
+use Rattle.squares.specs.Squares.{all, promotion, firstOf, onBoard}
+use Rattle.squares.specs.declared.piece.Color.{Color}
+use Rattle.squares.specs.declared.piece.Color.the-variants.{White, Black}
+use Rattle.squares.specs.declared.refusal.Refusal.the-variants.{NoSuchSquare, Overlap, ManOnPromotionRow}
+use Rattle.positions.specs.Boards.{Board, board, boardOf}
+use Rattle.positions.specs.Hash.{hashOf, positionOf}
+use Rattle.positions.specs.declared.position.Position.{Position}
+use Rattle.positions.specs.declared.position.Placed.{Placed}
+use Rattle.positions.specs.declared.position.Placed.the-variants as placed
+
+-- every bit of the set is a square
+unfoldable pub squaresOnly : ℕ → Bool
+squaresOnly s = eqb (without s all) 0
+
+-- the men on their promotion row
+unfoldable pub misplaced : ℕ → ℕ → ℕ → ℕ
+misplaced white black kings = bitOr (bitAnd (without white kings) (promotion White)) (bitAnd (without black kings) (promotion Black))
+
+unfoldable pub acceptedSets : ℕ → ℕ → ℕ → Bool
+acceptedSets white black kings =
+    (squaresOnly white && squaresOnly black)
+    && (eqb (bitAnd white black) 0 && (eqb (without kings (bitOr white black)) 0 && eqb (misplaced white black kings) 0))
+
+unfoldable pub accepted : Board → Bool
+accepted b = acceptedSets (b .white) (b .black) (b .kings)
+
+-- refusal 12 is told of a position that is not: breaks 11, 7 or 8, marks a king on an empty square, carries another hash
+unfoldable pub sound : Position → Bool
+sound p = accepted (boardOf p) && eqb (p .hash) (hashOf (boardOf p))
+
+-- what the test says, square by square
+pub record Accepted (b : Board) : Type 0 where
+  pub whiteOn : (i : ℕ) → has (b .white) i ≡ true → onBoard i ≡ true
+  pub blackOn : (i : ℕ) → has (b .black) i ≡ true → onBoard i ≡ true
+  pub apart : (i : ℕ) → has (b .white) i ≡ true → has (b .black) i ≡ false
+  pub marked : (i : ℕ) → has (b .kings) i ≡ true → (has (b .white) i || has (b .black) i) ≡ true
+  pub whiteMen : (i : ℕ) → has (b .white) i ≡ true → has (b .kings) i ≡ false → has (promotion White) i ≡ false
+  pub blackMen : (i : ℕ) → has (b .black) i ≡ true → has (b .kings) i ≡ false → has (promotion Black) i ≡ false
+  pub whiteFits : b .white < 2 ^ 54
+  pub blackFits : b .black < 2 ^ 54
+  pub kingsFits : b .kings < 2 ^ 54
+
+pub record Sound (p : Position) : Type 0 where
+  pub accepted : Accepted (boardOf p)
+  pub hash : p .hash ≡ hashOf (boardOf p)
+
+-- the position of these sets, kings on empty squares dropped; refused 11, then 7, then 8, with the lowest square
+unfoldable pub fromPartsOf : ℕ → ℕ → ℕ → Color → Placed
+fromPartsOf white black kings side =
+    let dropped = bitAnd kings (bitOr white black) in
+    let both = bitAnd white black in
+    let high = misplaced white black dropped in
+    cond (squaresOnly white && (squaresOnly black && squaresOnly kings))
+    (cond (eqb both 0)
+    (cond (eqb high 0) (placed.Position (positionOf (board white black dropped side)))
+    (placed.Refused (ManOnPromotionRow (firstOf high))))
+    (placed.Refused (Overlap (firstOf both))))
+    (placed.Refused NoSuchSquare)

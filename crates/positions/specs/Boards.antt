@@ -1,0 +1,85 @@
+-- Boards: the pieces of each colour, the kings of both, the side to move.
+use Prim.Native.Nat.{ℕ}
+use mathlib.Core.Bool.{Bool, true, false, cond, _&&_}
+use lib.Dec.{eqb}
+use lib.Bits.{bitAnd, bitOr}
+use Rattle.squares.specs.Sets.{has, size, without}
+use Rattle.squares.specs.Squares.{isSquare, all, containsOf}
+use Rattle.squares.specs.Pieces.{other}
+use Rattle.squares.specs.declared.piece.Color.{Color}
+use Rattle.squares.specs.declared.piece.Color.the-variants.{White, Black}
+use Rattle.squares.specs.declared.piece.PieceKind.{PieceKind}
+use Rattle.squares.specs.declared.piece.PieceKind.the-variants.{Man, King}
+use Rattle.squares.specs.declared.refusal.Refusal.the-variants.{NoSuchSquare}
+use Rattle.positions.specs.declared.position.Position.{Position}
+use Rattle.positions.specs.declared.position.Standing.{Standing}
+use Rattle.positions.specs.declared.position.Standing.the-variants as standing
+
+pub record Board : Type 0 where
+  pub white : ℕ
+  pub black : ℕ
+  pub kings : ℕ
+  pub side : Color
+
+abbrev pub board : ℕ → ℕ → ℕ → Color → Board
+board w b k s = record { white = w; black = b; kings = k; side = s }
+
+-- a position but for its hash
+abbrev pub boardOf : Position → Board
+boardOf p = record { white = p .white; black = p .black; kings = p .kings; side = p .side }
+
+-- the pieces of a colour
+abbrev pub colored : Color → Board → ℕ
+colored White b = b .white
+colored Black b = b .black
+
+-- of a set of pieces those of a kind, where the kings are marked
+unfoldable pub ofKind : PieceKind → ℕ → ℕ → ℕ
+ofKind Man s kings = without s kings
+ofKind King s kings = bitAnd s kings
+
+-- the men, the kings of a colour
+abbrev pub menOf : Color → Board → ℕ
+menOf c b = without (colored c b) (b .kings)
+
+abbrev pub kingsOf : Color → Board → ℕ
+kingsOf c b = bitAnd (colored c b) (b .kings)
+
+-- the pieces of the side to move, and of the other
+abbrev pub own : Board → ℕ
+own b = colored (b .side) b
+
+abbrev pub enemy : Board → ℕ
+enemy b = colored (other (b .side)) b
+
+-- the men, or the kings, of the side to move
+unfoldable pub pieces : Board → PieceKind → ℕ
+pieces b k = ofKind k (own b) (b .kings)
+
+unfoldable pub empty : Board → ℕ
+empty b = without all (bitOr (b .white) (b .black))
+
+abbrev pub sameColor : Color → Color → Bool
+sameColor White White = true
+sameColor White Black = false
+sameColor Black White = false
+sameColor Black Black = true
+
+-- equal by sets and side
+unfoldable pub sameBoard : Board → Board → Bool
+sameBoard a b = (eqb (a .white) (b .white) && (eqb (a .black) (b .black) && eqb (a .kings) (b .kings))) && sameColor (a .side) (b .side)
+
+abbrev pub kindIf : Bool → PieceKind
+kindIf true = King
+kindIf false = Man
+
+abbrev pub standingOf : Color → Bool → Standing
+standingOf c king = standing.Piece (record { color = c; kind = kindIf king })
+
+-- what stands on square n; 11 where there is no such square
+unfoldable pub pieceAtOf : Board → ℕ → Standing
+pieceAtOf b n =
+    cond (isSquare n)
+    (cond (containsOf (b .white) n) (standingOf White (containsOf (b .kings) n))
+    (cond (containsOf (b .black) n) (standingOf Black (containsOf (b .kings) n)) standing.Nothing))
+    (standing.Refused NoSuchSquare)

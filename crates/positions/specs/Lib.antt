@@ -1,0 +1,8 @@
+pub mod Moves
+pub mod Boards
+pub mod Hash
+pub mod Acceptance
+pub mod Successor
+pub mod Measure
+pub mod Flip
+pub mod Computed

@@ -1,0 +1,3 @@
+// Positions: acceptance, hash, successor, flip; the move record; the score.
+pub mod moves;
+pub mod position;
