@@ -5,4 +5,5 @@ pub mod Acceptance
 pub mod Successor
 pub mod Measure
 pub mod Flip
+pub mod Score
 pub mod Computed
