@@ -92,7 +92,7 @@ by-rows-is c s =
     by-squares c s 10
     ∙ sym (sum-mask (rowWeight c 10) s all (λ i l e. weight-at c i l ∙ ap (λ (t : Bool). cond t (advanced c i) 0) e))
     ∙ sum-same (rowWeight c 10) (advanced c) (bitAnd s all)
-      (λ i l e. weight-at c i l ∙ ap (λ (t : Bool). cond t (advanced c i) 0) (and-right (has s i) (has all i) (sym (Rattle.squares.proofs.Pointwise.has-and s all i) ∙ e)))
+    (λ i l e. weight-at c i l ∙ ap (λ (t : Bool). cond t (advanced c i) 0) (and-right (has s i) (has all i) (sym (Rattle.squares.proofs.Pointwise.has-and s all i) ∙ e)))
 
 -- no man has advanced more than 9 rows
 nine-test : (c : Color) → below 64 (λ i. leb (advanced c i) 9) ≡ true

@@ -89,6 +89,13 @@ within-read n z r h e = e ∙ ap (within n) (back (sfits-of h))
 pub held-within : (n : ℕ) (z : ℤ) → n < 2 ^ 31 → within n z ≡ true → within n (held z) ≡ true
 held-within n z l e = ap (within n) (held-is z (omega (arith, within-le n z e))) ∙ e
 
+-- the division of the code, rounded towards zero
+pub eighth-fits : (z : ℤ) → natAbs z < 2 ^ 31 → SFits w32 (quotZ (held z) (pos 8))
+eighth-fits z h = rw (held-is z h) (fits32 (quotZ z (pos 8)) (omega (arith, abs-eighth z)))
+
+pub eighth-read : (z : ℤ) → natAbs z < 2 ^ 31 → held (quotZ (held z) (pos 8)) ≡ quotZ z (pos 8)
+eighth-read z h = back (eighth-fits z h) ∙ ap (λ (x : ℤ). quotZ x (pos 8)) (held-is z h)
+
 -- ---- a value with its bound, through each operation
 pub itself : (n : ℕ) (z : ℤ) → natAbs z ≤ n → Bounded n z z
 itself n z h = record { is = refl; small = h }

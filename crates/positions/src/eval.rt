@@ -5,7 +5,6 @@ use squares::bitboard;
 use squares::bitboard::Bitboard;
 use squares::piece::Color;
 use squares::refusal::Refusal;
-
 ghost use mathlib.Core.Path.{_≡_};
 ghost use mathlib.Core.Bool.{true};
 ghost use Prim.Native.Nat.{_≤_, _<_};
@@ -42,6 +41,7 @@ const CENTER: Bitboard = 0x7380_0000;
 
 // The squares that a side keeps on its back row to stop enemy men from crowning: 47 to 49, for Black 2 to 4.
 const WHITE_GUARD: Bitboard = 0x001C_0000_0000_0000;
+
 const BLACK_GUARD: Bitboard = 0xE;
 
 // The weights.
@@ -77,7 +77,8 @@ impl Classical {
         ensures { λ r. ⌜ r ≡ weightsFit self ⌝ }
     {
         let pieces = weight_fits(self.man) & weight_fits(self.king);
-        let places = weight_fits(self.advance) & (weight_fits(self.center) & weight_fits(self.guard));
+        let places = weight_fits(self.advance)
+            & (weight_fits(self.center) & weight_fits(self.guard));
         pieces & places
     }
 
@@ -86,7 +87,8 @@ impl Classical {
         requires { ⌜ weightsFit self ≡ true ⌝ }
         ensures { λ r. ⌜ Bounded 115200000 (materialOf self color (boardOf p)) r ⌝ }
     {
-        term(self.man, bitboard::count(p.men(color))) + term(self.king, bitboard::count(p.kings(color)))
+        term(self.man, bitboard::count(p.men(color)))
+            + term(self.king, bitboard::count(p.kings(color)))
     }
 
     // Where the men of the colour stand.
@@ -123,7 +125,7 @@ impl Classical {
     fn side_score(self, p: Position) -> i32
         requires { ⌜ weightsFit self ≡ true ⌝ }
         requires { ⌜ accepted (boardOf p) ≡ true ⌝ }
-        ensures { λ r. ⌜ r ≡ score self (boardOf p) ⌝ }
+        ensures { λ r. ⌜ Bounded 576000000 (score self (boardOf p)) r ⌝ }
     {
         let score = self.white_score(p);
         let side = p.side;
@@ -233,9 +235,5 @@ fn damp(p: Position, score: i32) -> i32
 {
     let white = (score > 0) & few_pieces(p, Color::White);
     let black = (score < 0) & few_pieces(p, Color::Black);
-    if white | black {
-        score / 8
-    } else {
-        score
-    }
+    if white | black { score / 8 } else { score }
 }

@@ -1,33 +1,29 @@
+-- The definition, part by part.
 use borrow.Author.Needs.{needs}
-use native.Mathlib.Omega.{arith}
+use Rattle.positions.specs.Boards.{boardOf}
+use Rattle.positions.proofs.Scores.{few-test}
 use Rattle.positions.proofs.eval.few_pieces.Statement.{statement}
 use Rattle.positions.proofs.eval.few_pieces.Tie as tie
-use Rattle.positions.proofs.eval.few_pieces.Reads as reads
-use Rattle.positions.proofs.eval.few_pieces.Lts as lts
-use Rattle.positions.proofs.position.Position.kings.Reads as kings-reads
-use Rattle.positions.proofs.position.Position.pieces.Reads as pieces-reads
-use Rattle.squares.proofs.bitboard.count.Reads as count-reads
-use Rattle.squares.proofs.piece.Color.not.Reads as not-reads
 
--- src/eval.rt:226:22
 pieces-requires : tie.Need-pieces-requires
-pieces-requires c κs = ?
+pieces-requires c κs = search needs
 
--- src/eval.rt:226:6
 count-requires : tie.Need-count-requires
-count-requires c κs = ?
+count-requires c κs = search needs
 
--- src/eval.rt:226:56
 not-requires : tie.Need-not-requires
-not-requires c κs = ?
+not-requires c κs = search needs
 
--- src/eval.rt:226:48
 kings-requires : tie.Need-kings-requires
-kings-requires c κs = ?
+kings-requires c κs = search needs
 
--- src/eval.rt:223:1
 returns : tie.Need-returns
-returns c = ?
+returns c =
+    let n = c .before in
+    let s = n .before .before in
+    let start = s .before .args in
+    few-test (start .color) (boardOf (start .p)) (n .not .result) (c .kings .result) (n .not .ensures) (c .kings .ensures)
+    (s .pieces .result) (n .before .count .result) (s .pieces .ensures) (n .before .count .ensures)
 
 pub few-pieces-spec : {M : Type 1} → statement M
 few-pieces-spec =

@@ -1,42 +1,43 @@
-use borrow.Author.Needs.{needs}
+-- Where the opponent has no king, the men on the guard squares are counted.
 use native.Mathlib.Omega.{arith}
+use borrow.Author.Needs.{needs}
+use Rattle.positions.specs.Boards.{boardOf}
+use Rattle.positions.proofs.Scores.{count-le, guards-none, guards-some}
 use Rattle.positions.proofs.eval.guards.Statement.{statement}
 use Rattle.positions.proofs.eval.guards.Tie as tie
-use Rattle.positions.proofs.eval.guards.Reads as reads
-use Rattle.positions.proofs.eval.guards.Lts as lts
-use Rattle.positions.proofs.eval.guard_squares.Reads as guard-squares-reads
-use Rattle.positions.proofs.position.Position.kings.Reads as kings-reads
-use Rattle.positions.proofs.position.Position.men.Reads as men-reads
-use Rattle.squares.proofs.bitboard.count.Reads as count-reads
-use Rattle.squares.proofs.piece.Color.not.Reads as not-reads
 
--- src/eval.rt:215:16
 not-requires : tie.Need-not-requires
-not-requires c κs = ?
+not-requires c κs = search needs
 
--- src/eval.rt:215:8
 kings-requires : tie.Need-kings-requires
-kings-requires c κs = ?
+kings-requires c κs = search needs
 
--- src/eval.rt:216:25
 men-requires : tie.Need-men-requires
-men-requires c κs = ?
+men-requires c κs = search needs
 
--- src/eval.rt:216:40
 guard-squares-requires : tie.Need-guard-squares-requires
-guard-squares-requires c κs = ?
+guard-squares-requires c κs = search needs
 
--- src/eval.rt:216:9
 count-requires : tie.Need-count-requires
-count-requires c κs = ?
+count-requires c κs = search needs
 
--- src/eval.rt:211:1
 returns : tie.Need-returns
-returns c = ?
+returns c =
+    let k = c .before .before .before .before in
+    let n = k .before in
+    let start = n .before .args in (
+      guards-some (start .color) (boardOf (start .p)) (n .not .result) (k .kings .result) (n .not .ensures) (k .kings .ensures)
+          (c .before .before .men .result) (c .before .guard-squares .result) (c .count .result)
+          (c .before .before .before .if1 .taken) (c .before .before .men .ensures) (c .before .guard-squares .ensures) (c .count .ensures),
+      count-le _ _ (c .count .ensures),
+    )
 
--- src/eval.rt:211:1
 returns-2 : tie.Need-returns-2
-returns-2 c = ?
+returns-2 c =
+    let k = c .before in
+    let n = k .before in
+    let start = n .before .args in
+    (guards-none (start .color) (boardOf (start .p)) (n .not .result) (k .kings .result) (n .not .ensures) (k .kings .ensures) (c .if1 .left), omega arith)
 
 pub guards-spec : {M : Type 1} → statement M
 guards-spec =

@@ -24,8 +24,8 @@ abbrev μ-loop : tie.MeasureT-loop
 -- what one turn adds
 added : (c : tie.After-count Inv-loop μ-loop)
     → c .before .ahead .result * c .count .result
-      ≡ aheadOf (c .before .before .before .before .args .color) (c .before .before .before .loop .row)
-        * size (bitAnd (c .before .before .before .before .args .men) (rowSet (c .before .before .before .loop .row)))
+    ≡ aheadOf (c .before .before .before .before .args .color) (c .before .before .before .loop .row)
+    * size (bitAnd (c .before .before .before .before .args .men) (rowSet (c .before .before .before .loop .row)))
 added c =
     ap₂ _*_ (c .before .ahead .ensures)
     (c .count .ensures ∙ ap (λ (x : ℕ). size (bitAnd (c .before .before .before .before .args .men) x)) (row-at (c .before .before .before .loop .row) (omega arith)))
