@@ -15,18 +15,24 @@ use Rattle.squares.specs.Folds.{sumOver}
 use Rattle.squares.specs.Pieces.{other}
 use Rattle.squares.specs.declared.piece.Color.{Color}
 use Rattle.squares.specs.declared.piece.Color.the-variants.{White, Black}
+use Rattle.squares.specs.declared.refusal.Refusal.the-variants.{BeyondLimit, BadPosition}
 use Rattle.squares.proofs.Bools.{every3, at3, iff, iff-eq, imp, imp-elim, tested, and-left, bool-ext}
 use Rattle.squares.proofs.Below.{below, below-at}
 use Rattle.squares.proofs.Pointwise.{ext, has-and, has-without}
 use Rattle.squares.proofs.Folds.{sum-same}
 use Rattle.squares.proofs.Numbers.{on-lt}
-use Rattle.positions.specs.Boards.{Board, colored, menOf, kingsOf}
-use Rattle.positions.specs.Acceptance.{Accepted}
+use Rattle.positions.specs.Boards.{Board, boardOf, colored, menOf, kingsOf}
+use Rattle.positions.specs.Acceptance.{Accepted, Sound}
+use Rattle.positions.specs.Hash.{positionOf}
 use Rattle.positions.specs.Flip.{rotated, flip}
-use Rattle.positions.specs.Score.{advanced, center, guard, guarding, materialOf, placementOf, worth, fewPieces, drawish, damped, whiteScore, signed, score}
+use Rattle.positions.specs.Score.{advanced, center, guard, guarding, materialOf, placementOf, worth, fewPieces, drawish, damped, whiteScore, signed, score, weightsFit, evaluateOf}
 use Rattle.positions.specs.Computed.{computed}
+use Rattle.positions.specs.declared.position.Position.{Position}
 use Rattle.positions.specs.declared.eval.Classical.{Classical}
+use Rattle.positions.specs.declared.eval.Scored.the-variants as scored
 use Rattle.positions.proofs.Rotation.{Squares, has-rotated, rotated-lt, rotated-twice, size-rotated, sum-rotated}
+use Rattle.positions.proofs.Accepts.{says-sound}
+use Rattle.positions.proofs.Flips.{flipped-sound}
 use Rattle.positions.proofs.Men.{wide, colored-squares, men-squares, kings-squares}
 
 -- ---- sets turned round
@@ -61,7 +67,8 @@ rotated-none s q = bool-ext _ _
 part : (s m : ℕ) → Squares s → Squares (bitAnd s m)
 part s m q = record {
   fits = lt-of-le-of-lt (and-le-l s m) (q .fits);
-  on = λ i e. q .on i (and-left (has s i) (has m i) (sym (has-and s m i) ∙ e)) }
+  on = λ i e. q .on i (and-left (has s i) (has m i) (sym (has-and s m i) ∙ e));
+}
 
 -- ---- the score's squares turned round
 center-turned : rotated center ≡ center
@@ -193,3 +200,10 @@ module _ (b : Board) (a : Accepted b) where
       turned : (c : Color) → signed (other c) (negℤ (whiteScore w b)) ≡ signed c (whiteScore w b)
       turned White = negℤ-negℤ (whiteScore w b)
       turned Black = refl
+
+-- the answers of a sound position and of what `flipped` hands back agree
+pub evaluate-flipped : (w : Classical) (p : Position) → Sound p → evaluateOf w (positionOf (flip (boardOf p))) ≡ evaluateOf w p
+unfolding evaluateOf
+evaluate-flipped w p s =
+    ap₂ (λ (t : Bool) (z : ℤ). cond t (cond (weightsFit w) (scored.Score z) (scored.Refused BeyondLimit)) (scored.Refused BadPosition))
+    (says-sound (positionOf (flip (boardOf p))) (flipped-sound p s) ∙ sym (says-sound p s)) (score-flip (boardOf p) (s .accepted) w)
