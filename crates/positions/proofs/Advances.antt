@@ -1,9 +1,10 @@
 -- The rows that men have advanced: row by row with the code's table, and square by square as the paper says.
 use mathlib.Core.Path.{_≡_, refl, sym, ap, ap₂, _∙_}
-use Prim.Native.Nat.{ℕ, zero, suc, _+_, _*_, _^_, _≤_, _<_}
+use Prim.Native.Nat.{ℕ, zero, suc, _+_, _*_, _≤_, _<_}
 use native.Mathlib.Nat.{mul-le-mul, not-suc-le-zero, le-of-suc-le-suc}
+use native.Mathlib.Numerals.{add-one}
 use native.Mathlib.Omega.{arith}
-use mathlib.Core.Bool.{Bool, true, false, _&&_, cond}
+use mathlib.Core.Bool.{Bool, true, _&&_, cond}
 use mathlib.Core.List.{List, [], _∷_}
 use lib.Dec.{eqb, leb}
 use lib.Bits.{bitAnd}
@@ -16,6 +17,7 @@ use Rattle.squares.specs.declared.piece.Color.{Color}
 use Rattle.squares.specs.declared.piece.Color.the-variants.{White, Black}
 use Rattle.squares.proofs.Bools.{and-left, and-right}
 use Rattle.squares.proofs.Below.{below, below-at}
+use Rattle.squares.proofs.Pointwise.{has-and}
 use Rattle.squares.proofs.Folds.{sum-same}
 use Rattle.squares.proofs.Sizes.{size-most}
 use Rattle.positions.specs.Score.{aheadOf, advanced}
@@ -57,7 +59,7 @@ by-rows-none c s = refl
 
 pub by-rows-next : (c : Color) (s n : ℕ) → byRows c s (n + 1) ≡ byRows c s n + aheadOf c n * size (bitAnd s (rowSet n))
 unfolding byRows foldTo
-by-rows-next c s n = ap (foldTo _+_ 0 (λ r. aheadOf c r * size (bitAnd s (rowSet r)))) (native.Mathlib.Numerals.add-one n)
+by-rows-next c s n = ap (foldTo _+_ 0 (λ r. aheadOf c r * size (bitAnd s (rowSet r)))) (add-one n)
 
 -- each of at most 9 rows times 64
 pub ahead-le : (c : Color) (r : ℕ) → r < 10 → aheadOf c r ≤ 9
@@ -92,7 +94,7 @@ by-rows-is c s =
     by-squares c s 10
     ∙ sym (sum-mask (rowWeight c 10) s all (λ i l e. weight-at c i l ∙ ap (λ (t : Bool). cond t (advanced c i) 0) e))
     ∙ sum-same (rowWeight c 10) (advanced c) (bitAnd s all)
-    (λ i l e. weight-at c i l ∙ ap (λ (t : Bool). cond t (advanced c i) 0) (and-right (has s i) (has all i) (sym (Rattle.squares.proofs.Pointwise.has-and s all i) ∙ e)))
+    (λ i l e. weight-at c i l ∙ ap (λ (t : Bool). cond t (advanced c i) 0) (and-right (has s i) (has all i) (sym (has-and s all i) ∙ e)))
 
 -- no man has advanced more than 9 rows
 nine-test : (c : Color) → below 64 (λ i. leb (advanced c i) 9) ≡ true

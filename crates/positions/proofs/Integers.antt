@@ -1,11 +1,11 @@
 -- The signed operations of the code: how large an integer is, and that one below 2 ^ 31 in size fits an i32 and reads back.
 use mathlib.Core.Path.{_≡_, refl, sym, ap, ap₂, _∙_}
 use Prim.Native.Nat.{ℕ, zero, suc, _+_, _-_, _*_, _/_, _≤_, _<_, _^_}
-use native.Mathlib.Nat.{add-le-add, mul-le-mul, le-trans, not-suc-le-zero, zero-mul, suc-mul}
+use native.Mathlib.Nat.{add-le-add, mul-le-mul, le-trans}
 use native.Mathlib.Omega.{arith}
 use mathlib.Core.Bool.{Bool, true, false, _&&_, cond, and-true}
 use lib.Dec.{leb, ltb, leb·suc-suc}
-use lib.IntN.{ℤ, pos, negsuc, _+ℤ_, _-ℤ_, _*ℤ_, negℤ, subℕ, natAbs, +ℤ-assoc, +ℤ-comm, +ℤ-idl, negℤ-+ℤ, sucℤ-*ℤ, zero-*ℤ}
+use lib.IntN.{ℤ, pos, negsuc, _+ℤ_, _-ℤ_, _*ℤ_, negℤ, subℕ, natAbs, +ℤ-idl}
 use lib.Signed.{mag, leZ, quotZ}
 use borrow.Author.Tests.{ltb-true, lt-ltb, leb-true, le-leb}
 use borrow.Author.Needs.{sfits-of}

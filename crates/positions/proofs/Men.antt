@@ -1,12 +1,12 @@
 -- Of an accepted board: the pieces, men and kings of a colour stand on squares, at most 50 of them.
-use mathlib.Core.Path.{_≡_, refl, sym, ap, ap₂, _∙_}
+use mathlib.Core.Path.{_≡_, refl, sym, _∙_}
 use Prim.Native.Nat.{ℕ, _+_, _≤_, _<_, _^_}
 use native.Mathlib.Nat.{lt-of-le-of-lt, sub-le}
 use native.Mathlib.Omega.{arith}
-use mathlib.Core.Bool.{Bool, true, false, not, _&&_}
+use mathlib.Core.Bool.{not}
 use lib.Bits.{bitAnd, and-le-l}
 use Rattle.squares.specs.Sets.{has, size, without}
-use Rattle.squares.specs.Squares.{all, onBoard}
+use Rattle.squares.specs.Squares.{all}
 use Rattle.squares.specs.declared.piece.Color.{Color}
 use Rattle.squares.specs.declared.piece.Color.the-variants.{White, Black}
 use Rattle.squares.proofs.Bools.{and-left}

@@ -1,8 +1,8 @@
 -- With the default weights the score of an accepted board lies from -15,000 to 15,000: a side has at most 50 pieces, none
 -- worth more than a king. So it lies within the paper's 15,100.
-use mathlib.Core.Path.{_≡_, refl, sym, ap, ap₂, _∙_}
-use Prim.Native.Nat.{ℕ, zero, suc, _+_, _-_, _*_, _≤_, _<_, _^_, zero-le}
-use native.Mathlib.Nat.{le-trans, not-suc-le-zero}
+use mathlib.Core.Path.{_≡_, refl}
+use Prim.Native.Nat.{ℕ, zero, suc, _+_, _-_, _*_, _≤_, zero-le}
+use native.Mathlib.Nat.{le-trans}
 use native.Mathlib.Omega.{arith}
 use mathlib.Core.Bool.{Bool, true, false, cond}
 use lib.Dec.{eqb, ltb}
@@ -22,7 +22,6 @@ use Rattle.positions.specs.Boards.{Board, boardOf, menOf, kingsOf}
 use Rattle.positions.specs.Acceptance.{Accepted, sound}
 use Rattle.positions.specs.Score.{advanced, center, guard, guarding, materialOf, placementOf, worth, drawish, damped, whiteScore, signed, score, default, within, weightsFit, evaluateOf, defaultLimit, limited}
 use Rattle.positions.specs.declared.position.Position.{Position}
-use Rattle.positions.specs.declared.eval.Scored.{Scored}
 use Rattle.positions.specs.declared.eval.Scored.the-variants as scored
 use Rattle.positions.proofs.Accepts.{sound-says}
 use Rattle.positions.proofs.Integers.{abs-neg, abs-eighth, le-within}

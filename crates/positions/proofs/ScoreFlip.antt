@@ -16,7 +16,7 @@ use Rattle.squares.specs.Pieces.{other}
 use Rattle.squares.specs.declared.piece.Color.{Color}
 use Rattle.squares.specs.declared.piece.Color.the-variants.{White, Black}
 use Rattle.squares.specs.declared.refusal.Refusal.the-variants.{BeyondLimit, BadPosition}
-use Rattle.squares.proofs.Bools.{every3, at3, iff, iff-eq, imp, imp-elim, tested, and-left, bool-ext}
+use Rattle.squares.proofs.Bools.{at3, iff, iff-eq, imp, imp-elim, tested, and-left, bool-ext}
 use Rattle.squares.proofs.Below.{below, below-at}
 use Rattle.squares.proofs.Pointwise.{ext, has-and, has-without}
 use Rattle.squares.proofs.Folds.{sum-same}

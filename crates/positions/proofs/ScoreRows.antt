@@ -2,7 +2,7 @@
 use mathlib.Core.Path.{_≡_, refl}
 use Prim.Native.Nat.{ℕ, _+_}
 use mathlib.Core.List.{List, [], _∷_}
-use lib.IntN.{ℤ, pos, negsuc, _-ℤ_, negℤ}
+use lib.IntN.{ℤ, pos, _-ℤ_, negℤ}
 use Rattle.squares.specs.Squares.{single}
 use Rattle.squares.specs.declared.piece.Color.the-variants.{White, Black}
 use Rattle.squares.specs.declared.refusal.Refusal.the-variants.{BeyondLimit, BadPosition}

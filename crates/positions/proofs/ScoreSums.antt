@@ -10,7 +10,6 @@ use Rattle.positions.specs.Acceptance.{sound}
 use Rattle.positions.specs.Score.{worth, damped, whiteScore, signed, score, weightsFit, evaluateOf, Bounded}
 use Rattle.positions.specs.declared.position.Position.{Position}
 use Rattle.positions.specs.declared.eval.Classical.{Classical}
-use Rattle.positions.specs.declared.eval.Scored.{Scored}
 use Rattle.positions.specs.declared.eval.Scored.the-variants as scored
 use Rattle.squares.specs.declared.refusal.Refusal.the-variants.{BeyondLimit, BadPosition}
 use Rattle.positions.proofs.Integers.{held, read, less-of, neg-of, renamed}

@@ -1,11 +1,11 @@
 -- The code's constants are the paper's squares; the rows that men have advanced, by row and by square; and the score's bound.
 use mathlib.Core.Path.{_≡_, refl, sym, ap, ap₂, _∙_}
-use Prim.Native.Nat.{ℕ, _+_, _*_, _≤_, _<_, _^_}
+use Prim.Native.Nat.{ℕ, _*_, _≤_, _<_, _^_}
 use native.Mathlib.Omega.{arith}
-use mathlib.Core.Bool.{Bool, true, false, not, cond, _&&_, _||_, and-assoc}
+use mathlib.Core.Bool.{Bool, true, not, cond, _&&_, _||_, and-assoc}
 use lib.Dec.{eqb, leb}
 use lib.Bits.{bitAnd}
-use lib.IntN.{ℤ, pos, _+ℤ_, _-ℤ_, _*ℤ_, natAbs}
+use lib.IntN.{ℤ, pos, _*ℤ_, natAbs}
 use lib.Signed.{ltZ, quotZ}
 use borrow.Author.Tests.{eq-eqb, ne-eqb}
 use Rattle.squares.specs.Sets.{size}

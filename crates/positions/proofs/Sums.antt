@@ -1,7 +1,7 @@
 -- Sums over the members of a set, added, masked and scaled. (Belongs to squares.)
 use mathlib.Core.Path.{_≡_, refl, sym, ap, ap₂, _∙_}
 use Prim.Native.Nat.{ℕ, zero, suc, _+_, _*_, _^_, _≤_, _<_}
-use native.Mathlib.Nat.{add-assoc, add-comm, zero-add, mul-add, mul-one, mul-zero}
+use native.Mathlib.Nat.{add-assoc, add-comm, zero-add, mul-add, mul-one, mul-zero, zero-mul}
 use native.Mathlib.Omega.{arith}
 use mathlib.Core.Bool.{Bool, true, false, _&&_, cond}
 use lib.Bits.{bitAnd}
@@ -35,7 +35,7 @@ sum-add f g s =
 -- the sum of nothing
 pub sum-zero : (s : ℕ) → sumOver (λ i. 0) s ≡ 0
 unfolding over
-sum-zero s = sym (fold-scale 0 64 (λ i. 0) (λ i. cond (has s i) 0 0) (λ i. go (has s i))) ∙ native.Mathlib.Nat.zero-mul _
+sum-zero s = sym (fold-scale 0 64 (λ i. 0) (λ i. cond (has s i) 0 0) (λ i. go (has s i))) ∙ zero-mul _
   where
     go : (t : Bool) → 0 * 0 ≡ cond t 0 0
     go true = refl

@@ -1,5 +1,5 @@
 -- Both by definition, a colour each.
-use mathlib.Core.Path.{_≡_, refl}
+use mathlib.Core.Path.{refl}
 use borrow.Author.Needs.{needs}
 use Rattle.positions.specs.Score.{aheadOf}
 use Rattle.positions.proofs.eval.ahead.Statement.{statement}

@@ -1,5 +1,5 @@
 -- The constants are the squares 47 to 49 and 2 to 4, computed.
-use mathlib.Core.Path.{_≡_, sym}
+use mathlib.Core.Path.{sym}
 use borrow.Author.Needs.{needs}
 use Rattle.positions.proofs.Scores.{white-guard, black-guard}
 use Rattle.positions.proofs.eval.guard_squares.Statement.{statement}

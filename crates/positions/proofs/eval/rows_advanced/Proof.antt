@@ -1,19 +1,14 @@
 -- After n turns the sum is that of the first n rows; after ten, each square has been counted in its row.
-use mathlib.Core.Path.{_≡_, refl, sym, ap, ap₂, _∙_}
-use Prim.Native.Nat.{ℕ, _+_, _-_, _*_, _≤_, _<_}
+use mathlib.Core.Path.{_≡_, sym, ap, ap₂, _∙_}
+use Prim.Native.Nat.{ℕ, _+_, _-_, _*_, _≤_}
 use native.Mathlib.Omega.{arith}
 use lib.Bits.{bitAnd}
-use lib.ListN.{getD}
 use borrow.Author.Needs.{needs}
 use Rattle.squares.specs.Sets.{size}
 use Rattle.positions.specs.Score.{aheadOf}
-use Rattle.positions.proofs.Advances.{rowSet, rowTable, row-at, byRows, by-rows-none, by-rows-next, by-rows-is, row-le}
+use Rattle.positions.proofs.Advances.{rowSet, row-at, byRows, by-rows-none, by-rows-next, by-rows-is, row-le}
 use Rattle.positions.proofs.eval.rows_advanced.Statement.{statement}
 use Rattle.positions.proofs.eval.rows_advanced.Tie as tie
-use Rattle.positions.proofs.eval.rows_advanced.Reads as reads
-use Rattle.positions.proofs.eval.rows_advanced.Lts as lts
-use Rattle.positions.proofs.eval.ahead.Reads as ahead-reads
-use Rattle.squares.proofs.bitboard.count.Reads as count-reads
 
 abbrev Inv-loop : tie.InvT-loop
 Inv-loop color men rows sum₀ row₀ sum row = (sum ≡ byRows color men row) × (sum ≤ 576 * row) × (row ≤ 10)

@@ -1,6 +1,6 @@
 -- The code's two tests of the weight as it reads back.
-use mathlib.Core.Path.{_≡_, ap, _∙_}
-use mathlib.Core.Bool.{Bool, _&&_}
+use mathlib.Core.Path.{ap, _∙_}
+use mathlib.Core.Bool.{_&&_}
 use lib.IntN.{ℤ, pos, negsuc}
 use lib.Signed.{leZ}
 use Rattle.positions.proofs.Integers.{back, within-test}

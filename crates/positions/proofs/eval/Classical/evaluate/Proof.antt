@@ -1,11 +1,9 @@
 -- The tests of refusals 12 and 10 in this order, then the score.
-use mathlib.Core.Path.{_≡_, sym, _∙_}
+use mathlib.Core.Path.{sym, _∙_}
 use lib.Dec.{lit<}
 use borrow.Author.Needs.{needs}
 use Rattle.squares.proofs.Bools.{and-left}
-use Rattle.positions.specs.Boards.{boardOf}
 use Rattle.positions.specs.Acceptance.{sound}
-use Rattle.positions.specs.Score.{Bounded}
 use Rattle.positions.proofs.Integers.{read}
 use Rattle.positions.proofs.ScoreSums.{refused-12, refused-10, scored-of}
 use Rattle.positions.proofs.eval.Classical.evaluate.Statement.{statement}

@@ -1,9 +1,9 @@
 -- Two terms, each within 57,600,000, of the counts of men and kings.
-use mathlib.Core.Path.{_≡_, ap, _∙_}
+use mathlib.Core.Path.{ap, _∙_}
 use lib.Dec.{lit<}
 use borrow.Author.Needs.{needs}
 use Rattle.squares.specs.Sets.{size}
-use Rattle.positions.specs.Score.{materialOf, Bounded}
+use Rattle.positions.specs.Score.{materialOf}
 use Rattle.positions.proofs.Integers.{held-within, add-of, fits, read}
 use Rattle.positions.proofs.Scores.{weights-of, count-le, of-term}
 use Rattle.positions.proofs.eval.Classical.material.Statement.{statement}

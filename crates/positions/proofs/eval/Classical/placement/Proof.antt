@@ -1,5 +1,5 @@
 -- Three terms, each within 57,600,000: rows, center, guards. The men of an accepted board stand on squares.
-use mathlib.Core.Path.{_≡_, ap, ap₂, sym, _∙_}
+use mathlib.Core.Path.{ap, ap₂, sym, _∙_}
 use Prim.Native.Nat.{ℕ}
 use lib.Dec.{lit<}
 use lib.Bits.{bitAnd}
@@ -8,7 +8,7 @@ use Rattle.squares.specs.Sets.{size}
 use Rattle.squares.specs.Folds.{sumOver}
 use Rattle.squares.specs.Squares.{all}
 use Rattle.positions.specs.Boards.{boardOf, menOf}
-use Rattle.positions.specs.Score.{advanced, center, placementOf, Bounded}
+use Rattle.positions.specs.Score.{advanced, center, placementOf}
 use Rattle.positions.proofs.Accepts.{accepted-says}
 use Rattle.positions.proofs.Integers.{held-within, add-of, fits, read}
 use Rattle.positions.proofs.Scores.{weights-of, count-le, of-term, center-is}

@@ -2,7 +2,6 @@
 use lib.Dec.{lit<}
 use borrow.Author.Needs.{needs}
 use Rattle.positions.specs.Boards.{boardOf}
-use Rattle.positions.specs.Score.{Bounded}
 use Rattle.positions.proofs.Integers.{neg-of, fits}
 use Rattle.positions.proofs.ScoreSums.{for-white, for-black}
 use Rattle.positions.proofs.eval.Classical.side_score.Statement.{statement}

@@ -2,7 +2,6 @@
 use lib.Dec.{lit<}
 use borrow.Author.Needs.{needs}
 use Rattle.positions.specs.Boards.{boardOf}
-use Rattle.positions.specs.Score.{Bounded}
 use Rattle.positions.proofs.Integers.{less-of, fits, read, le-within}
 use Rattle.positions.proofs.ScoreSums.{white-of}
 use Rattle.positions.proofs.eval.Classical.white_score.Statement.{statement}

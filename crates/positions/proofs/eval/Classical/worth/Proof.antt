@@ -1,7 +1,7 @@
 -- Material and placement, added.
 use lib.Dec.{lit<}
 use borrow.Author.Needs.{needs}
-use Rattle.positions.specs.Score.{worth, Bounded}
+use Rattle.positions.specs.Score.{worth}
 use Rattle.positions.proofs.Integers.{add-of, fits, read}
 use Rattle.positions.proofs.eval.Classical.worth.Statement.{statement}
 use Rattle.positions.proofs.eval.Classical.worth.Tie as tie
