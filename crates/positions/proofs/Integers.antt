@@ -27,7 +27,7 @@ abs-sub a b = go (ltb a b) refl
     go true e = omega (arith, ltb-true a b e)
     go false e = omega arith
 
-abs-add : (x y : ℤ) → natAbs (x +ℤ y) ≤ natAbs x + natAbs y
+pub abs-add : (x y : ℤ) → natAbs (x +ℤ y) ≤ natAbs x + natAbs y
 abs-add (pos a) (pos b) = omega arith
 abs-add (pos a) (negsuc b) = abs-sub a (suc b)
 abs-add (negsuc a) (pos b) = omega (arith, abs-sub b (suc a))
@@ -79,7 +79,7 @@ back f = toZ-ofZ f
 pub held-is : (z : ℤ) → natAbs z < 2 ^ 31 → held z ≡ z
 held-is z h = back (fits32 z h)
 
-small32 : (n : ℕ) → n < 2 ^ 31 → toZ w32 n ≡ pos n
+pub small32 : (n : ℕ) → n < 2 ^ 31 → toZ w32 n ≡ pos n
 small32 n h = ap (λ (t : Bool). sel t (pos n) (negsuc (2 ^ 32 - suc n))) (lt-ltb n (2 ^ 31) h)
 
 -- a signed field's test, where the field fits
