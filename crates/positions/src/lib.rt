@@ -1,4 +1,5 @@
 // Positions: acceptance, hash, successor, flip; the move record; the score.
 pub mod eval;
 pub mod moves;
+mod playing;
 pub mod position;

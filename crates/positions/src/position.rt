@@ -1,5 +1,6 @@
 // Positions, after position.rs: where the pieces stand, whose turn it is, and the hash.
 use crate::moves::Move;
+use crate::playing;
 use squares::bitboard;
 use squares::bitboard::Bitboard;
 use squares::piece::Color;
@@ -14,7 +15,7 @@ ghost use lib.Bits.{bitOr};
 ghost use Rattle.positions.specs.Boards.{board, boardOf, colored, menOf, kingsOf, empty, sameColor, sameBoard, standingOf, pieceAtOf};
 ghost use Rattle.positions.specs.Acceptance.{squaresOnly, misplaced, acceptedSets, sound, placeOf, fromPartsOf};
 ghost use Rattle.positions.specs.Hash.{colorKey, hashOf, positionOf, initialOf};
-ghost use Rattle.positions.specs.Successor.{moverKey, takenKey, kingsPlayed, movedKey, positionAfter, playOf};
+ghost use Rattle.positions.specs.Successor.{playOf};
 ghost use Rattle.positions.specs.Flip.{rotated, flippedOf};
 
 // The kings of both colours are marked in one set. A board without its hash is not a position: `sound` tests it.
@@ -173,10 +174,11 @@ impl Position {
         let own = self.pieces(us) ^ (square::bitboard(from) ^ square::bitboard(to));
         let enemy = bitboard::difference(self.pieces(them), captured);
         let hash = self.hash
-            ^ taken_key(them, captured, self.kings)
-            ^ moved_key(us, kept, from, to)
+            ^ playing::taken_key(them, captured, self.kings)
+            ^ playing::moved_key(us, kept, from, to)
             ^ zobrist::side_key();
-        turn(us, own, enemy, kings_played(us, kept, from, to), hash)
+        let kings = playing::kings_played(us, kept, from, to);
+        playing::turn(us, own, enemy, kings, hash)
     }
 
     // The test of refusal 12: accepted, no king on an empty square, and its own hash.
@@ -310,67 +312,4 @@ pub(crate) fn rotate(set: Bitboard) -> Bitboard
         left &= left - 1;
     }
     out
-}
-
-// The keys of the pieces taken, each as the man or king that it was.
-fn taken_key(color: Color, captured: Bitboard, kings: Bitboard) -> u64
-    ensures { λ r. ⌜ r ≡ takenKey color captured kings ⌝ }
-{
-    zobrist::set_key(color, PieceKind::Man, bitboard::difference(captured, kings))
-        ^ zobrist::set_key(color, PieceKind::King, captured & kings)
-}
-
-// The key of the mover on a square.
-fn mover_key(color: Color, king: bool, square: Square) -> u64
-    ensures { λ r. ⌜ r ≡ moverKey color king square ⌝ }
-{
-    if king {
-        zobrist::piece_key(color, PieceKind::King, square)
-    } else {
-        zobrist::piece_key(color, PieceKind::Man, square)
-    }
-}
-
-// The kings after a move, from those that were not taken: a king is moved, a man that promotes is marked.
-fn kings_played(color: Color, kept: Bitboard, from: Square, to: Square) -> Bitboard
-    ensures { λ r. ⌜ r ≡ kingsPlayed color kept from to ⌝ }
-{
-    if bitboard::contains(kept, from) {
-        return kept ^ (square::bitboard(from) ^ square::bitboard(to));
-    }
-    if bitboard::contains(bitboard::promotion_row(color), to) {
-        return kept | square::bitboard(to);
-    }
-    kept
-}
-
-// The two keys of the mover: off its first square as what it was, onto its last as what it ends as.
-fn moved_key(color: Color, kept: Bitboard, from: Square, to: Square) -> u64
-    ensures { λ r. ⌜ r ≡ movedKey color kept from to ⌝ }
-{
-    let was = bitboard::contains(kept, from);
-    let ends = was | bitboard::contains(bitboard::promotion_row(color), to);
-    mover_key(color, was, from) ^ mover_key(color, ends, to)
-}
-
-// The board after a move of a side, from its own pieces, the other's and the kings; the side changed.
-fn turn(side: Color, own: Bitboard, enemy: Bitboard, kings: Bitboard, hash: u64) -> Position
-    ensures { λ r. ⌜ r ≡ positionAfter side own enemy kings hash ⌝ }
-{
-    match side {
-        Color::White => Position {
-            white: own,
-            black: enemy,
-            kings,
-            side: Color::Black,
-            hash,
-        },
-        Color::Black => Position {
-            white: enemy,
-            black: own,
-            kings,
-            side: Color::White,
-            hash,
-        },
-    }
 }

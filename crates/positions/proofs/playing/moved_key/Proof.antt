@@ -1,8 +1,8 @@
 -- The kind is looked up among the kings that were not taken.
 use Rattle.positions.specs.Successor.{movedKey}
 use borrow.Author.Needs.{needs}
-use Rattle.positions.proofs.position.moved_key.Statement.{statement}
-use Rattle.positions.proofs.position.moved_key.Tie as tie
+use Rattle.positions.proofs.playing.moved_key.Statement.{statement}
+use Rattle.positions.proofs.playing.moved_key.Tie as tie
 
 contains-requires : tie.Need-contains-requires
 contains-requires c κs = search needs

@@ -1,8 +1,8 @@
 -- The keys of the men taken and of the kings taken.
 use Rattle.positions.specs.Successor.{takenKey}
 use borrow.Author.Needs.{needs}
-use Rattle.positions.proofs.position.taken_key.Statement.{statement}
-use Rattle.positions.proofs.position.taken_key.Tie as tie
+use Rattle.positions.proofs.playing.taken_key.Statement.{statement}
+use Rattle.positions.proofs.playing.taken_key.Tie as tie
 
 difference-requires : tie.Need-difference-requires
 difference-requires c κs = search needs

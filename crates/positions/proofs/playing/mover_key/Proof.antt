@@ -3,8 +3,8 @@ use mathlib.Core.Path.{_∙_, sym, ap}
 use mathlib.Core.Bool.{Bool}
 use Rattle.positions.specs.Successor.{moverKey}
 use borrow.Author.Needs.{needs}
-use Rattle.positions.proofs.position.mover_key.Statement.{statement}
-use Rattle.positions.proofs.position.mover_key.Tie as tie
+use Rattle.positions.proofs.playing.mover_key.Statement.{statement}
+use Rattle.positions.proofs.playing.mover_key.Tie as tie
 
 piece-key-requires : tie.Need-piece-key-requires
 piece-key-requires c κs = search needs

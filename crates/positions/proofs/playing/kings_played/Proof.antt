@@ -5,8 +5,8 @@ use lib.Bits.{bitOr, bitXor}
 use Rattle.squares.specs.Squares.{containsOf}
 use Rattle.positions.specs.Successor.{kingsPlayed}
 use borrow.Author.Needs.{needs}
-use Rattle.positions.proofs.position.kings_played.Statement.{statement}
-use Rattle.positions.proofs.position.kings_played.Tie as tie
+use Rattle.positions.proofs.playing.kings_played.Statement.{statement}
+use Rattle.positions.proofs.playing.kings_played.Tie as tie
 
 contains-requires : tie.Need-contains-requires
 contains-requires c κs = search needs
