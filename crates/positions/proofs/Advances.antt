@@ -22,7 +22,7 @@ use Rattle.squares.proofs.Folds.{sum-same}
 use Rattle.squares.proofs.Sizes.{size-most}
 use Rattle.positions.specs.Score.{aheadOf, advanced}
 use Rattle.positions.specs.Computed.{computed}
-use Rattle.positions.proofs.Sums.{sum-add, sum-zero, sum-masked, sum-mask}
+use Rattle.squares.proofs.Sums.{sum-add, sum-zero, sum-masked, sum-mask}
 
 -- the squares of row r: five from 5 r + 1 on
 unfoldable pub rowSet : ℕ → ℕ

@@ -25,7 +25,7 @@ use Rattle.positions.specs.declared.position.Position.{Position}
 use Rattle.positions.specs.declared.eval.Scored.the-variants as scored
 use Rattle.positions.proofs.Accepts.{sound-says}
 use Rattle.positions.proofs.Integers.{abs-neg, abs-eighth, le-within}
-use Rattle.positions.proofs.Sums.{size-and-le}
+use Rattle.squares.proofs.Sums.{size-and-le}
 use Rattle.positions.proofs.Advances.{advanced-le}
 use Rattle.positions.proofs.Men.{wide, men-squares, men-kings}
 

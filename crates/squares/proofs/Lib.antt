@@ -5,6 +5,7 @@ pub mod Members
 pub mod Folds
 pub mod Unions
 pub mod Sizes
+pub mod Sums
 pub mod Numbers
 pub mod Shifts
 pub mod Keys

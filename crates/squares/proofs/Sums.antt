@@ -1,16 +1,16 @@
--- Sums over the members of a set, added, masked and scaled. (Belongs to squares.)
+-- Sums over the members of a set, added, masked and scaled.
 use mathlib.Core.Path.{_≡_, refl, sym, ap, ap₂, _∙_}
 use Prim.Native.Nat.{ℕ, zero, suc, _+_, _*_, _^_, _≤_, _<_}
 use native.Mathlib.Nat.{add-assoc, add-comm, zero-add, mul-add, mul-one, mul-zero, zero-mul}
 use native.Mathlib.Omega.{arith}
 use mathlib.Core.Bool.{Bool, true, false, _&&_, cond}
 use lib.Bits.{bitAnd}
 use Rattle.squares.specs.Sets.{has, size}
 use Rattle.squares.specs.Folds.{foldTo, over, sumOver}
 use Rattle.squares.proofs.Bools.{and-left}
 use Rattle.squares.proofs.Pointwise.{has-and, and-lt}
 use Rattle.squares.proofs.Folds.{over-mask}
 use Rattle.squares.proofs.Sizes.{size-sum, size-le}
 
 fold-add : (n : ℕ) (f g h : ℕ → ℕ) → ((i : ℕ) → h i ≡ f i + g i) → foldTo _+_ 0 h n ≡ foldTo _+_ 0 f n + foldTo _+_ 0 g n
 unfolding foldTo
