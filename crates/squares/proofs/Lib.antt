@@ -9,4 +9,5 @@ pub mod Sums
 pub mod Numbers
 pub mod Shifts
 pub mod Keys
+pub mod Characters
 pub mod Product
