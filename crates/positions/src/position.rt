@@ -8,7 +8,6 @@ use squares::refusal::Refusal;
 use squares::square;
 use squares::square::Square;
 use squares::zobrist;
-
 ghost use mathlib.Core.Path.{_≡_};
 ghost use lib.Bits.{bitOr};
 ghost use Rattle.positions.specs.Boards.{boardOf, colored, menOf, kingsOf, empty, sameColor, sameBoard, standingOf, pieceAtOf};
@@ -109,8 +108,8 @@ impl Position {
     pub fn same(self, other: Position) -> bool
         ensures { λ r. ⌜ r ≡ sameBoard (boardOf self) (boardOf other) ⌝ }
     {
-        let sets =
-            (self.white == other.white) & ((self.black == other.black) & (self.kings == other.kings));
+        let sets = (self.white == other.white)
+            & ((self.black == other.black) & (self.kings == other.kings));
         sets & same_side(self.side, other.side)
     }
 
@@ -146,9 +145,15 @@ fn as_piece(color: Color, king: bool) -> Standing
     ensures { λ r. ⌜ r ≡ standingOf color king ⌝ }
 {
     if king {
-        Standing::Piece(Piece { color, kind: PieceKind::King })
+        Standing::Piece(Piece {
+            color,
+            kind: PieceKind::King,
+        })
     } else {
-        Standing::Piece(Piece { color, kind: PieceKind::Man })
+        Standing::Piece(Piece {
+            color,
+            kind: PieceKind::Man,
+        })
     }
 }
 
