@@ -2,13 +2,13 @@
 use mathlib.Core.Path.{_≡_, refl}
 use Prim.Native.Nat.{_≤_}
 use native.Mathlib.Omega.{arith}
-use mathlib.Core.List.{List, [], _∷_, List·Memᴰ as Member, List·Memᴰ·head as head, List·Memᴰ·not-nil as not-nil}
+use mathlib.Core.List.{List, [], _∷_, List·Memᴰ as Member, List·Memᴰ·not-nil as not-nil}
 use mathlib.Core.Logic.{inl, inr, _↔_}
 use Rattle.positions.specs.Boards.{Board}
 use Rattle.rules.specs.Lists.{longest}
 use Rattle.rules.specs.Ordered.{count, captures, quiets, sameBits, bitLegal}
 use Rattle.rules.specs.Rules.{BitMove, BitLegal, capture, quiet, Fair}
-use Rattle.rules.proofs.Captures.{Reached, of-captures, in-captures}
+use Rattle.rules.proofs.Captures.{Reached, of-captures, in-captures, shut-law}
 use Rattle.rules.proofs.Held.{Longest, of-longest, in-longest}
 use Rattle.rules.proofs.Quiets.{of-quiets, in-quiets}
 use Rattle.rules.proofs.Same.{bits-refl, bits-true}
@@ -31,12 +31,8 @@ module _ (b : Board) (fair : Fair b) where
       most w l (inl k) = l .most w k
       most w l (inr k) = omega (arith, l .most (k .0) (k .1), k .2)
 
-      none : (w : BitMove) → captures b ≡ [] → Reached w (captures b) → ⊥
-      none w e (inl k) = not-nil (rw e at k)
-      none w e (inr k) = not-nil (rw e at (k .1))
-
       go : (l : List BitMove) → captures b ≡ l → BitLegal b m
-      go [] e = quiet (λ w c. none w e (in-captures b fair w c)) (of-quiets b fair m (rw (bits-none b e) at h))
+      go [] e = quiet (shut-law b fair .0 e) (of-quiets b fair m (rw (bits-none b e) at h))
       go (c ∷ cs) e =
           let l = of-longest sameBits bits-refl bits-true count (captures b) m (rw (bits-some b c cs e) at h) in
           capture (of-captures b fair m (l .among)) (λ w k. most w l (in-captures b fair w k))
@@ -52,11 +48,7 @@ module _ (b : Board) (fair : Fair b) where
       go [] e r = absurd (not-nil (rw e at (in-list r)))
       go (x ∷ xs) e r =
           rw (bits-some b x xs e) (in-longest sameBits bits-refl bits-true count (captures b) m (record { among = in-list r; most = λ y k. most y (of-captures b fair y k) }))
-  bits-complete m (quiet none q) = go (captures b) refl
-    where
-      go : (l : List BitMove) → captures b ≡ l → Member m (bitLegal b)
-      go [] e = rw (bits-none b e) (in-quiets b fair q)
-      go (x ∷ xs) e = absurd (none x (of-captures b fair x (rw e (head refl))))
+  bits-complete m (quiet none q) = rw (bits-none b (shut-law b fair .1 none)) (in-quiets b fair q)
 
   pub bits-law : (m : BitMove) → Member m (bitLegal b) ↔ BitLegal b m
   bits-law m = (bits-sound m, bits-complete m)

@@ -1,10 +1,10 @@
 -- The captures listed are legal jump sequences, and each legal jump sequence is listed or a longer one is.
 use mathlib.Core.Path.{_≡_, refl, sym, ap, _∙_, subst}
-use Prim.Native.Nat.{ℕ, _<_}
+use Prim.Native.Nat.{ℕ, _^_, _<_}
 use native.Mathlib.Omega.{arith}
 use mathlib.Core.Bool.{true, not}
-use mathlib.Core.List.{List, List·Memᴰ as Member, Memᴰ·append-left as in-left, Memᴰ·append-right as in-right, List·Memᴰ·append-cases as in-cases}
-use mathlib.Core.Logic.{_⊎_, inl, inr}
+use mathlib.Core.List.{List, [], _∷_, List·Memᴰ as Member, List·Memᴰ·head as head, List·Memᴰ·not-nil as not-nil, Memᴰ·append-left as in-left, Memᴰ·append-right as in-right, List·Memᴰ·append-cases as in-cases}
+use mathlib.Core.Logic.{_⊎_, inl, inr, _↔_}
 use lib.Dec.{eqb}
 use borrow.Author.Tests.{eqb-false, ne-eqb, not-true}
 use Rattle.squares.specs.declared.piece.PieceKind.{PieceKind}
@@ -12,16 +12,35 @@ use Rattle.squares.specs.declared.piece.PieceKind.the-variants.{Man, King}
 use Rattle.squares.specs.Sets.{has, members}
 use Rattle.squares.proofs.Members.{of-members, in-members}
 use Rattle.squares.proofs.Pointwise.{member-lt}
-use Rattle.rules.proofs.Tree.{sound, complete}
+use Rattle.rules.proofs.Tree.{sound, jump, complete}
 use Rattle.positions.specs.Boards.{Board, own, pieces}
 use Rattle.rules.specs.Lists.{concatMap, keep}
 use Rattle.rules.specs.Ordered.{jumps, enough, sequences, allSequences, count, captures}
-use Rattle.rules.specs.Rules.{BitMove, bitMove, Capture, Fair}
+use Rattle.rules.specs.Rules.{BitMove, bitMove, Sequence, first, then, Capture, Open, NoJump, Fair}
 use Rattle.rules.proofs.Boards.{own-lt, piece-own}
 use Rattle.rules.proofs.Jumps.{Good, remaining, good, grows, falls}
 use Rattle.rules.proofs.Lists.{in-concatMap, of-concatMap, in-keep, of-keep}
 use Rattle.rules.proofs.Paths.{Path, begin, of-sequence, path-sequence, to-from, of-from, starts, fuel, capture-some}
 
+-- ---- an open jump is a capture, and a capture begins with one
+abbrev pub opened : {b : Board} → Open b → BitMove
+opened o = bitMove (o .from) (o .land) (2 ^ o .over)
+
+pub of-open : {b : Board} (o : Open b) → Capture b (opened o)
+of-open o = record { kind = o .kind; piece = o .piece; sequence = first (o .jump) }
+
+pub open-of : {b : Board} (w : BitMove) → Capture b w → Open b
+open-of {b} w c = go (c .sequence) (c .piece)
+  where
+    go : {k : PieceKind} {f i t : ℕ} → Sequence b k f i t → has (pieces b k) f ≡ true → Open b
+    go {k} {f} (first {o = o} {l = l} j) p = record { kind = k; from = f; over = o; land = l; piece = p; jump = j }
+    go (then s j) p = go s p
+
+-- no jump is open exactly where there is no legal jump sequence
+pub no-capture : {b : Board} → NoJump b ↔ ((w : BitMove) → Capture b w → ⊥)
+no-capture = ((λ n w c. n (open-of w c)), (λ n o. n (opened o) (of-open o)))
+
+-- ---- all sequences
 -- z is found, or a longer one is
 abbrev pub Reached : BitMove → List BitMove → Type 0
 Reached z l = Member z l ⊎ ((w : BitMove) × Member w l × (count z < count w))
@@ -91,3 +110,14 @@ module _ (b : Board) (fair : Fair b) where
       go (inl h) = inl (in-keep (λ w. not (eqb (count w) 0)) h (pos m (capture-some b fair m c)))
       go (inr h) = inr (h .0, in-keep (λ w. not (eqb (count w) 0)) (h .1) (pos (h .0) (omega (arith, h .2))), h .2)
 
+  -- no jump is open exactly where the list of captures is empty
+  pub shut-law : (captures b ≡ []) ↔ NoJump b
+  shut-law = ((λ e o. none e o (in-captures (opened o) (of-open o))), (λ n. go (captures b) refl n))
+    where
+      none : captures b ≡ [] → (o : Open b) → Reached (opened o) (captures b) → ⊥
+      none e o (inl k) = not-nil (rw e at k)
+      none e o (inr k) = not-nil (rw e at (k .1))
+
+      go : (l : List BitMove) → captures b ≡ l → NoJump b → captures b ≡ []
+      go [] e n = e
+      go (x ∷ xs) e n = absurd (n (open-of x (of-captures x (rw e (head refl)))))

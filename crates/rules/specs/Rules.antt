@@ -85,9 +85,17 @@ pub record Capture (b : Board) (w : BitMove) : Type 0 where
 abbrev pub AtMost : Board → ℕ → Type 0
 AtMost b n = (v : BitMove) → Capture b v → size (v .taken) ≤ n
 
--- no jump is open to the side
+-- a jump open to the side, of a piece that has taken nothing yet
+pub record Open (b : Board) : Type 0 where
+  pub kind : PieceKind
+  pub from : ℕ
+  pub over : ℕ
+  pub land : ℕ
+  pub piece : has (pieces b kind) from ≡ true
+  pub jump : Jump b from 0 from kind over land
+
 abbrev pub NoJump : Board → Type 0
-NoJump b = (v : BitMove) → Capture b v → ⊥
+NoJump b = Open b → ⊥
 
 -- ---- quiet moves
 
