@@ -1,5 +1,5 @@
 -- Lists: what the rules are said with.
-use Prim.Native.Nat.{ℕ, zero, suc, max}
+use Prim.Native.Nat.{ℕ, zero, suc, _+_, max}
 use mathlib.Core.Bool.{Bool, true, false, cond, _||_}
 use mathlib.Core.List.{List, [], _∷_, _++_, foldl}
 use lib.Dec.{eqb}
@@ -17,6 +17,11 @@ keep p (x ∷ xs) = elim (p x) [ true ↦ x ∷ keep p xs | false ↦ keep p xs 
 unfoldable pub contains : {A : Type 0} → (A → A → Bool) → List A → A → Bool
 contains same [] x = false
 contains same (y ∷ ys) x = same y x || contains same ys x
+
+-- how often x stands in the list
+unfoldable pub times : {A : Type 0} → (A → A → Bool) → List A → A → ℕ
+times same [] x = 0
+times same (y ∷ ys) x = cond (same y x) 1 0 + times same ys x
 
 -- one entry more, unless it is there
 unfoldable pub add : {A : Type 0} → (A → A → Bool) → List A → A → List A
