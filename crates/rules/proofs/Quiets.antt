@@ -17,6 +17,11 @@ use Rattle.rules.proofs.Jumps.{all-directions}
 use Rattle.rules.proofs.Lists.{in-concatMap, of-concatMap, in-map, of-map, in-keep, of-keep}
 use Rattle.rules.proofs.Ray.{of-ray, in-ray}
 
+-- a quiet move takes nothing
+pub quiet-none : {b : Board} {w : BitMove} → Quiet b w → w .taken ≡ 0
+quiet-none (manStep d p f e) = refl
+quiet-none (kingFlight d p f) = refl
+
 module _ (b : Board) (fair : Fair b) where
   -- ---- quiet moves
   of-manSteps : (d : Direction) (m : BitMove) → Member d (forward (b .side)) → Member m (manSteps b d) → Quiet b m
