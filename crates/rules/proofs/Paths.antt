@@ -35,7 +35,7 @@ path-sequence begin h = absurd (omega (arith, size-zero))
 path-sequence (onward p j) h = to-sequence p j
 
 module _ (b : Board) (fair : Fair b) where
-  over-lt : {f t i o l : ℕ} {k : PieceKind} → Jump b f t i k o l → o < 64
+  pub over-lt : {f t i o l : ℕ} {k : PieceKind} → Jump b f t i k o l → o < 64
   over-lt {o = o} j = omega (arith, member-lt 54 (enemy b) o (enemy-lt b fair) (jump-target j .enemy))
 
   -- ---- a piece's sequences
