@@ -67,3 +67,8 @@ king-longer = refl
 pub black-takes : legal (board (single 22 + single 27 + single 44) (single 17 + single 7 + single 11) (single 44 + single 7) Black) ≡ move 17 28 (single 22) ∷ []
 unfolding computed
 black-takes = refl
+
+-- W:WK18:B9,24,31: the piece taken stays and blocks, so the king that took 9 cannot go back over it and take 31
+pub taken-stays : legal (board (single 18) (single 9 + single 24 + single 31) (single 18) White) ≡ move 18 4 (single 9) ∷ move 18 36 (single 31) ∷ []
+unfolding computed
+taken-stays = refl
