@@ -27,7 +27,7 @@ module _ (b : Board) (fair : Fair b) where
   pub bits-sound : (m : BitMove) → Member m (bitLegal b) → BitLegal b m
   bits-sound m h = go (captures b) refl
     where
-      most : (w : BitMove) → Longest sameBits bits-refl bits-true count (captures b) m → Reached w (captures b) → count w ≤ count m
+      most : (w : BitMove) → Longest count (captures b) m → Reached w (captures b) → count w ≤ count m
       most w l (inl k) = l .most w k
       most w l (inr k) = omega (arith, l .most (k .0) (k .1), k .2)
 

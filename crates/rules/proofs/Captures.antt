@@ -57,7 +57,7 @@ module _ (b : Board) (fair : Fair b) where
   in-sequences : (k : PieceKind) (m : BitMove) → has (pieces b k) (m .from) ≡ true → Path b k (m .from) (m .to) (m .taken) → Reached m (sequences b k (m .from))
   unfolding sequences
   in-sequences k m h s =
-      complete (jumps b k) count (remaining b fair) (Good b fair) (good b fair k) (grows b fair k) (falls b fair k)
+      complete (jumps b k) count (remaining b) (Good b) (good b fair k) (grows b fair k) (falls b fair k)
       (to-from b fair (piece-own b fair k (m .from) h) s) (starts b fair k (m .from) h) enough (omega (arith, fuel b fair (m .from)))
 
   -- ---- all pieces

@@ -17,6 +17,10 @@ pub record Found (A : Type 0) : Type 0 where
 abbrev pub found : {A : Type 0} → ℕ → List A → Found A
 found k l = record { most = k; list = l }
 
+-- what does not take a piece counts for nothing
+abbrev pub takes : {A : Type 0} → (A → ℕ) → A → Bool
+takes size x = not (eqb (size x) 0)
+
 module _ {A : Type 0} (same : A → A → Bool) (size : A → ℕ) where
   -- a longer one clears what was found
   unfoldable pub note : Found A → A → Found A
@@ -146,26 +150,22 @@ module _ {A : Type 0} (same : A → A → Bool) (size : A → ℕ) where
       both true = refl
       both false = refl
 
-  -- what is no more than a start takes nothing
-  abbrev pub takes : A → Bool
-  takes x = not (eqb (size x) 0)
-
-  fold-takes : (s : Found A) (xs : List A) → foldl note s xs ≡ foldl note s (keep takes xs)
+  fold-takes : (s : Found A) (xs : List A) → foldl note s xs ≡ foldl note s (keep (takes size) xs)
   unfolding keep
   fold-takes s [] = refl
   fold-takes s (x ∷ xs) = go (λ t. fold-takes t xs) (eqb (size x) 0) refl
     where
-      go : ((t : Found A) → foldl note t xs ≡ foldl note t (keep takes xs)) → (b : Bool) → eqb (size x) 0 ≡ b → foldl note (note s x) xs ≡ foldl note s (keep takes (x ∷ xs))
-      go ih true e = ap (λ (t : Found A). foldl note t xs) (note-zero s x (eqb-true _ _ e)) ∙ ih s ∙ ap (λ (l : List A). foldl note s l) (sym (keep-no takes x xs (ap not e)))
-      go ih false e = ih (note s x) ∙ ap (λ (l : List A). foldl note s l) (sym (keep-yes takes x xs (ap not e)))
+      go : ((t : Found A) → foldl note t xs ≡ foldl note t (keep (takes size) xs)) → (b : Bool) → eqb (size x) 0 ≡ b → foldl note (note s x) xs ≡ foldl note s (keep (takes size) (x ∷ xs))
+      go ih true e = ap (λ (t : Found A). foldl note t xs) (note-zero s x (eqb-true _ _ e)) ∙ ih s ∙ ap (λ (l : List A). foldl note s l) (sym (keep-no (takes size) x xs (ap not e)))
+      go ih false e = ih (note s x) ∙ ap (λ (l : List A). foldl note s l) (sym (keep-yes (takes size) x xs (ap not e)))
 
-  pub positive : (xs : List A) → Positive (keep takes xs)
+  pub positive : (xs : List A) → Positive (keep (takes size) xs)
   positive xs x m = go (eqb (size x) 0) refl
     where
       go : (b : Bool) → eqb (size x) 0 ≡ b → 0 < size x
-      go true e = absurd (false≢true (sym (ap not e) ∙ of-keep takes xs m .1))
+      go true e = absurd (false≢true (sym (ap not e) ∙ of-keep (takes size) xs m .1))
       go false e = let n = eqb-false (size x) 0 e in omega arith
 
   -- the law: the fold over all that is found
-  pub fold-law : (xs : List A) → foldl note (found 0 []) xs ≡ found (best size (keep takes xs)) (longest same size (keep takes xs))
-  fold-law xs = fold-takes (found 0 []) xs ∙ fold-longest (keep takes xs) (positive xs)
+  pub fold-law : (xs : List A) → foldl note (found 0 []) xs ≡ found (best size (keep (takes size) xs)) (longest same size (keep (takes size) xs))
+  fold-law xs = fold-takes (found 0 []) xs ∙ fold-longest (keep (takes size) xs) (positive xs)

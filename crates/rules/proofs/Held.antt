@@ -16,6 +16,17 @@ pub data Distinct {A : Type 0} : List A → Type 0 where
   nil : Distinct []
   cons : {x : A} {xs : List A} → (Member x xs → ⊥) → Distinct xs → Distinct (x ∷ xs)
 
+-- x is among xs and none of them is longer
+pub record Longest {A : Type 0} (size : A → ℕ) (xs : List A) (x : A) : Type 0 where
+  pub among : Member x xs
+  pub most : (y : A) → Member y xs → size y ≤ size x
+
+-- a search that has x already, or has no use for it
+pub data Held {A : Type 0} (size : A → ℕ) (s : Found A) (x : A) : Type 0 where
+  nothing : size x ≡ 0 → Held size s x
+  short : size x < s .most → Held size s x
+  kept : size x ≡ s .most → Member x (s .list) → Held size s x
+
 module _ {A : Type 0} (same : A → A → Bool) (same-refl : (x : A) → same x x ≡ true) (same-true : (x y : A) → same x y ≡ true → x ≡ y) where
   pub contains-member : (l : List A) (x : A) → contains same l x ≡ true → Member x l
   unfolding contains
@@ -152,19 +163,14 @@ module _ {A : Type 0} (same : A → A → Bool) (same-refl : (x : A) → same x 
     best-least [] k h = omega arith
     best-least (x ∷ xs) k h = omega (arith, h x (head refl), best-least xs k (λ y m. h y (tail m)))
 
-    -- x is among xs and none of them is longer
-    pub record Longest (xs : List A) (x : A) : Type 0 where
-      pub among : Member x xs
-      pub most : (y : A) → Member y xs → size y ≤ size x
-
-    pub of-longest : (xs : List A) (x : A) → Member x (longest same size xs) → Longest xs x
+    pub of-longest : (xs : List A) (x : A) → Member x (longest same size xs) → Longest size xs x
     unfolding longest
     of-longest xs x m =
         let h = of-keep (λ y. eqb (size y) (best size xs)) xs (of-distinct _ x m) in
         let e = eqb-true (size x) (best size xs) (h .1) in
         record { among = h .0; most = λ y k. omega (arith, best-le xs y k) }
 
-    pub in-longest : (xs : List A) (x : A) → Longest xs x → Member x (longest same size xs)
+    pub in-longest : (xs : List A) (x : A) → Longest size xs x → Member x (longest same size xs)
     unfolding longest
     in-longest xs x h =
         let a = best-le xs x (h .among) in
@@ -172,15 +178,10 @@ module _ {A : Type 0} (same : A → A → Bool) (same-refl : (x : A) → same x 
         in-distinct _ x (in-keep (λ y. eqb (size y) (best size xs)) (h .among) (eq-eqb (size x) (best size xs) (omega arith)))
 
     -- ---- what is held already
-    pub data Held (s : Found A) (x : A) : Type 0 where
-      nothing : size x ≡ 0 → Held s x
-      short : size x < s .most → Held s x
-      kept : size x ≡ s .most → Member x (s .list) → Held s x
-
-    pub held-note : (s : Found A) (x : A) → Held s x → note same size s x ≡ s
+    pub held-note : (s : Found A) (x : A) → Held size s x → note same size s x ≡ s
     held-note s x h = go (case same size s x) h
       where
-        go : Case same size s x → Held s x → note same size s x ≡ s
+        go : Case same size s x → Held size s x → note same size s x ≡ s
         go (none e) h = note-zero same size s x e
         go (less p q) h = note-less same size s x q
         go (more q) (nothing e) = absurd (omega arith)
@@ -190,19 +191,19 @@ module _ {A : Type 0} (same : A → A → Bool) (same-refl : (x : A) → same x 
         go (equal p q) (short e) = absurd (omega arith)
         go (equal p q) (kept e m) = note-same same size s x p q ∙ ap (found (s .most)) (add-there (s .list) x (member-contains (s .list) x m))
 
-    pub note-held : (s : Found A) (x : A) → Held (note same size s x) x
+    pub note-held : (s : Found A) (x : A) → Held size (note same size s x) x
     note-held s x = go (case same size s x)
       where
-        go : Case same size s x → Held (note same size s x) x
+        go : Case same size s x → Held size (note same size s x) x
         go (none e) = nothing e
         go (less p q) = rw (note-less same size s x q) (short q)
         go (more q) = rw (note-more same size s x q) (kept refl (head refl))
         go (equal p q) = rw (note-same same size s x p q) (kept q (in-added (s .list) x))
 
-    pub held-after : (s : Found A) (x y : A) → Held s x → Held (note same size s y) x
+    pub held-after : (s : Found A) (x y : A) → Held size s x → Held size (note same size s y) x
     held-after s x y h = go (case same size s y) h
       where
-        go : Case same size s y → Held s x → Held (note same size s y) x
+        go : Case same size s y → Held size s x → Held size (note same size s y) x
         go (none e) h = rw (note-zero same size s y e) h
         go (less p q) h = rw (note-less same size s y q) h
         go (more q) (nothing e) = nothing e
@@ -212,25 +213,25 @@ module _ {A : Type 0} (same : A → A → Bool) (same-refl : (x : A) → same x 
         go (equal p q) (short e) = rw (note-same same size s y p q) (short e)
         go (equal p q) (kept e m) = rw (note-same same size s y p q) (kept e (in-add (s .list) y x m))
 
-    pub held-shorter : (s : Found A) (x y : A) → Held s x → size y < size x → Held s y
+    pub held-shorter : (s : Found A) (x y : A) → Held size s x → size y < size x → Held size s y
     held-shorter s x y (nothing e) l = absurd (omega arith)
     held-shorter s x y (short e) l = short (omega arith)
     held-shorter s x y (kept e m) l = short (omega arith)
 
     -- for lists
-    pub held-fold : (ys : List A) (s : Found A) (x : A) → Held s x → Held (foldl (note same size) s ys) x
+    pub held-fold : (ys : List A) (s : Found A) (x : A) → Held size s x → Held size (foldl (note same size) s ys) x
     held-fold [] s x h = h
     held-fold (y ∷ ys) s x h = held-fold ys (note same size s y) x (held-after s x y h)
 
-    pub fold-held : (ys : List A) (s : Found A) (x : A) → Member x ys → Held (foldl (note same size) s ys) x
+    pub fold-held : (ys : List A) (s : Found A) (x : A) → Member x ys → Held size (foldl (note same size) s ys) x
     fold-held [] s x m = absurd (not-nil m)
     fold-held (y ∷ ys) s x m = go (λ h. fold-held ys (note same size s y) x h) (cases-cons m)
       where
-        go : (Member x ys → Held (foldl (note same size) (note same size s y) ys) x) → (x ≡ y) ⊎ Member x ys → Held (foldl (note same size) (note same size s y) ys) x
-        go ih (inl e) = subst (λ z. Held (foldl (note same size) (note same size s y) ys) z) (sym e) (held-fold ys (note same size s y) y (note-held s y))
+        go : (Member x ys → Held size (foldl (note same size) (note same size s y) ys) x) → (x ≡ y) ⊎ Member x ys → Held size (foldl (note same size) (note same size s y) ys) x
+        go ih (inl e) = subst (λ z. Held size (foldl (note same size) (note same size s y) ys) z) (sym e) (held-fold ys (note same size s y) y (note-held s y))
         go ih (inr h) = ih h
 
-    pub absorb : (ys : List A) (s : Found A) → ((x : A) → Member x ys → Held s x) → foldl (note same size) s ys ≡ s
+    pub absorb : (ys : List A) (s : Found A) → ((x : A) → Member x ys → Held size s x) → foldl (note same size) s ys ≡ s
     absorb [] s h = refl
     absorb (y ∷ ys) s h =
         ap (λ (t : Found A). foldl (note same size) t ys) (held-note s y (h y (head refl))) ∙ absorb ys s (λ x m. h x (tail m))

@@ -16,9 +16,9 @@ use Rattle.squares.proofs.Bools.{and-left, and-right}
 use Rattle.squares.proofs.Pointwise.{member-lt}
 use Rattle.squares.proofs.Sizes.{size-add}
 use Rattle.positions.specs.Boards.{Board, own, enemy}
+use Rattle.rules.proofs.Boards.{own-lt, wide, enemy-lt, space-lt, enemy-blocks}
 use Rattle.rules.specs.Ordered.{directions, ray, last, blocker, target, hop, jumpsOver, manLandings, jumpsAlong, jumps, count}
 use Rattle.rules.specs.Rules.{BitMove, bitMove, space, Target, Jump, manJump, kingJump, Fair}
-use Rattle.rules.proofs.Boards.{wide, own-lt, enemy-lt, space-lt, enemy-blocks}
 use Rattle.rules.proofs.Lists.{in-concatMap, of-concatMap, in-map, of-map}
 use Rattle.rules.proofs.More.{size-falls}
 use Rattle.rules.proofs.Ray.{of-ray, last-ray, in-ray, last-is}
@@ -95,6 +95,15 @@ pub jump-target : {b : Board} {f t i o l : ℕ} {k : PieceKind} → Jump b f t i
 jump-target (manJump d h e) = h
 jump-target (kingJump d g h e) = h
 
+-- what holds of a piece under way: it began on a square of its own side, and its set is one of squares
+pub record Good (b : Board) (s : BitMove) : Type 0 where
+  pub own : has (own b) (s .from) ≡ true
+  pub small : s .taken < 2 ^ 64
+
+-- the enemies not yet taken
+abbrev pub remaining : Board → BitMove → ℕ
+remaining b s = size (without (enemy b) (s .taken))
+
 module _ (b : Board) (fair : Fair b) where
   pub in-jumps : {f t i o l : ℕ} {k : PieceKind} → has (own b) f ≡ true → Jump b f t i k o l → Member (hop (bitMove f i t) o l) (jumps b k (bitMove f i t))
   unfolding jumps jumpsAlong blocker
@@ -109,29 +118,22 @@ module _ (b : Board) (fair : Fair b) where
       (in-over b (bitMove f i t) (next d q) l (ray (space b f) d (next d q)) h (in-ray (space b f) d small (next d q) l e)))
 
   -- ---- what a jump changes
-  pub record Good (s : BitMove) : Type 0 where
-    pub own : has (own b) (s .from) ≡ true
-    pub small : s .taken < 2 ^ 64
-
-  abbrev pub remaining : BitMove → ℕ
-  remaining s = size (without (enemy b) (s .taken))
-
-  module _ (k : PieceKind) (s m : BitMove) (g : Good s) (h : Member m (jumps b k s)) where
+  module _ (k : PieceKind) (s m : BitMove) (g : Good b s) (h : Member m (jumps b k s)) where
     jumped : Jumped b k s m
     jumped = of-jumps b k s m h
 
     o-lt : jumped .over < 64
     o-lt = omega (arith, member-lt 54 (enemy b) (jumped .over) (enemy-lt b fair) (jump-target (jumped .jump) .enemy))
 
-    pub good : Good m
+    pub good : Good b m
     unfolding hop
-    good = subst Good (sym (jumped .is)) (record { own = g .own; small = or-lt 64 (s .taken) (2 ^ jumped .over) (g .small) (pow-lt o-lt) })
+    good = subst (Good b) (sym (jumped .is)) (record { own = g .own; small = or-lt 64 (s .taken) (2 ^ jumped .over) (g .small) (pow-lt o-lt) })
 
     pub grows : count m ≡ suc (count s)
     unfolding hop
     grows = ap count (jumped .is) ∙ size-add (s .taken) (jumped .over) o-lt (jump-target (jumped .jump) .untaken) ∙ add-one (count s)
 
-    pub falls : remaining m < remaining s
+    pub falls : remaining b m < remaining b s
     unfolding hop
-    falls = subst (λ z. remaining z < remaining s) (sym (jumped .is))
+    falls = subst (λ z. remaining b z < remaining b s) (sym (jumped .is))
         (size-falls (enemy b) (s .taken) (jumped .over) (wide (enemy b) (enemy-lt b fair)) (g .small) o-lt (jump-target (jumped .jump) .enemy) (jump-target (jumped .jump) .untaken))

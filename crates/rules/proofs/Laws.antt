@@ -114,7 +114,7 @@ module _ (b : Board) (fair : Fair b) where
       ap (λ (i : ℕ). rowsBefore (b .side) i + 1) to ∙ quiet-row b fair (legal-quiet m h e .1) (ap (has (b .kings)) (sym from) ∙ n)
       ∙ ap (rowsBefore (b .side)) (sym from)
     where
-      goes : Goes b fair (h .by)
+      goes : Goes b (h .by)
       goes = legal-goes b fair (h .by) (h .legal)
 
       from : bitOf (m .from) ≡ h .by .from
@@ -137,10 +137,10 @@ module _ (b : Board) (fair : Fair b) where
 
   -- ---- the search of the code: the king's shortcut, for whatever was found before, with room for any number
   pub king-shortcut : (i : ℕ) → has (pieces b King) i ≡ true → (s : Found BitMove)
-      → foldl (note sameBits count) s (kingTried b fair i) ≡ foldl (note sameBits count) s (sequences b King i)
+      → foldl (note sameBits count) s (kingTried b i) ≡ foldl (note sameBits count) s (sequences b King i)
   king-shortcut = king-law b fair
 
-  pub search-ends : (room : ℕ) → 0 < room → foldl (noteIn sameBits count room) (bounded 0 [] false) (allTried b fair)
+  pub search-ends : (room : ℕ) → 0 < room → foldl (noteIn sameBits count room) (bounded 0 [] false) (allTried b)
       ≡ bounded (best count (captures b)) (take room (longest sameBits count (captures b))) (ltb room (length (longest sameBits count (captures b))))
   search-ends = search-law b fair
 
@@ -148,7 +148,7 @@ module _ (b : Board) (fair : Fair b) where
 module _ {A : Type 0} (same : A → A → Bool) (number : A → ℕ) where
   -- a running best ends with the longest, each once
   pub running-best : (xs : List A)
-      → foldl (note same number) (found 0 []) xs ≡ found (best number (keep (takes same number) xs)) (longest same number (keep (takes same number) xs))
+      → foldl (note same number) (found 0 []) xs ≡ found (best number (keep (takes number) xs)) (longest same number (keep (takes number) xs))
   running-best = fold-law same number
 
   module _ (same-refl : (x : A) → same x x ≡ true) (same-true : (x y : A) → same x y ≡ true → x ≡ y) where
@@ -158,6 +158,6 @@ module _ {A : Type 0} (same : A → A → Bool) (number : A → ℕ) where
     absorption = absorbed same same-refl same-true number
 
     -- with room for that many, and a mark where there are more: only the final list counts
-    pub room-and-mark : (room : ℕ) → 0 < room → (xs : List A) → let l = longest same number (keep (takes same number) xs) in
-        foldl (noteIn same number room) (bounded 0 [] false) xs ≡ bounded (best number (keep (takes same number) xs)) (take room l) (ltb room (length l))
+    pub room-and-mark : (room : ℕ) → 0 < room → (xs : List A) → let l = longest same number (keep (takes number) xs) in
+        foldl (noteIn same number room) (bounded 0 [] false) xs ≡ bounded (best number (keep (takes number) xs)) (take room l) (ltb room (length l))
     room-and-mark room some = bounded-law same number room same-refl same-true some

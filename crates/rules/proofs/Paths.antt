@@ -52,10 +52,10 @@ module _ (b : Board) (fair : Fair b) where
       of-from r f (ap (λ (w : BitMove). w .from) (j .is) ∙ p)
       (subst (λ w. Path b k f (w .to) (w .taken)) (sym (j .is)) (onward s (subst (λ u. Jump b u (x .taken) (x .to) k (j .over) (j .land)) p (j .jump))))
 
-  pub starts : (k : PieceKind) (i : ℕ) → has (pieces b k) i ≡ true → Good b fair (bitMove i i 0)
+  pub starts : (k : PieceKind) (i : ℕ) → has (pieces b k) i ≡ true → Good b (bitMove i i 0)
   starts k i h = record { own = piece-own b fair k i h; small = lit< tt }
 
-  pub fuel : (i : ℕ) → remaining b fair (bitMove i i 0) < enough
+  pub fuel : (i : ℕ) → remaining b (bitMove i i 0) < enough
   unfolding enough
   fuel i = suc-le-suc (size-most (without (enemy b) 0))
 

@@ -35,14 +35,18 @@ pub land-in : {b : Board} {f t i o l : ℕ} {k : PieceKind} → Jump b f t i k o
 land-in (manJump d h e) = e
 land-in (kingJump d g h e) = flight-end e
 
-module _ (b : Board) (fair : Fair b) where
-  -- where a piece that began on f may stand, and what it may have taken
-  pub record Stands (f i taken : ℕ) : Type 0 where
-    pub on : (has (empty b) i ≡ true) ⊎ (i ≡ f)
-    pub enemies : (j : ℕ) → has taken j ≡ true → has (enemy b) j ≡ true
-    pub fits : taken < 2 ^ 54
+-- where a piece that began on f may stand, and what it may have taken
+pub record Stands (b : Board) (f i taken : ℕ) : Type 0 where
+  pub on : (has (empty b) i ≡ true) ⊎ (i ≡ f)
+  pub enemies : (j : ℕ) → has taken j ≡ true → has (enemy b) j ≡ true
+  pub fits : taken < 2 ^ 54
 
-  pub path-stands : {k : PieceKind} {f i t : ℕ} → Path b k f i t → Stands f i t
+pub record Goes (b : Board) (w : BitMove) : Type 0 where
+  pub mover : has (own b) (w .from) ≡ true
+  pub stands : Stands b (w .from) (w .to) (w .taken)
+
+module _ (b : Board) (fair : Fair b) where
+  pub path-stands : {k : PieceKind} {f i t : ℕ} → Path b k f i t → Stands b f i t
   path-stands begin = record { on = inr refl; enemies = λ j e. absurd (false≢true (sym (has-zero j) ∙ e)); fits = lit< tt }
   path-stands {f = f} (onward {taken = t} {o = o} {l = l} p j) =
       let s = path-stands p in
@@ -56,28 +60,24 @@ module _ (b : Board) (fair : Fair b) where
       go i r (inl e) = r e
       go i r (inr e) = ap (has (enemy b)) (of-bit o i e) ∙ jump-target j .enemy
 
-  pub record Goes (w : BitMove) : Type 0 where
-    pub mover : has (own b) (w .from) ≡ true
-    pub stands : Stands (w .from) (w .to) (w .taken)
-
-  pub capture-goes : (w : BitMove) → Capture b w → Goes w
+  pub capture-goes : (w : BitMove) → Capture b w → Goes b w
   capture-goes w c = record { mover = piece-own b fair (c .kind) (w .from) (c .piece); stands = path-stands (of-sequence (c .sequence)) }
 
-  calm : (f i : ℕ) → has (empty b) i ≡ true → Stands f i 0
+  calm : (f i : ℕ) → has (empty b) i ≡ true → Stands b f i 0
   calm f i e = record { on = inl e; enemies = λ j q. absurd (false≢true (sym (has-zero j) ∙ q)); fits = lit< tt }
 
-  pub quiet-goes : {w : BitMove} → Quiet b w → Goes w
+  pub quiet-goes : {w : BitMove} → Quiet b w → Goes b w
   quiet-goes (manStep {i = i} d p f e) = record { mover = piece-own b fair Man i p; stands = calm i (next d i) e }
   quiet-goes (kingFlight {i = i} {j = j} d p f) = record { mover = piece-own b fair King i p; stands = calm i j (flight-end f) }
 
-  pub legal-goes : (w : BitMove) → BitLegal b w → Goes w
+  pub legal-goes : (w : BitMove) → BitLegal b w → Goes b w
   legal-goes w (capture c most) = capture-goes w c
   legal-goes w (quiet none q) = quiet-goes q
 
-  pub from-on : {w : BitMove} → Goes w → onBoard (w .from) ≡ true
+  pub from-on : {w : BitMove} → Goes b w → onBoard (w .from) ≡ true
   from-on {w} g = own-on b fair (w .from) (g .mover)
 
-  pub to-on : {w : BitMove} → Goes w → onBoard (w .to) ≡ true
+  pub to-on : {w : BitMove} → Goes b w → onBoard (w .to) ≡ true
   to-on {w} g = go (g .stands .on)
     where
       go : (has (empty b) (w .to) ≡ true) ⊎ (w .to ≡ w .from) → onBoard (w .to) ≡ true
@@ -85,7 +85,7 @@ module _ (b : Board) (fair : Fair b) where
       go (inr e) = ap onBoard e ∙ from-on g
 
   -- what a successor needs
-  pub goes-playable : {w : BitMove} → Goes w → Playable b (numbered w)
+  pub goes-playable : {w : BitMove} → Goes b w → Playable b (numbered w)
   goes-playable {w} g = record {
     fromSquare = bit-square (w .from) (from-on g);
     toSquare = bit-square (w .to) (to-on g);
@@ -109,7 +109,7 @@ module _ (b : Board) (fair : Fair b) where
           (eq-eqb (squareAtBit (w .to)) (squareAtBit (w .from)) (ap squareAtBit e))
 
   -- the test of refusal 11 passes
-  pub goes-squares : {w : BitMove} → Goes w → squaresOf (numbered w) ≡ true
+  pub goes-squares : {w : BitMove} → Goes b w → squaresOf (numbered w) ≡ true
   unfolding squaresOf
   goes-squares {w} g =
       and-both _ _ (bit-square (w .from) (from-on g)) (and-both _ _ (bit-square (w .to) (to-on g))

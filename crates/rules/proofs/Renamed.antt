@@ -8,13 +8,13 @@ use lib.Dec.{eqb, ltb, leb}
 use Rattle.rules.specs.Lists.{contains}
 use Rattle.rules.proofs.Bounded.{Bounded, bounded, push, noteIn}
 
+abbrev pub renamed : {A B : Type 0} → (A → B) → Bounded A → Bounded B
+renamed φ s = bounded (s .most) (map φ (s .list)) (s .over)
+
 module _ {A B : Type 0} (φ : A → B) (sameA : A → A → Bool) (sizeA : A → ℕ) (sameB : B → B → Bool) (sizeB : B → ℕ) (room : ℕ)
     (Ok : A → Type 0) (agree : (x y : A) → Ok x → Ok y → sameB (φ x) (φ y) ≡ sameA x y) (sizes : (x : A) → Ok x → sizeB (φ x) ≡ sizeA x) where
   abbrev pub AllOk : List A → Type 0
   AllOk l = (x : A) → Member x l → Ok x
-
-  abbrev pub renamed : Bounded A → Bounded B
-  renamed s = bounded (s .most) (map φ (s .list)) (s .over)
 
   length-map : (l : List A) → length (map φ l) ≡ length l
   length-map [] = refl
@@ -36,17 +36,17 @@ module _ {A B : Type 0} (φ : A → B) (sameA : A → A → Bool) (sizeA : A →
       go true = sym (map-snoc l x)
       go false = refl
 
-  note-map : (s : Bounded A) (x : A) → AllOk (s .list) → Ok x → noteIn sameB sizeB room (renamed s) (φ x) ≡ renamed (noteIn sameA sizeA room s x)
+  note-map : (s : Bounded A) (x : A) → AllOk (s .list) → Ok x → noteIn sameB sizeB room (renamed φ s) (φ x) ≡ renamed φ (noteIn sameA sizeA room s x)
   unfolding noteIn
   note-map s x h k =
-      ap₂ (λ (n : ℕ) (t : Bool). cond (eqb n 0) (renamed s) (cond (ltb n (s .most)) (renamed s) (cond (ltb (s .most) n) (bounded n (φ x ∷ []) false)
-      (cond t (renamed s) (bounded (s .most) (push sameB sizeB room (map φ (s .list)) (φ x)) (s .over || leb room (length (map φ (s .list)))))))))
+      ap₂ (λ (n : ℕ) (t : Bool). cond (eqb n 0) (renamed φ s) (cond (ltb n (s .most)) (renamed φ s) (cond (ltb (s .most) n) (bounded n (φ x ∷ []) false)
+      (cond t (renamed φ s) (bounded (s .most) (push sameB sizeB room (map φ (s .list)) (φ x)) (s .over || leb room (length (map φ (s .list)))))))))
       (sizes x k) (contains-map (s .list) x h k)
       ∙ go (eqb (sizeA x) 0) (ltb (sizeA x) (s .most)) (ltb (s .most) (sizeA x)) (contains sameA (s .list) x)
     where
-      go : (p q r t : Bool) → cond p (renamed s) (cond q (renamed s) (cond r (bounded (sizeA x) (φ x ∷ []) false)
-          (cond t (renamed s) (bounded (s .most) (push sameB sizeB room (map φ (s .list)) (φ x)) (s .over || leb room (length (map φ (s .list))))))))
-          ≡ renamed (cond p s (cond q s (cond r (bounded (sizeA x) (x ∷ []) false) (cond t s (bounded (s .most) (push sameA sizeA room (s .list) x) (s .over || leb room (length (s .list))))))))
+      go : (p q r t : Bool) → cond p (renamed φ s) (cond q (renamed φ s) (cond r (bounded (sizeA x) (φ x ∷ []) false)
+          (cond t (renamed φ s) (bounded (s .most) (push sameB sizeB room (map φ (s .list)) (φ x)) (s .over || leb room (length (map φ (s .list))))))))
+          ≡ renamed φ (cond p s (cond q s (cond r (bounded (sizeA x) (x ∷ []) false) (cond t s (bounded (s .most) (push sameA sizeA room (s .list) x) (s .over || leb room (length (s .list))))))))
       go true q r t = refl
       go false true r t = refl
       go false false true t = refl
@@ -71,7 +71,7 @@ module _ {A B : Type 0} (φ : A → B) (sameA : A → A → Bool) (sizeA : A →
       go false false false false true = snoc (s .list) h
       go false false false false false = h
 
-  pub fold-map : (xs : List A) (s : Bounded A) → AllOk (s .list) → AllOk xs → foldl (noteIn sameB sizeB room) (renamed s) (map φ xs) ≡ renamed (foldl (noteIn sameA sizeA room) s xs)
+  pub fold-map : (xs : List A) (s : Bounded A) → AllOk (s .list) → AllOk xs → foldl (noteIn sameB sizeB room) (renamed φ s) (map φ xs) ≡ renamed φ (foldl (noteIn sameA sizeA room) s xs)
   fold-map [] s h k = refl
   fold-map (x ∷ xs) s h k =
       ap (λ (t : Bounded B). foldl (noteIn sameB sizeB room) t (map φ xs)) (note-map s x h (k x (head refl)))

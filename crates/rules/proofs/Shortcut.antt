@@ -16,11 +16,12 @@ use Rattle.squares.specs.Sets.{has, members}
 use Rattle.squares.proofs.Members.{of-members}
 use Rattle.squares.proofs.Pointwise.{has-or, has-bit, member-lt}
 use Rattle.squares.proofs.Shifts.{direction-index, opposite-index, next-lt, next-back}
+use Rattle.rules.proofs.Tree.{pruned, cut-start}
 use Rattle.positions.specs.Boards.{Board, own, enemy, pieces}
+use Rattle.rules.proofs.Boards.{own-lt, enemy-lt, space-lt, enemy-blocks}
 use Rattle.rules.specs.Lists.{concatMap, best, longest}
 use Rattle.rules.specs.Ordered.{directions, ray, last, blocker, target, hop, jumpsOver, jumpsAlong, jumps, enough, sequences, allSequences, count, captures, sameBits}
 use Rattle.rules.specs.Rules.{BitMove, bitMove, space, Glide, rest, step, Flight, Target, Fair}
-use Rattle.rules.proofs.Boards.{own-lt, enemy-lt, space-lt, enemy-blocks}
 use Rattle.rules.proofs.Bounded.{bounded, view, noteIn, fold-seen}
 use Rattle.rules.proofs.Fold.{Found, found, note, fold-law}
 use Rattle.rules.proofs.Jumps.{of-target, over-yes, over-no, Good, good, grows}
@@ -28,7 +29,6 @@ use Rattle.rules.proofs.Lists.{of-map}
 use Rattle.rules.proofs.Paths.{starts}
 use Rattle.rules.proofs.Ray.{ray-on, of-ray, last-is}
 use Rattle.rules.proofs.Same.{bits-refl, bits-true}
-use Rattle.rules.proofs.Tree.{pruned, cut-start}
 
 -- e goes back where one came along d
 unfoldable pub back : Direction → Direction → Bool
@@ -59,6 +59,14 @@ aside-is d e q = go (straight d e) refl q
     go : (s : Bool) → straight d e ≡ s → (s || back d e) ≡ true → (e ≡ d) ⊎ (e ≡ opposite d)
     go true p r = inl (straight-is d e p)
     go false p r = inr (back-is d e r)
+
+-- a king's sequences as the code tries them
+unfoldable pub kingTried : Board → ℕ → List BitMove
+kingTried b i = pruned directions (jumpsAlong b King) back aside enough (λ d. false) (bitMove i i 0)
+
+-- all that the code records, in its order
+unfoldable pub allTried : Board → List BitMove
+allTried b = concatMap (sequences b Man) (members (pieces b Man)) ++ concatMap (kingTried b) (members (pieces b King))
 
 -- ---- glides
 module _ (e : ℕ) (d : Direction) where
@@ -122,7 +130,7 @@ module _ (b : Board) (fair : Fair b) where
                 (r .0, fly (j ∷ js) h (r .0) (tail (r .1)), r .2);
           }
 
-  module _ (x : BitMove) (g : Good b fair x) (d : Direction) (o : ℕ) (aim : Target b (x .taken) o) where
+  module _ (x : BitMove) (g : Good b x) (d : Direction) (o : ℕ) (aim : Target b (x .taken) o) where
     small : space b (x .from) < 2 ^ 54
     small = space-lt b fair (x .from) (member-lt 54 (own b) (x .from) (own-lt b fair) (g .own))
 
@@ -160,12 +168,12 @@ module _ (b : Board) (fair : Fair b) where
   abbrev Dir : Direction → Type 0
   Dir d = Member d directions
 
-  first-none : (x l : BitMove) (ls : List BitMove) (d e : Direction) → Good b fair x → Dir d → Dir e → along x d ≡ l ∷ ls → back d e ≡ true → along l e ≡ []
+  first-none : (x l : BitMove) (ls : List BitMove) (d e : Direction) → Good b x → Dir d → Dir e → along x d ≡ l ∷ ls → back d e ≡ true → along l e ≡ []
   first-none x l ls d e g m n q p =
       let s = shape x l ls d q in
       ap₂ (λ (k : BitMove) (c : Direction). along k c) (s .first) (back-is d e p) ∙ none-back x g d (s .o) (s .aim) (s .j) (s .near)
 
-  later-same : (x l k : BitMove) (ls : List BitMove) (d e : Direction) → Good b fair x → Dir d → Dir e → along x d ≡ l ∷ ls → Member k ls → aside d e ≡ true → along k e ≡ along l e
+  later-same : (x l k : BitMove) (ls : List BitMove) (d e : Direction) → Good b x → Dir d → Dir e → along x d ≡ l ∷ ls → Member k ls → aside d e ≡ true → along k e ≡ along l e
   later-same x l k ls d e g m n q h p = go (shape x l ls d q) (aside-is d e p)
     where
       go : Shape x l ls d → (e ≡ d) ⊎ (e ≡ opposite d) → along k e ≡ along l e
@@ -178,35 +186,27 @@ module _ (b : Board) (fair : Fair b) where
           ap₂ (λ (k : BitMove) (c : Direction). along k c) (r .2) c ∙ none-back x g d (s .o) (s .aim) (r .0) (r .1)
           ∙ sym (ap₂ (λ (k : BitMove) (c : Direction). along k c) (s .first) c ∙ none-back x g d (s .o) (s .aim) (s .j) (s .near))
 
-  -- a king's sequences as the code tries them
-  unfoldable pub kingTried : ℕ → List BitMove
-  kingTried i = pruned directions (jumpsAlong b King) back aside enough (λ d. false) (bitMove i i 0)
-
   -- the law for one king: what is found is the same, in the same order, whatever was found before
-  pub king-law : (i : ℕ) → has (pieces b King) i ≡ true → (s : Found BitMove) → foldl (note sameBits count) s (kingTried i) ≡ foldl (note sameBits count) s (sequences b King i)
+  pub king-law : (i : ℕ) → has (pieces b King) i ≡ true → (s : Found BitMove) → foldl (note sameBits count) s (kingTried b i) ≡ foldl (note sameBits count) s (sequences b King i)
   unfolding kingTried sequences jumps
   king-law i h s =
-      cut-start directions (jumpsAlong b King) back aside sameBits bits-refl bits-true count (Good b fair) (good b fair King) (grows b fair King) first-none later-same
+      cut-start directions (jumpsAlong b King) back aside sameBits bits-refl bits-true count (Good b) (good b fair King) (grows b fair King) first-none later-same
       enough (bitMove i i 0) s (starts b fair King i h)
 
-  -- all that the code records, in its order
-  unfoldable pub allTried : List BitMove
-  allTried = concatMap (sequences b Man) (members (pieces b Man)) ++ concatMap kingTried (members (pieces b King))
-
   kings : (is : List ℕ) → ((i : ℕ) → Member i is → has (pieces b King) i ≡ true) → (s : Found BitMove)
-      → foldl (note sameBits count) s (concatMap kingTried is) ≡ foldl (note sameBits count) s (concatMap (sequences b King) is)
+      → foldl (note sameBits count) s (concatMap (kingTried b) is) ≡ foldl (note sameBits count) s (concatMap (sequences b King) is)
   unfolding concatMap
   kings [] h s = refl
   kings (i ∷ is) h s =
-      foldl-append (note sameBits count) s (kingTried i) (concatMap kingTried is)
-      ∙ ap (λ (t : Found BitMove). foldl (note sameBits count) t (concatMap kingTried is)) (king-law i (h i (head refl)) s)
+      foldl-append (note sameBits count) s (kingTried b i) (concatMap (kingTried b) is)
+      ∙ ap (λ (t : Found BitMove). foldl (note sameBits count) t (concatMap (kingTried b) is)) (king-law i (h i (head refl)) s)
       ∙ kings is (λ j m. h j (tail m)) (foldl (note sameBits count) s (sequences b King i))
       ∙ sym (foldl-append (note sameBits count) s (sequences b King i) (concatMap (sequences b King) is))
 
-  pub tried-law : foldl (note sameBits count) (found 0 []) allTried ≡ found (best count (captures b)) (longest sameBits count (captures b))
+  pub tried-law : foldl (note sameBits count) (found 0 []) (allTried b) ≡ found (best count (captures b)) (longest sameBits count (captures b))
   unfolding allTried allSequences captures
   tried-law =
-      foldl-append (note sameBits count) (found 0 []) men (concatMap kingTried (members (pieces b King)))
+      foldl-append (note sameBits count) (found 0 []) men (concatMap (kingTried b) (members (pieces b King)))
       ∙ kings (members (pieces b King)) (λ i m. of-members (pieces b King) i m) (foldl (note sameBits count) (found 0 []) men)
       ∙ sym (foldl-append (note sameBits count) (found 0 []) men (concatMap (sequences b King) (members (pieces b King))))
       ∙ fold-law sameBits count (allSequences b)
@@ -215,8 +215,8 @@ module _ (b : Board) (fair : Fair b) where
       men = concatMap (sequences b Man) (members (pieces b Man))
 
   -- the law with room for that many, and a mark: what the code's search ends with
-  pub search-law : (room : ℕ) → 0 < room → foldl (noteIn sameBits count room) (bounded 0 [] false) allTried
+  pub search-law : (room : ℕ) → 0 < room → foldl (noteIn sameBits count room) (bounded 0 [] false) (allTried b)
       ≡ bounded (best count (captures b)) (take room (longest sameBits count (captures b))) (ltb room (length (longest sameBits count (captures b))))
   search-law room some =
-      ap₂ (λ (r : List BitMove) (o : Bool). foldl (noteIn sameBits count room) (bounded 0 r o) allTried) (sym (take-all {A = BitMove} room [] (omega arith))) (sym (le-ltb room 0 (omega arith)))
-      ∙ fold-seen sameBits count room bits-refl bits-true some allTried (found 0 []) ∙ ap (view room) tried-law
+      ap₂ (λ (r : List BitMove) (o : Bool). foldl (noteIn sameBits count room) (bounded 0 r o) (allTried b)) (sym (take-all {A = BitMove} room [] (omega arith))) (sym (le-ltb room 0 (omega arith)))
+      ∙ fold-seen sameBits count room bits-refl bits-true some (allTried b) (found 0 []) ∙ ap (view room) tried-law

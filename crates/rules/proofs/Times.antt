@@ -6,10 +6,8 @@ use mathlib.Core.Bool.{Bool, true, false, cond}
 use mathlib.Core.List.{List, [], _∷_, List·Memᴰ as Member, List·Memᴰ·head as head, List·Memᴰ·tail as tail, List·Memᴰ·not-nil as not-nil, List·Memᴰ·cases-cons as cases-cons}
 use mathlib.Core.Logic.{_⊎_, inl, inr}
 use Rattle.squares.proofs.Bools.{not-so}
-use Rattle.positions.specs.Moves.{same}
 use Rattle.rules.specs.Lists.{times}
 use Rattle.rules.proofs.Held.{Distinct, cons}
-use Rattle.rules.proofs.Same.{same-refl, same-true}
 
 module _ {A : Type 0} (same : A → A → Bool) (same-refl : (x : A) → same x x ≡ true) (same-true : (x y : A) → same x y ≡ true → x ≡ y) where
   times-none : (l : List A) (x : A) → (Member x l → ⊥) → times same l x ≡ 0

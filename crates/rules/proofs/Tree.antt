@@ -139,7 +139,7 @@ module _ {A D : Type 0} (dirs : List D) (rays : A → D → List A) (first later
       -- in a direction that a later landing leaves out it finds what the first finds
       (later-same : (x l k : A) (ls : List A) (d e : D) → Good x → Member d dirs → Member e dirs → rays x d ≡ l ∷ ls → Member k ls → later d e ≡ true → rays k e ≡ rays l e) where
     abbrev Hold : Found A → A → Type 0
-    Hold s x = Held same same-refl same-true size s x
+    Hold s x = Held size s x
 
     abbrev run : Found A → List A → Found A
     run s l = foldl (note same size) s l
