@@ -78,7 +78,8 @@ module _ (b : Board) (fair : Fair b) where
   pub of-empty : (i : ℕ) → has (empty b) i ≡ true → (onBoard i ≡ true) × (has (bitOr (b .white) (b .black)) i ≡ false)
   unfolding empty
   of-empty i h =
-      let r = of-without all (bitOr (b .white) (b .black)) all-lt64 (or-lt 64 (b .white) (b .black) (wide (b .white) (fair .whiteFits)) (wide (b .black) (fair .blackFits))) i h in
+      let r = of-without all (bitOr (b .white) (b .black)) all-lt64
+          (or-lt 64 (b .white) (b .black) (wide (b .white) (fair .whiteFits)) (wide (b .black) (fair .blackFits))) i h in
       (sym (has-all i) ∙ r .0, r .1)
 
   pub empty-on : (i : ℕ) → has (empty b) i ≡ true → onBoard i ≡ true

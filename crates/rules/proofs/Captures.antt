@@ -54,7 +54,8 @@ module _ (b : Board) (fair : Fair b) where
   unfolding sequences
   of-sequences k i m h = of-from b fair (sound (jumps b k) enough (bitMove i i 0) m h) i refl begin
 
-  in-sequences : (k : PieceKind) (m : BitMove) → has (pieces b k) (m .from) ≡ true → Path b k (m .from) (m .to) (m .taken) → Reached m (sequences b k (m .from))
+  in-sequences : (k : PieceKind) (m : BitMove) → has (pieces b k) (m .from) ≡ true → Path b k (m .from) (m .to) (m .taken)
+      → Reached m (sequences b k (m .from))
   unfolding sequences
   in-sequences k m h s =
       complete (jumps b k) count (remaining b) (Good b) (good b fair k) (grows b fair k) (falls b fair k)
@@ -70,7 +71,8 @@ module _ (b : Board) (fair : Fair b) where
   of-kind k m h =
       let r = of-concatMap (sequences b k) (members (pieces b k)) h in
       let s = of-sequences k (r .0) m (r .2) in
-      record { kind = k; piece = ap (has (pieces b k)) (s .0) ∙ of-members (pieces b k) (r .0) (r .1); path = subst (λ u. Path b k u (m .to) (m .taken)) (sym (s .0)) (s .1) }
+      record { kind = k; piece = ap (has (pieces b k)) (s .0) ∙ of-members (pieces b k) (r .0) (r .1); path =
+          subst (λ u. Path b k u (m .to) (m .taken)) (sym (s .0)) (s .1) }
 
   of-all : (m : BitMove) → Member m (allSequences b) → Any m
   unfolding allSequences
@@ -88,7 +90,8 @@ module _ (b : Board) (fair : Fair b) where
   in-all : (m : BitMove) (k : PieceKind) → has (pieces b k) (m .from) ≡ true → Path b k (m .from) (m .to) (m .taken) → Reached m (allSequences b)
   in-all m k h s =
       wider m (sequences b k (m .from)) (allSequences b)
-      (λ w i. kind-all k w (in-concatMap (sequences b k) (in-members (pieces b k) (m .from) (omega (arith, member-lt 54 (own b) (m .from) (own-lt b fair) (piece-own b fair k (m .from) h))) h) i))
+      (λ w i. kind-all k w (in-concatMap (sequences b k)
+          (in-members (pieces b k) (m .from) (omega (arith, member-lt 54 (own b) (m .from) (own-lt b fair) (piece-own b fair k (m .from) h))) h) i))
       (in-sequences k m h s)
 
   pub of-captures : (m : BitMove) → Member m (captures b) → Capture b m

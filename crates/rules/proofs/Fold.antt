@@ -38,7 +38,8 @@ module _ {A : Type 0} (same : A → A → Bool) (size : A → ℕ) where
   unfolding note
   note-less s x h = go (eqb (size x) 0)
     where
-      go : (b : Bool) → cond b s (cond (ltb (size x) (s .most)) s (cond (ltb (s .most) (size x)) (found (size x) (x ∷ [])) (found (s .most) (add same (s .list) x)))) ≡ s
+      go : (b : Bool) → cond b s (cond (ltb (size x) (s .most)) s
+          (cond (ltb (s .most) (size x)) (found (size x) (x ∷ [])) (found (s .most) (add same (s .list) x)))) ≡ s
       go true = refl
       go false = rw (lt-ltb (size x) (s .most) h) refl
 
@@ -99,34 +100,41 @@ module _ {A : Type 0} (same : A → A → Bool) (size : A → ℕ) where
       M : ℕ
       M = max k (max (size x) B)
 
-      bring : (m : ℕ) (c : Bool) (r : Found A) → M ≡ m → ltb k (max (size x) B) ≡ c → r ≡ upshot m c l (x ∷ xs) → r ≡ upshot M (ltb k (max (size x) B)) l (x ∷ xs)
+      bring : (m : ℕ) (c : Bool) (r : Found A) → M ≡ m → ltb k (max (size x) B) ≡ c → r ≡ upshot m c l (x ∷ xs)
+          → r ≡ upshot M (ltb k (max (size x) B)) l (x ∷ xs)
       bring m c r e f q = q ∙ sym (ap₂ (λ (i : ℕ) (j : Bool). upshot i j l (x ∷ xs)) e f)
 
       skipped : (m : ℕ) (c : Bool) (l′ : List A) → (size x ≡ m → ⊥) → upshot m c l′ xs ≡ upshot m c l′ (x ∷ xs)
-      skipped m c l′ n = ap (λ (z : List A). found m (foldl (add same) (cond c [] l′) z)) (sym (keep-no (λ y. eqb (size y) m) x xs (ne-eqb (size x) m n)))
+      skipped m c l′ n = ap (λ (z : List A). found m (foldl (add same) (cond c [] l′) z))
+          (sym (keep-no (λ y. eqb (size y) m) x xs (ne-eqb (size x) m n)))
 
-      taken : (m : ℕ) (l′ : List A) → size x ≡ m → found m (foldl (add same) (add same l′ x) (keep (λ y. eqb (size y) m) xs)) ≡ upshot m false l′ (x ∷ xs)
+      taken : (m : ℕ) (l′ : List A) → size x ≡ m
+          → found m (foldl (add same) (add same l′ x) (keep (λ y. eqb (size y) m) xs)) ≡ upshot m false l′ (x ∷ xs)
       taken m l′ e = ap (λ (z : List A). found m (foldl (add same) l′ z)) (sym (keep-yes (λ y. eqb (size y) m) x xs (eq-eqb (size x) m e)))
 
       longer : k < size x → (b : Bool) → ltb (size x) B ≡ b → foldl note (note (found k l) x) xs ≡ upshot M (ltb k (max (size x) B)) l (x ∷ xs)
       longer h true q =
           let t = ltb-true (size x) B q in
           bring (max (size x) B) true _ (omega arith) (lt-ltb k (max (size x) B) (omega arith))
-          (ap (λ (s : Found A). foldl note s xs) (note-more (found k l) x h) ∙ ih (size x) (x ∷ []) ∙ ap (λ (c : Bool). upshot (max (size x) B) c (x ∷ []) xs) q ∙ skipped (max (size x) B) true l (λ e. omega arith))
+          (ap (λ (s : Found A). foldl note s xs) (note-more (found k l) x h) ∙ ih (size x) (x ∷ [])
+              ∙ ap (λ (c : Bool). upshot (max (size x) B) c (x ∷ []) xs) q ∙ skipped (max (size x) B) true l (λ e. omega arith))
       longer h false q =
           let t = ltb-false (size x) B q in
           bring (max (size x) B) true _ (omega arith) (lt-ltb k (max (size x) B) (omega arith))
-          (ap (λ (s : Found A). foldl note s xs) (note-more (found k l) x h) ∙ ih (size x) (x ∷ []) ∙ ap (λ (c : Bool). upshot (max (size x) B) c (x ∷ []) xs) q ∙ unfold add contains in taken (max (size x) B) [] (omega arith))
+          (ap (λ (s : Found A). foldl note s xs) (note-more (found k l) x h) ∙ ih (size x) (x ∷ [])
+              ∙ ap (λ (c : Bool). upshot (max (size x) B) c (x ∷ []) xs) q ∙ unfold add contains in taken (max (size x) B) [] (omega arith))
 
       level : size x ≡ k → (b : Bool) → ltb k B ≡ b → foldl note (note (found k l) x) xs ≡ upshot M (ltb k (max (size x) B)) l (x ∷ xs)
       level h true q =
           let t = ltb-true k B q in
           bring (max k B) true _ (omega arith) (lt-ltb k (max (size x) B) (omega arith))
-          (ap (λ (s : Found A). foldl note s xs) (note-same (found k l) x p h) ∙ ih k (add same l x) ∙ ap (λ (c : Bool). upshot (max k B) c (add same l x) xs) q ∙ skipped (max k B) true l (λ e. omega arith))
+          (ap (λ (s : Found A). foldl note s xs) (note-same (found k l) x p h) ∙ ih k (add same l x)
+              ∙ ap (λ (c : Bool). upshot (max k B) c (add same l x) xs) q ∙ skipped (max k B) true l (λ e. omega arith))
       level h false q =
           let t = ltb-false k B q in
           bring (max k B) false _ (omega arith) (le-ltb k (max (size x) B) (omega arith))
-          (ap (λ (s : Found A). foldl note s xs) (note-same (found k l) x p h) ∙ ih k (add same l x) ∙ ap (λ (c : Bool). upshot (max k B) c (add same l x) xs) q ∙ taken (max k B) l (omega arith))
+          (ap (λ (s : Found A). foldl note s xs) (note-same (found k l) x p h) ∙ ih k (add same l x)
+              ∙ ap (λ (c : Bool). upshot (max k B) c (add same l x) xs) q ∙ taken (max k B) l (omega arith))
 
       go : Case (found k l) x → foldl note (note (found k l) x) xs ≡ upshot M (ltb k (max (size x) B)) l (x ∷ xs)
       go (none e) = absurd (omega arith)
@@ -144,7 +152,8 @@ module _ {A : Type 0} (same : A → A → Bool) (size : A → ℕ) where
   pub fold-longest : (xs : List A) → Positive xs → foldl note (found 0 []) xs ≡ found (best size xs) (longest same size xs)
   unfolding longest distinct
   fold-longest xs h =
-      fold-from xs h 0 [] ∙ ap (λ (m : ℕ). upshot m (ltb 0 (best size xs)) [] xs) (omega arith) ∙ ap (λ (l : List A). found (best size xs) (foldl (add same) l (keep (λ x. eqb (size x) (best size xs)) xs))) (both (ltb 0 (best size xs)))
+      fold-from xs h 0 [] ∙ ap (λ (m : ℕ). upshot m (ltb 0 (best size xs)) [] xs) (omega arith)
+          ∙ ap (λ (l : List A). found (best size xs) (foldl (add same) l (keep (λ x. eqb (size x) (best size xs)) xs))) (both (ltb 0 (best size xs)))
     where
       both : (c : Bool) → cond {A = List A} c [] [] ≡ []
       both true = refl
@@ -155,8 +164,10 @@ module _ {A : Type 0} (same : A → A → Bool) (size : A → ℕ) where
   fold-takes s [] = refl
   fold-takes s (x ∷ xs) = go (λ t. fold-takes t xs) (eqb (size x) 0) refl
     where
-      go : ((t : Found A) → foldl note t xs ≡ foldl note t (keep (takes size) xs)) → (b : Bool) → eqb (size x) 0 ≡ b → foldl note (note s x) xs ≡ foldl note s (keep (takes size) (x ∷ xs))
-      go ih true e = ap (λ (t : Found A). foldl note t xs) (note-zero s x (eqb-true _ _ e)) ∙ ih s ∙ ap (λ (l : List A). foldl note s l) (sym (keep-no (takes size) x xs (ap not e)))
+      go : ((t : Found A) → foldl note t xs ≡ foldl note t (keep (takes size) xs)) → (b : Bool) → eqb (size x) 0 ≡ b
+          → foldl note (note s x) xs ≡ foldl note s (keep (takes size) (x ∷ xs))
+      go ih true e = ap (λ (t : Found A). foldl note t xs) (note-zero s x (eqb-true _ _ e)) ∙ ih s
+          ∙ ap (λ (l : List A). foldl note s l) (sym (keep-no (takes size) x xs (ap not e)))
       go ih false e = ih (note s x) ∙ ap (λ (l : List A). foldl note s l) (sym (keep-yes (takes size) x xs (ap not e)))
 
   pub positive : (xs : List A) → Positive (keep (takes size) xs)

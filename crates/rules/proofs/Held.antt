@@ -227,8 +227,10 @@ module _ {A : Type 0} (same : A → A → Bool) (same-refl : (x : A) → same x 
     fold-held [] s x m = absurd (not-nil m)
     fold-held (y ∷ ys) s x m = go (λ h. fold-held ys (note same size s y) x h) (cases-cons m)
       where
-        go : (Member x ys → Held size (foldl (note same size) (note same size s y) ys) x) → (x ≡ y) ⊎ Member x ys → Held size (foldl (note same size) (note same size s y) ys) x
-        go ih (inl e) = subst (λ z. Held size (foldl (note same size) (note same size s y) ys) z) (sym e) (held-fold ys (note same size s y) y (note-held s y))
+        go : (Member x ys → Held size (foldl (note same size) (note same size s y) ys) x) → (x ≡ y) ⊎ Member x ys
+            → Held size (foldl (note same size) (note same size s y) ys) x
+        go ih (inl e) = subst (λ z. Held size (foldl (note same size) (note same size s y) ys) z) (sym e)
+            (held-fold ys (note same size s y) y (note-held s y))
         go ih (inr h) = ih h
 
     pub absorb : (ys : List A) (s : Found A) → ((x : A) → Member x ys → Held size s x) → foldl (note same size) s ys ≡ s

@@ -46,7 +46,8 @@ pub over-no : (b : Board) (s : BitMove) (o : ℕ) (ls : List ℕ) → target b (
 unfolding jumpsOver
 over-no b s o ls e = rw (e, jumpsOver) refl
 
-of-over : (b : Board) (s m : BitMove) (o : ℕ) (ls : List ℕ) → Member m (jumpsOver b s o ls) → Target b (s .taken) o × ((l : ℕ) × Member l ls × (m ≡ hop s o l))
+of-over : (b : Board) (s m : BitMove) (o : ℕ) (ls : List ℕ) → Member m (jumpsOver b s o ls)
+    → Target b (s .taken) o × ((l : ℕ) × Member l ls × (m ≡ hop s o l))
 of-over b s m o ls h = go (target b (s .taken) o) refl
   where
     go : (t : Bool) → target b (s .taken) o ≡ t → Target b (s .taken) o × ((l : ℕ) × Member l ls × (m ≡ hop s o l))
@@ -80,7 +81,8 @@ unfolding jumpsAlong blocker
 of-along b Man s m d h =
     let r = of-over b s m (next d (s .to)) (manLandings (space b (s .from)) (next d (next d (s .to)))) h in
     let q = of-manLandings (space b (s .from)) (next d (next d (s .to))) (r .1 .0) (r .1 .1) in
-    record { over = next d (s .to); land = next d (next d (s .to)); jump = manJump d (r .0) (q .0); is = r .1 .2 ∙ ap (hop s (next d (s .to))) (q .1) }
+    record { over = next d (s .to); land = next d (next d (s .to)); jump = manJump d (r .0) (q .0); is = r .1 .2
+        ∙ ap (hop s (next d (s .to))) (q .1) }
 of-along b King s m d h =
     let e = space b (s .from) in
     let o = blocker e d (s .to) in
@@ -105,11 +107,13 @@ abbrev pub remaining : Board → BitMove → ℕ
 remaining b s = size (without (enemy b) (s .taken))
 
 module _ (b : Board) (fair : Fair b) where
-  pub in-jumps : {f t i o l : ℕ} {k : PieceKind} → has (own b) f ≡ true → Jump b f t i k o l → Member (hop (bitMove f i t) o l) (jumps b k (bitMove f i t))
+  pub in-jumps : {f t i o l : ℕ} {k : PieceKind} → has (own b) f ≡ true → Jump b f t i k o l
+      → Member (hop (bitMove f i t) o l) (jumps b k (bitMove f i t))
   unfolding jumps jumpsAlong blocker
   in-jumps {f} {t} {i} p (manJump d h e) =
       in-concatMap (jumpsAlong b Man (bitMove f i t)) (all-directions d)
-      (in-over b (bitMove f i t) (next d i) (next d (next d i)) (manLandings (space b f) (next d (next d i))) h (in-manLandings (space b f) (next d (next d i)) e))
+      (in-over b (bitMove f i t) (next d i) (next d (next d i)) (manLandings (space b f) (next d (next d i))) h
+          (in-manLandings (space b f) (next d (next d i)) e))
   in-jumps {f} {t} {i} {l = l} p (kingJump d {p = q} g h e) =
       let small = space-lt b fair f (member-lt 54 (own b) f (own-lt b fair) p) in
       let at : last i (ray (space b f) d i) ≡ q = last-is (space b f) d small g (enemy-blocks b fair f (next d q) p (h .enemy)) in
@@ -136,4 +140,5 @@ module _ (b : Board) (fair : Fair b) where
     pub falls : remaining b m < remaining b s
     unfolding hop
     falls = subst (λ z. remaining b z < remaining b s) (sym (jumped .is))
-        (size-falls (enemy b) (s .taken) (jumped .over) (wide (enemy b) (enemy-lt b fair)) (g .small) o-lt (jump-target (jumped .jump) .enemy) (jump-target (jumped .jump) .untaken))
+        (size-falls (enemy b) (s .taken) (jumped .over) (wide (enemy b) (enemy-lt b fair)) (g .small) o-lt (jump-target (jumped .jump) .enemy)
+            (jump-target (jumped .jump) .untaken))

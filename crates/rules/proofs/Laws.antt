@@ -4,7 +4,7 @@ use mathlib.Core.Path.{_≡_, refl, sym, ap, _∙_, subst}
 use Prim.Native.Nat.{ℕ, _+_, _≤_, _<_}
 use native.Mathlib.Omega.{arith}
 use mathlib.Core.Bool.{Bool, true, false, not, true≢false, false≢true}
-use mathlib.Core.List.{List, [], _∷_, foldl, List·Memᴰ as Member, List·Memᴰ·head as head, List·Memᴰ·not-nil as not-nil}
+use mathlib.Core.List.{List, [], _∷_, map, foldl, List·Memᴰ as Member, List·Memᴰ·head as head, List·Memᴰ·not-nil as not-nil}
 use mathlib.Core.Logic.{_↔_}
 use lib.ListN.{length, take}
 use lib.Dec.{ltb}
@@ -21,11 +21,12 @@ use Rattle.positions.specs.Measure.{rowsBefore}
 use Rattle.positions.specs.Moves.{isCapture, squaresOf, same}
 use Rattle.positions.specs.Successor.{Playable}
 use Rattle.rules.specs.Lists.{keep, times, best, longest}
-use Rattle.rules.specs.Ordered.{sequences, count, captures, sameBits, legal, listed}
-use Rattle.rules.specs.Rules.{BitMove, bitMove, numbered, Sequence, Capture, AtMost, NoJump, Quiet, BitLegal, capture, quiet, Legal, Fair}
+use Rattle.rules.specs.Ordered.{sequences, count, captures, quiets, sameBits, legal, listed}
+use Rattle.rules.specs.Rules.{BitMove, bitMove, numbered, Sequence, Capture, AtMost, Open, NoJump, Quiet, BitLegal, capture, quiet, Legal, Fair}
+use Rattle.rules.proofs.Agreement.{bits-none}
 use Rattle.rules.proofs.Bounded.{bounded, noteIn, bounded-law}
 use Rattle.rules.proofs.Captures.{open-of, shut-law}
-use Rattle.rules.proofs.Fold.{Found, found, note, takes, fold-law}
+use Rattle.rules.proofs.Fold.{Found, found, takes, note, fold-law}
 use Rattle.rules.proofs.Forward.{quiet-row}
 use Rattle.rules.proofs.Held.{absorbed}
 use Rattle.rules.proofs.Numbered.{legal-distinct, member-sound, member-complete}
@@ -33,7 +34,8 @@ use Rattle.rules.proofs.Paths.{capture-some}
 use Rattle.rules.proofs.Places.{Goes, legal-goes, from-on, to-on, goes-playable, goes-squares}
 use Rattle.rules.proofs.Quiets.{quiet-none}
 use Rattle.rules.proofs.Same.{same-refl, same-true, listed-member}
-use Rattle.rules.proofs.Shortcut.{kingTried, king-law, allTried, search-law}
+use Rattle.rules.proofs.Search.{searched, searched-open, searched-shut}
+use Rattle.rules.proofs.Shortcut.{kingTried, king-law}
 use Rattle.rules.proofs.Times.{times-most, times-some}
 
 module _ (b : Board) (fair : Fair b) where
@@ -55,7 +57,8 @@ module _ (b : Board) (fair : Fair b) where
       → has (pieces b k) f ≡ true → has (pieces b k′) f ≡ true → AtMost b (size t) → times same (legal b) (numbered (bitMove f i t)) ≡ 1
   one-entry {k} {k′} {f} {i} {t} s r p q most =
       listed-once (numbered (bitMove f i t))
-      (listed-legal (numbered (bitMove f i t)) .1 (record { by = bitMove f i t; is = refl; legal = capture (record { kind = k; piece = p; sequence = s }) most }))
+      (listed-legal (numbered (bitMove f i t)) .1
+          (record { by = bitMove f i t; is = refl; legal = capture (record { kind = k; piece = p; sequence = s }) most }))
 
   -- ---- captures and quiet moves
 
@@ -140,9 +143,23 @@ module _ (b : Board) (fair : Fair b) where
       → foldl (note sameBits count) s (kingTried b i) ≡ foldl (note sameBits count) s (sequences b King i)
   king-shortcut = king-law b fair
 
-  pub search-ends : (room : ℕ) → 0 < room → foldl (noteIn sameBits count room) (bounded 0 [] false) (allTried b)
-      ≡ bounded (best count (captures b)) (take room (longest sameBits count (captures b))) (ltb room (length (longest sameBits count (captures b))))
-  search-ends = search-law b fair
+  -- where a jump is open the search ends with the list, as far as the room goes, and a mark where there is more
+  pub search-open : (room : ℕ) → 0 < room → Open b
+      → searched b room ≡ bounded (best count (captures b)) (take room (legal b)) (ltb room (length (legal b)))
+  search-open room some o = go (captures b) refl
+    where
+      go : (l : List BitMove) → captures b ≡ l → searched b room ≡ bounded (best count (captures b)) (take room (legal b))
+          (ltb room (length (legal b)))
+      go [] e = absurd (shut-law b fair .0 e o)
+      go (c ∷ cs) e = searched-open b fair room some c cs e
+
+  -- where none is open it ends with nothing, and the list is of the quiet moves
+  pub search-shut : (room : ℕ) → 0 < room → NoJump b → searched b room ≡ bounded 0 [] false
+  search-shut room some n = searched-shut b fair room some (shut-law b fair .1 n)
+
+  pub quiet-list : NoJump b → legal b ≡ map numbered (quiets b)
+  unfolding legal
+  quiet-list n = ap (map numbered) (bits-none b (shut-law b fair .1 n))
 
 -- ---- folds over any type
 module _ {A : Type 0} (same : A → A → Bool) (number : A → ℕ) where

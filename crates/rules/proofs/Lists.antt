@@ -16,16 +16,19 @@ module _ {A B : Type 0} where
   of-concatMap f [] m = absurd (not-nil m)
   of-concatMap f (x ∷ xs) {y} m = go (λ h. of-concatMap f xs h) (in-cases (f x) m)
     where
-      go : (Member y (concatMap f xs) → (z : A) × Member z xs × Member y (f z)) → Member y (f x) ⊎ Member y (concatMap f xs) → (z : A) × Member z (x ∷ xs) × Member y (f z)
+      go : (Member y (concatMap f xs) → (z : A) × Member z xs × Member y (f z)) → Member y (f x) ⊎ Member y (concatMap f xs)
+          → (z : A) × Member z (x ∷ xs) × Member y (f z)
       go ih (inl h) = (x, head refl, h)
       go ih (inr h) = let r = ih h in (r .0, tail (r .1), r .2)
 
   pub concatMap-append : (f : A → List B) (xs ys : List A) → concatMap f (xs ++ ys) ≡ concatMap f xs ++ concatMap f ys
   unfolding concatMap
   concatMap-append f [] ys = refl
-  concatMap-append f (x ∷ xs) ys = ap (λ (z : List B). f x ++ z) (concatMap-append f xs ys) ∙ sym (append-assoc (f x) (concatMap f xs) (concatMap f ys))
+  concatMap-append f (x ∷ xs) ys = ap (λ (z : List B). f x ++ z) (concatMap-append f xs ys)
+      ∙ sym (append-assoc (f x) (concatMap f xs) (concatMap f ys))
 
-pub concatMap-concatMap : {A B C : Type 0} (f : B → List C) (g : A → List B) (xs : List A) → concatMap f (concatMap g xs) ≡ concatMap (λ x. concatMap f (g x)) xs
+pub concatMap-concatMap : {A B C : Type 0} (f : B → List C) (g : A → List B) (xs : List A)
+    → concatMap f (concatMap g xs) ≡ concatMap (λ x. concatMap f (g x)) xs
 unfolding concatMap
 concatMap-concatMap f g [] = refl
 concatMap-concatMap f g (x ∷ xs) = concatMap-append f (g x) (concatMap g xs) ∙ ap (λ z. concatMap f (g x) ++ z) (concatMap-concatMap f g xs)

@@ -56,7 +56,8 @@ module _ (b : Board) (fair : Fair b) where
 
   man-once : (d : Direction) → Distinct (manSteps b d)
   unfolding manSteps
-  man-once d = map-once (λ (i : ℕ). bitMove i (next d i) 0) _ (λ x y e. ap (λ (u : BitMove). u .from) e) (keep-once (λ i. has (empty b) (next d i)) _ (members-once (pieces b Man)))
+  man-once d = map-once (λ (i : ℕ). bitMove i (next d i) 0) _ (λ x y e. ap (λ (u : BitMove). u .from) e)
+      (keep-once (λ i. has (empty b) (next d i)) _ (members-once (pieces b Man)))
 
   men-once : Distinct (concatMap (manSteps b) (forward (b .side)))
   men-once = concatMap-once (manSteps b) (forward (b .side)) (forward-once (b .side)) (λ d m. man-once d)
@@ -73,9 +74,11 @@ module _ (b : Board) (fair : Fair b) where
   king-once i h =
       concatMap-once (λ d. map (λ (j : ℕ). bitMove i j 0) (ray (empty b) d i)) directions directions-once
       (λ d m. map-once (λ (j : ℕ). bitMove i j 0) (ray (empty b) d i) (λ x y e. ap (λ (u : BitMove). u .to) e) (ray-once (empty b) d (empty-lt b) i))
-      (λ d c z m n p q. meet d c z (of-map (λ (j : ℕ). bitMove i j 0) (ray (empty b) d i) p) (of-map (λ (j : ℕ). bitMove i j 0) (ray (empty b) c i) q))
+      (λ d c z m n p q. meet d c z (of-map (λ (j : ℕ). bitMove i j 0) (ray (empty b) d i) p)
+          (of-map (λ (j : ℕ). bitMove i j 0) (ray (empty b) c i) q))
     where
-      meet : (d c : Direction) (z : BitMove) → (j : ℕ) × Member j (ray (empty b) d i) × (z ≡ bitMove i j 0) → (k : ℕ) × Member k (ray (empty b) c i) × (z ≡ bitMove i k 0) → d ≡ c
+      meet : (d c : Direction) (z : BitMove) → (j : ℕ) × Member j (ray (empty b) d i) × (z ≡ bitMove i j 0)
+          → (k : ℕ) × Member k (ray (empty b) c i) × (z ≡ bitMove i k 0) → d ≡ c
       meet d c z r s =
           let e : s .0 ≡ r .0 = ap (λ (u : BitMove). u .to) (sym (s .2) ∙ r .2) in
           rays-apart d c i (r .0) (own-on b fair i h) (flown d i (r .0) (r .1)) (subst (λ j. Member j (ray all c i)) e (flown c i (s .0) (s .1)))
@@ -90,7 +93,8 @@ module _ (b : Board) (fair : Fair b) where
       (λ z m n.
       let r = of-concatMap (manSteps b) (forward (b .side)) m in
       let s = of-concatMap (kingFlights b) (members (pieces b King)) n in
-      man-not-king b fair (z .from) (of-steps (r .0) z (r .2) .leaves) (ap (has (pieces b King)) (of-flights (s .0) z (s .2)) ∙ piece-in King (s .0) (s .1)))
+      man-not-king b fair (z .from) (of-steps (r .0) z (r .2) .leaves)
+          (ap (has (pieces b King)) (of-flights (s .0) z (s .2)) ∙ piece-in King (s .0) (s .1)))
 
   -- the law
   pub bits-once : Distinct (bitLegal b)

@@ -9,12 +9,12 @@ use Rattle.squares.specs.declared.piece.PieceKind.{PieceKind}
 use Rattle.squares.specs.Sets.{has, size, without}
 use Rattle.squares.proofs.Pointwise.{member-lt}
 use Rattle.squares.proofs.Sizes.{size-zero, size-bit, size-add, size-most}
-use Rattle.rules.proofs.Tree.{From, stop, jump, from-on}
+use Rattle.rules.proofs.Tree.{From, stop, jump, from-then}
 use Rattle.positions.specs.Boards.{Board, own, enemy, pieces}
+use Rattle.rules.proofs.Boards.{enemy-lt, piece-own}
 use Rattle.rules.specs.Ordered.{hop, jumps, enough, count}
 use Rattle.rules.specs.Rules.{BitMove, bitMove, Jump, Sequence, first, then, Capture, Fair}
-use Rattle.rules.proofs.Boards.{enemy-lt, piece-own}
-use Rattle.rules.proofs.Jumps.{of-jumps, jump-target, in-jumps, Good, remaining}
+use Rattle.rules.proofs.Jumps.{of-jumps, jump-target, Good, remaining, in-jumps}
 
 -- the piece that began on f stands on a square and has taken a set, after no jump or more
 pub data Path (b : Board) (k : PieceKind) (f : ℕ) : ℕ → ℕ → Type 0 where
@@ -42,15 +42,17 @@ module _ (b : Board) (fair : Fair b) where
   pub to-from : {k : PieceKind} {f i t : ℕ} → has (own b) f ≡ true → Path b k f i t → From (jumps b k) (bitMove f f 0) (bitMove f i t)
   unfolding hop
   to-from p begin = stop
-  to-from p (onward s j) = from-on (jumps b _) (to-from p s) (in-jumps b fair p j)
+  to-from p (onward s j) = from-then (jumps b _) (to-from p s) (in-jumps b fair p j)
 
-  pub of-from : {k : PieceKind} {x z : BitMove} → From (jumps b k) x z → (f : ℕ) → x .from ≡ f → Path b k f (x .to) (x .taken) → (z .from ≡ f) × Path b k f (z .to) (z .taken)
+  pub of-from : {k : PieceKind} {x z : BitMove} → From (jumps b k) x z → (f : ℕ) → x .from ≡ f → Path b k f (x .to) (x .taken)
+      → (z .from ≡ f) × Path b k f (z .to) (z .taken)
   unfolding hop
   of-from stop f p s = (p, s)
   of-from {k} (jump {x = x} {y = y} m r) f p s =
       let j = of-jumps b k x y m in
       of-from r f (ap (λ (w : BitMove). w .from) (j .is) ∙ p)
-      (subst (λ w. Path b k f (w .to) (w .taken)) (sym (j .is)) (onward s (subst (λ u. Jump b u (x .taken) (x .to) k (j .over) (j .land)) p (j .jump))))
+      (subst (λ w. Path b k f (w .to) (w .taken)) (sym (j .is))
+          (onward s (subst (λ u. Jump b u (x .taken) (x .to) k (j .over) (j .land)) p (j .jump))))
 
   pub starts : (k : PieceKind) (i : ℕ) → has (pieces b k) i ≡ true → Good b (bitMove i i 0)
   starts k i h = record { own = piece-own b fair k i h; small = lit< tt }

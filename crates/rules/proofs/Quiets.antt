@@ -44,16 +44,19 @@ module _ (b : Board) (fair : Fair b) where
     where
       go : Member m (concatMap (manSteps b) (forward (b .side))) ⊎ Member m (concatMap (kingFlights b) (members (pieces b King))) → Quiet b m
       go (inl k) = let r = of-concatMap (manSteps b) (forward (b .side)) k in of-manSteps (r .0) m (r .1) (r .2)
-      go (inr k) = let r = of-concatMap (kingFlights b) (members (pieces b King)) k in of-kingFlights (r .0) m (of-members (pieces b King) (r .0) (r .1)) (r .2)
+      go (inr k) = let r = of-concatMap (kingFlights b) (members (pieces b King)) k in
+          of-kingFlights (r .0) m (of-members (pieces b King) (r .0) (r .1)) (r .2)
 
   pub in-quiets : {m : BitMove} → Quiet b m → Member m (quiets b)
   unfolding quiets manSteps kingFlights
   in-quiets (manStep {i = i} d p f e) =
-      in-left _ (in-concatMap (manSteps b) f (in-map (λ (i : ℕ). bitMove i (next d i) 0) (in-keep (λ i. has (empty b) (next d i)) (piece-member b fair Man i p) e)))
+      in-left _ (in-concatMap (manSteps b) f (in-map (λ (i : ℕ). bitMove i (next d i) 0)
+          (in-keep (λ i. has (empty b) (next d i)) (piece-member b fair Man i p) e)))
   in-quiets (kingFlight {i = i} {j = j} d p f) =
       in-right (concatMap (manSteps b) (forward (b .side)))
       (in-concatMap (kingFlights b) (piece-member b fair King i p)
-      (in-concatMap (λ d. map (λ (j : ℕ). bitMove i j 0) (ray (empty b) d i)) (all-directions d) (in-map (λ (j : ℕ). bitMove i j 0) (in-ray (empty b) d (empty-lt b) i j f))))
+      (in-concatMap (λ d. map (λ (j : ℕ). bitMove i j 0) (ray (empty b) d i)) (all-directions d)
+          (in-map (λ (j : ℕ). bitMove i j 0) (in-ray (empty b) d (empty-lt b) i j f))))
 
   -- the list of quiet moves is empty exactly where there is none
   pub no-quiet : (quiets b ≡ []) ↔ ((w : BitMove) → Quiet b w → ⊥)

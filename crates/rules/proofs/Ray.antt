@@ -64,7 +64,8 @@ module _ (e : ℕ) (d : Direction) where
   of-ahead zero i j m = absurd (not-nil m)
   of-ahead (suc n) i j m = go (λ h. of-ahead n (next d i) j h) (has e (next d i)) refl
     where
-      on : has e (next d i) ≡ true → (Member j (ahead n e d (next d i)) → Flight e d (next d i) j) → (j ≡ next d i) ⊎ Member j (ahead n e d (next d i)) → Flight e d i j
+      on : has e (next d i) ≡ true → (Member j (ahead n e d (next d i)) → Flight e d (next d i) j)
+          → (j ≡ next d i) ⊎ Member j (ahead n e d (next d i)) → Flight e d i j
       on q ih (inl p) = record { near = q; far = subst (λ z. Glide e d (next d i) z) (sym p) rest }
       on q ih (inr h) = let f = ih h in record { near = q; far = step (f .near) (f .far) }
 
@@ -77,7 +78,8 @@ module _ (e : ℕ) (d : Direction) where
   last-ahead zero i = rest
   last-ahead (suc n) i = go (last-ahead n (next d i)) (has e (next d i)) refl
     where
-      go : Glide e d (next d i) (last (next d i) (ahead n e d (next d i))) → (b : Bool) → has e (next d i) ≡ b → Glide e d i (last i (ahead (suc n) e d i))
+      go : Glide e d (next d i) (last (next d i) (ahead n e d (next d i))) → (b : Bool) → has e (next d i) ≡ b
+          → Glide e d i (last i (ahead (suc n) e d i))
       go ih true q = rw (ahead-on n i q) (step q ih)
       go ih false q = rw (ahead-end (suc n) i q) rest
 

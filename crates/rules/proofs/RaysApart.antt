@@ -25,7 +25,8 @@ ahead-once e d small zero i = nil
 ahead-once e d small (suc n) i = go (ahead-once e d small n (next d i)) (has e (next d i)) refl
   where
     go : Distinct (ahead n e d (next d i)) → (b : Bool) → has e (next d i) ≡ b → Distinct (ahead (suc n) e d i)
-    go k true q = rw (ahead-on e d n i q) (cons (λ m. flight-off e d small (next d i) (next d i) (member-lt 54 e (next d i) small q) (of-ahead e d n (next d i) (next d i) m) refl) k)
+    go k true q = rw (ahead-on e d n i q) (cons
+        (λ m. flight-off e d small (next d i) (next d i) (member-lt 54 e (next d i) small q) (of-ahead e d n (next d i) (next d i) m) refl) k)
     go k false q = rw (ahead-end e d (suc n) i q) nil
 
 pub ray-once : (e : ℕ) (d : Direction) → e < 2 ^ 54 → (i : ℕ) → Distinct (ray e d i)

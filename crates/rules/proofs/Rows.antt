@@ -14,7 +14,8 @@ use Rattle.rules.specs.Computed.{computed}
 abbrev pub start : Board
 start = board (run 31 20) (run 1 20) 0 White
 
-pub p1 : legal start ≡ move 31 26 0 ∷ move 32 27 0 ∷ move 33 28 0 ∷ move 34 29 0 ∷ move 35 30 0 ∷ move 31 27 0 ∷ move 32 28 0 ∷ move 33 29 0 ∷ move 34 30 0 ∷ []
+pub p1 : legal start ≡ move 31 26 0 ∷ move 32 27 0 ∷ move 33 28 0 ∷ move 34 29 0 ∷ move 35 30 0 ∷ move 31 27 0 ∷ move 32 28 0 ∷ move 33 29 0 ∷ move 34
+    30 0 ∷ []
 unfolding computed
 p1 = refl
 
@@ -34,13 +35,15 @@ unfolding computed
 p8 = refl
 
 -- P9: one move, 28x28, four taken, found on two routes
-pub p9 : legal (board (single 28) (single 12 + single 13 + single 22 + single 23) 0 White) ≡ move 28 28 (single 12 + single 13 + single 22 + single 23) ∷ []
+pub p9 : legal (board (single 28) (single 12 + single 13 + single 22 + single 23) 0 White) ≡ move 28 28
+    (single 12 + single 13 + single 22 + single 23) ∷ []
 unfolding computed
 p9 = refl
 
 -- P10: 7 moves
 pub p10 : legal (board (single 46) (single 37) (single 46) White)
-    ≡ move 46 32 (single 37) ∷ move 46 28 (single 37) ∷ move 46 23 (single 37) ∷ move 46 19 (single 37) ∷ move 46 14 (single 37) ∷ move 46 10 (single 37) ∷ move 46 5 (single 37) ∷ []
+    ≡ move 46 32 (single 37) ∷ move 46 28 (single 37) ∷ move 46 23 (single 37) ∷ move 46 19 (single 37) ∷ move 46 14 (single 37) ∷ move 46 10
+        (single 37) ∷ move 46 5 (single 37) ∷ []
 unfolding computed
 p10 = refl
 
@@ -64,7 +67,8 @@ unfolding computed
 king-longer = refl
 
 -- B:W22,27,K44:B17,K7,11: a man's capture, as a king stays quiet
-pub black-takes : legal (board (single 22 + single 27 + single 44) (single 17 + single 7 + single 11) (single 44 + single 7) Black) ≡ move 17 28 (single 22) ∷ []
+pub black-takes : legal (board (single 22 + single 27 + single 44) (single 17 + single 7 + single 11) (single 44 + single 7) Black) ≡ move 17 28
+    (single 22) ∷ []
 unfolding computed
 black-takes = refl
 

@@ -14,7 +14,8 @@ use Rattle.rules.proofs.Held.{contains-member, member-contains}
 
 pub bits-refl : (m : BitMove) → sameBits m m ≡ true
 unfolding sameBits
-bits-refl m = ap₂ (λ (x y : Bool). x && y) (eq-eqb (m .from) (m .from) refl) (ap₂ (λ (x y : Bool). x && y) (eq-eqb (m .to) (m .to) refl) (eq-eqb (m .taken) (m .taken) refl))
+bits-refl m = ap₂ (λ (x y : Bool). x && y) (eq-eqb (m .from) (m .from) refl)
+    (ap₂ (λ (x y : Bool). x && y) (eq-eqb (m .to) (m .to) refl) (eq-eqb (m .taken) (m .taken) refl))
 
 pub bits-true : (m n : BitMove) → sameBits m n ≡ true → m ≡ n
 unfolding sameBits

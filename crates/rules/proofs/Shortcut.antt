@@ -141,7 +141,8 @@ module _ (b : Board) (fair : Fair b) where
     none-back : (j : ℕ) → Flight (space b (x .from)) d o j → along (hop x o j) (opposite d) ≡ []
     unfolding jumpsAlong hop blocker target
     none-back j f =
-        over-no b (hop x o j) (next (opposite d) (last j (ray e (opposite d) j))) (ray e (opposite d) (next (opposite d) (last j (ray e (opposite d) j))))
+        over-no b (hop x o j) (next (opposite d) (last j (ray e (opposite d) j)))
+            (ray e (opposite d) (next (opposite d) (last j (ray e (opposite d) j))))
         (ap (λ (i : ℕ). target b (bitOr (x .taken) (2 ^ o)) i) meets ∙ taken)
       where
         e : ℕ
@@ -157,23 +158,28 @@ module _ (b : Board) (fair : Fair b) where
         meets = ap (next (opposite d)) (last-is e (opposite d) small (glide-back e d (f .far) (next-lt d o) (f .near)) blocked) ∙ back-at
 
         taken : target b (bitOr (x .taken) (2 ^ o)) o ≡ false
-        taken = ap (λ (c : Bool). has (enemy b) o && not c) (has-or (x .taken) (2 ^ o) o ∙ ap (λ (c : Bool). has (x .taken) o || c) (has-bit o o ∙ eq-eqb o o refl) ∙ or-true (has (x .taken) o)) ∙ and-false (has (enemy b) o)
+        taken = ap (λ (c : Bool). has (enemy b) o && not c)
+            (has-or (x .taken) (2 ^ o) o ∙ ap (λ (c : Bool). has (x .taken) o || c) (has-bit o o ∙ eq-eqb o o refl) ∙ or-true (has (x .taken) o))
+            ∙ and-false (has (enemy b) o)
 
     -- straight on, every landing finds the same
     same-on : (j : ℕ) → Flight (space b (x .from)) d o j → along (hop x o j) d ≡ along (hop x o (next d o)) d
     unfolding jumpsAlong hop blocker jumpsOver
     same-on j f =
-        ap (λ (p : ℕ). jumpsOver b (hop x o j) (next d p) (ray (space b (x .from)) d (next d p))) (sym (glide-last (space b (x .from)) d small (f .far)))
+        ap (λ (p : ℕ). jumpsOver b (hop x o j) (next d p) (ray (space b (x .from)) d (next d p)))
+            (sym (glide-last (space b (x .from)) d small (f .far)))
 
   abbrev Dir : Direction → Type 0
   Dir d = Member d directions
 
-  first-none : (x l : BitMove) (ls : List BitMove) (d e : Direction) → Good b x → Dir d → Dir e → along x d ≡ l ∷ ls → back d e ≡ true → along l e ≡ []
+  first-none : (x l : BitMove) (ls : List BitMove) (d e : Direction) → Good b x → Dir d → Dir e → along x d ≡ l ∷ ls → back d e ≡ true
+      → along l e ≡ []
   first-none x l ls d e g m n q p =
       let s = shape x l ls d q in
       ap₂ (λ (k : BitMove) (c : Direction). along k c) (s .first) (back-is d e p) ∙ none-back x g d (s .o) (s .aim) (s .j) (s .near)
 
-  later-same : (x l k : BitMove) (ls : List BitMove) (d e : Direction) → Good b x → Dir d → Dir e → along x d ≡ l ∷ ls → Member k ls → aside d e ≡ true → along k e ≡ along l e
+  later-same : (x l k : BitMove) (ls : List BitMove) (d e : Direction) → Good b x → Dir d → Dir e → along x d ≡ l ∷ ls → Member k ls
+      → aside d e ≡ true → along k e ≡ along l e
   later-same x l k ls d e g m n q h p = go (shape x l ls d q) (aside-is d e p)
     where
       go : Shape x l ls d → (e ≡ d) ⊎ (e ≡ opposite d) → along k e ≡ along l e
@@ -187,10 +193,12 @@ module _ (b : Board) (fair : Fair b) where
           ∙ sym (ap₂ (λ (k : BitMove) (c : Direction). along k c) (s .first) c ∙ none-back x g d (s .o) (s .aim) (s .j) (s .near))
 
   -- the law for one king: what is found is the same, in the same order, whatever was found before
-  pub king-law : (i : ℕ) → has (pieces b King) i ≡ true → (s : Found BitMove) → foldl (note sameBits count) s (kingTried b i) ≡ foldl (note sameBits count) s (sequences b King i)
+  pub king-law : (i : ℕ) → has (pieces b King) i ≡ true → (s : Found BitMove)
+      → foldl (note sameBits count) s (kingTried b i) ≡ foldl (note sameBits count) s (sequences b King i)
   unfolding kingTried sequences jumps
   king-law i h s =
-      cut-start directions (jumpsAlong b King) back aside sameBits bits-refl bits-true count (Good b) (good b fair King) (grows b fair King) first-none later-same
+      cut-start directions (jumpsAlong b King) back aside sameBits bits-refl bits-true count (Good b) (good b fair King)
+          (grows b fair King) first-none later-same
       enough (bitMove i i 0) s (starts b fair King i h)
 
   kings : (is : List ℕ) → ((i : ℕ) → Member i is → has (pieces b King) i ≡ true) → (s : Found BitMove)
@@ -218,5 +226,6 @@ module _ (b : Board) (fair : Fair b) where
   pub search-law : (room : ℕ) → 0 < room → foldl (noteIn sameBits count room) (bounded 0 [] false) (allTried b)
       ≡ bounded (best count (captures b)) (take room (longest sameBits count (captures b))) (ltb room (length (longest sameBits count (captures b))))
   search-law room some =
-      ap₂ (λ (r : List BitMove) (o : Bool). foldl (noteIn sameBits count room) (bounded 0 r o) (allTried b)) (sym (take-all {A = BitMove} room [] (omega arith))) (sym (le-ltb room 0 (omega arith)))
+      ap₂ (λ (r : List BitMove) (o : Bool). foldl (noteIn sameBits count room) (bounded 0 r o) (allTried b))
+          (sym (take-all {A = BitMove} room [] (omega arith))) (sym (le-ltb room 0 (omega arith)))
       ∙ fold-seen sameBits count room bits-refl bits-true some (allTried b) (found 0 []) ∙ ap (view room) tried-law

@@ -66,20 +66,24 @@ module _ (d : Direction) (s e : ℕ) (hs : s < 2 ^ 54) (he : e < 2 ^ 54) where
       rising-ext 0 _ _ (members-rising (bitAnd (shifted d s) e))
       (rising-map (next d) 0 _ (keep-rising (λ i. has e (next d i)) 0 (members s) (members-rising s)) 0 (λ x m. omega arith) mono) left-in right-in
     where
-      mono : (x y : ℕ) → Member x (keep (λ i. has e (next d i)) (members s)) → Member y (keep (λ i. has e (next d i)) (members s)) → x < y → next d x < next d y
+      mono : (x y : ℕ) → Member x (keep (λ i. has e (next d i)) (members s)) → Member y (keep (λ i. has e (next d i)) (members s)) → x < y
+          → next d x < next d y
       mono x y m n l =
           let p = of-keep (λ i. has e (next d i)) (members s) m in
           let q = of-keep (λ i. has e (next d i)) (members s) n in
           next-mono d x y (member-lt 54 s y hs (of-members s y (q .0))) (member-lt 54 e (next d x) he (p .1)) (member-lt 54 e (next d y) he (q .1)) l
 
 -- the moves that the code pushes for a direction
-map-back : (d : Direction) (xs : List ℕ) → ((i : ℕ) → Member i xs → i < 64) → map (λ (z : ℕ). bitMove (next (opposite d) z) z 0) (map (next d) xs) ≡ map (λ (i : ℕ). bitMove i (next d i) 0) xs
+map-back : (d : Direction) (xs : List ℕ) → ((i : ℕ) → Member i xs → i < 64)
+    → map (λ (z : ℕ). bitMove (next (opposite d) z) z 0) (map (next d) xs) ≡ map (λ (i : ℕ). bitMove i (next d i) 0) xs
 map-back d [] h = refl
-map-back d (i ∷ xs) h = ap₂ (λ (u : ℕ) (l : List BitMove). bitMove u (next d i) 0 ∷ l) (next-back d i (h i (head refl))) (map-back d xs (λ j m. h j (tail m)))
+map-back d (i ∷ xs) h = ap₂ (λ (u : ℕ) (l : List BitMove). bitMove u (next d i) 0 ∷ l) (next-back d i (h i (head refl)))
+    (map-back d xs (λ j m. h j (tail m)))
 
 pub man-steps-code : (b : Board) → Fair b → (d : Direction)
     → map (λ (z : ℕ). bitMove (next (opposite d) z) z 0) (members (bitAnd (shifted d (pieces b Man)) (empty b))) ≡ manSteps b d
 unfolding manSteps
 man-steps-code b fair d =
     ap (map (λ (z : ℕ). bitMove (next (opposite d) z) z 0)) (shifted-members d (pieces b Man) (empty b) (men-lt b fair) (empty-lt b))
-    ∙ map-back d _ (λ i m. omega (arith, member-lt 54 (pieces b Man) i (men-lt b fair) (of-members (pieces b Man) i (of-keep (λ i. has (empty b) (next d i)) (members (pieces b Man)) m .0))))
+    ∙ map-back d _ (λ i m. omega (arith, member-lt 54 (pieces b Man) i (men-lt b fair)
+        (of-members (pieces b Man) i (of-keep (λ i. has (empty b) (next d i)) (members (pieces b Man)) m .0))))

@@ -32,4 +32,5 @@ p7-told = told (board (single 28) (single 13 + single 22 + single 23) 0 White) (
 pub p9-told : (m : Move) → Legal (board (single 28) (single 12 + single 13 + single 22 + single 23) 0 White) m
     ↔ Member m (move 28 28 (single 12 + single 13 + single 22 + single 23) ∷ [])
 unfolding computed
-p9-told = told (board (single 28) (single 12 + single 13 + single 22 + single 23) 0 White) (move 28 28 (single 12 + single 13 + single 22 + single 23) ∷ []) refl p9
+p9-told = told (board (single 28) (single 12 + single 13 + single 22 + single 23) 0 White)
+    (move 28 28 (single 12 + single 13 + single 22 + single 23) ∷ []) refl p9

@@ -32,9 +32,9 @@ module _ {A : Type 0} (jumps : A → List A) where
     stop : {x : A} → From x x
     jump : {x y z : A} → Member y (jumps x) → From y z → From x z
 
-  pub from-on : {x y z : A} → From x y → Member z (jumps y) → From x z
-  from-on stop m = jump m stop
-  from-on (jump h r) m = jump h (from-on r m)
+  pub from-then : {x y z : A} → From x y → Member z (jumps y) → From x z
+  from-then stop m = jump m stop
+  from-then (jump h r) m = jump h (from-then r m)
 
   pub some-followed : (n : ℕ) (x : A) → (w : A) × Member w (followed jumps n x)
   unfolding followed
@@ -103,7 +103,8 @@ module _ {A D : Type 0} (dirs : List D) (rays : A → D → List A) (first later
   pruned zero skip x = x ∷ []
   pruned (suc n) skip x = orEnd x (concatMap (λ d. tried (pruned n (first d)) (pruned n (later d)) (rays x d) (skip d)) dirs)
 
-  of-tried : (f g : A → List A) (ls : List A) (c : Bool) (z : A) → Member z (tried f g ls c) → (y : A) × Member y ls × (Member z (f y) ⊎ Member z (g y))
+  of-tried : (f g : A → List A) (ls : List A) (c : Bool) (z : A) → Member z (tried f g ls c)
+      → (y : A) × Member y ls × (Member z (f y) ⊎ Member z (g y))
   unfolding tried
   of-tried f g ls true z m = absurd (not-nil m)
   of-tried f g [] false z m = absurd (not-nil m)
@@ -118,7 +119,8 @@ module _ {A D : Type 0} (dirs : List D) (rays : A → D → List A) (first later
   pruned-sound zero skip x z m = subst (λ y. From allJumps x y) (sym (singleton m)) stop
   pruned-sound (suc n) skip x z m = go (λ s y. pruned-sound n s y z) (of-orEnd x z _ m)
     where
-      either : ((s : D → Bool) (y : A) → Member z (pruned n s y) → From allJumps y z) → (d : D) (y : A) → Member z (pruned n (first d) y) ⊎ Member z (pruned n (later d) y) → From allJumps y z
+      either : ((s : D → Bool) (y : A) → Member z (pruned n s y) → From allJumps y z) → (d : D) (y : A)
+          → Member z (pruned n (first d) y) ⊎ Member z (pruned n (later d) y) → From allJumps y z
       either ih d y (inl h) = ih (first d) y h
       either ih d y (inr h) = ih (later d) y h
 
@@ -137,7 +139,8 @@ module _ {A D : Type 0} (dirs : List D) (rays : A → D → List A) (first later
       -- nothing is found in a direction that the first landing leaves out
       (first-none : (x l : A) (ls : List A) (d e : D) → Good x → Member d dirs → Member e dirs → rays x d ≡ l ∷ ls → first d e ≡ true → rays l e ≡ [])
       -- in a direction that a later landing leaves out it finds what the first finds
-      (later-same : (x l k : A) (ls : List A) (d e : D) → Good x → Member d dirs → Member e dirs → rays x d ≡ l ∷ ls → Member k ls → later d e ≡ true → rays k e ≡ rays l e) where
+      (later-same : (x l k : A) (ls : List A) (d e : D) → Good x → Member d dirs → Member e dirs → rays x d ≡ l ∷ ls → Member k ls → later d e ≡ true
+          → rays k e ≡ rays l e) where
     abbrev Hold : Found A → A → Type 0
     Hold s x = Held size s x
 
@@ -182,7 +185,8 @@ module _ {A D : Type 0} (dirs : List D) (rays : A → D → List A) (first later
     unfolding concatMap
     landings n ih x l ls d s g m q =
         foldl-append (note same size) s (pruned n (first d) l) (concatMap (pruned n (later d)) ls)
-        ∙ ap (λ (t : Found A). run t (concatMap (pruned n (later d)) ls)) (ih (first d) l s (good x l g (along l (head refl))) (covered-first n x l ls d s g m q))
+        ∙ ap (λ (t : Found A). run t (concatMap (pruned n (later d)) ls))
+            (ih (first d) l s (good x l g (along l (head refl))) (covered-first n x l ls d s g m q))
         ∙ rest ls (λ k h. h) (run s (full n l)) (λ z k. fold-held same same-refl same-true size (full n l) s z k)
         ∙ sym (foldl-append (note same size) s (full n l) (concatMap (full n) ls))
       where
@@ -204,19 +208,22 @@ module _ {A D : Type 0} (dirs : List D) (rays : A → D → List A) (first later
     unfolding tried concatMap
     direction n ih skip x d s g m c = go (skip d) (rays x d) refl refl
       where
-        go : (b : Bool) (ls : List A) → skip d ≡ b → rays x d ≡ ls → run s (tried (pruned n (first d)) (pruned n (later d)) ls b) ≡ run s (concatMap (full n) ls)
+        go : (b : Bool) (ls : List A) → skip d ≡ b → rays x d ≡ ls
+            → run s (tried (pruned n (first d)) (pruned n (later d)) ls b) ≡ run s (concatMap (full n) ls)
         go true ls e q = sym (absorb same same-refl same-true size (concatMap (full n) ls) s (λ z k. c d m e z (rw q k)))
         go false [] e q = refl
         go false (l ∷ ls) e q = landings n ih x l ls d s g m q
 
-    directions : (n : ℕ) → Cut n → (skip : D → Bool) (x : A) → Good x → (ds : List D) → ((d : D) → Member d ds → Member d dirs) → (s : Found A) → Covered (suc n) skip s x
+    directions : (n : ℕ) → Cut n → (skip : D → Bool) (x : A) → Good x → (ds : List D) → ((d : D) → Member d ds → Member d dirs) → (s : Found A)
+        → Covered (suc n) skip s x
         → run s (concatMap (branch n skip x) ds) ≡ run s (concatMap (λ d. concatMap (full n) (rays x d)) ds)
     unfolding concatMap
     directions n ih skip x g [] f s c = refl
     directions n ih skip x g (d ∷ ds) f s c =
         foldl-append (note same size) s (branch n skip x d) (concatMap (branch n skip x) ds)
         ∙ ap (λ (t : Found A). run t (concatMap (branch n skip x) ds)) (direction n ih skip x d s g (f d (head refl)) c)
-        ∙ directions n ih skip x g ds (λ e m. f e (tail m)) (run s (concatMap (full n) (rays x d))) (covered-on (suc n) skip s x (concatMap (full n) (rays x d)) c)
+        ∙ directions n ih skip x g ds (λ e m. f e (tail m)) (run s (concatMap (full n) (rays x d)))
+            (covered-on (suc n) skip s x (concatMap (full n) (rays x d)) c)
         ∙ sym (foldl-append (note same size) s (concatMap (full n) (rays x d)) (concatMap (λ e. concatMap (full n) (rays x e)) ds))
 
     -- a direction that is tried and finds something is found by the full search too
@@ -224,7 +231,8 @@ module _ {A D : Type 0} (dirs : List D) (rays : A → D → List A) (first later
     unfolding tried concatMap
     seen n skip x z m = let r = of-concatMap (branch n skip x) dirs m in go (r .0) (r .1) (rays x (r .0)) (skip (r .0)) refl (r .2)
       where
-        go : (d : D) → Member d dirs → (ls : List A) (b : Bool) → rays x d ≡ ls → Member z (tried (pruned n (first d)) (pruned n (later d)) ls b) → (w : A) × Member w (concatMap (full n) (allJumps x))
+        go : (d : D) → Member d dirs → (ls : List A) (b : Bool) → rays x d ≡ ls → Member z (tried (pruned n (first d)) (pruned n (later d)) ls b)
+            → (w : A) × Member w (concatMap (full n) (allJumps x))
         go d h ls true q k = absurd (not-nil k)
         go d h [] false q k = absurd (not-nil k)
         go d h (l ∷ ls) false q k =
@@ -248,7 +256,8 @@ module _ {A D : Type 0} (dirs : List D) (rays : A → D → List A) (first later
     ends n x s g (y ∷ ys) [] e p f = absurd (not-nil (p y (head refl) .1))
     ends n x s g [] (u ∷ us) e p f =
         held-note same same-refl same-true size s x
-        (held-shorter same same-refl same-true size s u x (subst (λ t. Hold t u) (sym e) (fold-held same same-refl same-true size (u ∷ us) s u (head refl))) (f u (head refl)))
+        (held-shorter same same-refl same-true size s u x
+            (subst (λ t. Hold t u) (sym e) (fold-held same same-refl same-true size (u ∷ us) s u (head refl))) (f u (head refl)))
         ∙ e
 
     -- the law: leaving these out changes nothing that is found
