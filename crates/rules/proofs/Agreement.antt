@@ -48,7 +48,7 @@ module _ (b : Board) (fair : Fair b) where
       go [] e r = absurd (not-nil (rw e at (in-list r)))
       go (x ∷ xs) e r =
           rw (bits-some b x xs e) (in-longest sameBits bits-refl bits-true count (captures b) m
-              (record { among = in-list r; most = λ y k. most y (of-captures b fair y k) }))
+          (record { among = in-list r; most = λ y k. most y (of-captures b fair y k) }))
   bits-complete m (quiet none q) = rw (bits-none b (shut-law b fair .1 none)) (in-quiets b fair q)
 
   pub bits-law : (m : BitMove) → Member m (bitLegal b) ↔ BitLegal b m

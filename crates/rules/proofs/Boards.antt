@@ -19,24 +19,12 @@ use Rattle.squares.proofs.Bools.{and-left, and-right, not-so}
 use Rattle.squares.proofs.Members.{in-members}
 use Rattle.squares.proofs.Numbers.{all-lt, all-lt64, on-lt, has-all}
 use Rattle.squares.proofs.Pointwise.{has-and, has-or}
-use Rattle.positions.specs.Acceptance.{Accepted}
 use Rattle.positions.specs.Boards.{Board, colored, ofKind, own, enemy, pieces, empty}
 use Rattle.rules.specs.Rules.{space, Fair}
 use Rattle.rules.proofs.More.{of-without, of-or, of-bit}
 
 pub wide : (s : ℕ) → s < 2 ^ 54 → s < 2 ^ 64
 wide s h = omega arith
-
--- what acceptance asks is more
-pub fair-of-accepted : (b : Board) → Accepted b → Fair b
-fair-of-accepted b a = record {
-  whiteOn = a .whiteOn;
-  blackOn = a .blackOn;
-  apart = a .apart;
-  whiteFits = a .whiteFits;
-  blackFits = a .blackFits;
-  kingsFits = a .kingsFits;
-}
 
 pub empty-lt : (b : Board) → empty b < 2 ^ 54
 unfolding empty without
@@ -79,7 +67,7 @@ module _ (b : Board) (fair : Fair b) where
   unfolding empty
   of-empty i h =
       let r = of-without all (bitOr (b .white) (b .black)) all-lt64
-          (or-lt 64 (b .white) (b .black) (wide (b .white) (fair .whiteFits)) (wide (b .black) (fair .blackFits))) i h in
+      (or-lt 64 (b .white) (b .black) (wide (b .white) (fair .whiteFits)) (wide (b .black) (fair .blackFits))) i h in
       (sym (has-all i) ∙ r .0, r .1)
 
   pub empty-on : (i : ℕ) → has (empty b) i ≡ true → onBoard i ≡ true
@@ -92,9 +80,6 @@ module _ (b : Board) (fair : Fair b) where
   colored-free : (c : Color) (i : ℕ) → has (empty b) i ≡ true → has (colored c b) i ≡ false
   colored-free White i h = empty-free i h .0
   colored-free Black i h = empty-free i h .1
-
-  pub own-not-empty : (i : ℕ) → has (own b) i ≡ true → has (empty b) i ≡ false
-  own-not-empty i h = not-so (has (empty b) i) (λ e. false≢true (sym (colored-free (b .side) i e) ∙ h))
 
   pub enemy-not-empty : (i : ℕ) → has (enemy b) i ≡ true → has (empty b) i ≡ false
   enemy-not-empty i h = not-so (has (empty b) i) (λ e. false≢true (sym (colored-free (other (b .side)) i e) ∙ h))
@@ -111,13 +96,6 @@ module _ (b : Board) (fair : Fair b) where
       go : (has (empty b) i ≡ true) ⊎ (has (2 ^ f) i ≡ true) → (has (empty b) i ≡ true) ⊎ (i ≡ f)
       go (inl e) = inl e
       go (inr e) = inr (of-bit f i e)
-
-  pub space-on : (f i : ℕ) → has (own b) f ≡ true → has (space b f) i ≡ true → onBoard i ≡ true
-  space-on f i p h = go (of-space f i h)
-    where
-      go : (has (empty b) i ≡ true) ⊎ (i ≡ f) → onBoard i ≡ true
-      go (inl e) = empty-on i e
-      go (inr e) = own-on i (ap (has (own b)) e ∙ p)
 
   -- an enemy blocks, taken or not
   pub enemy-blocks : (f i : ℕ) → has (own b) f ≡ true → has (enemy b) i ≡ true → has (space b f) i ≡ false

@@ -50,14 +50,14 @@ module _ {A : Type 0} (same : A → A → Bool) (size : A → ℕ) (room : ℕ) 
 
   in-there : (s : Bounded A) (x : A) → 0 < size x → size x ≡ s .most → contains same (s .list) x ≡ true → noteIn s x ≡ s
   unfolding noteIn
-  in-there s x p h c = rw (ne-eqb (size x) 0 (λ e. omega arith), le-ltb (size x) (s .most) (omega arith), le-ltb (s .most) (size x) (omega arith), c)
-      refl
+  in-there s x p h c =
+      rw (ne-eqb (size x) 0 (λ e. omega arith), le-ltb (size x) (s .most) (omega arith), le-ltb (s .most) (size x) (omega arith), c) refl
 
   in-new : (s : Bounded A) (x : A) → 0 < size x → size x ≡ s .most → contains same (s .list) x ≡ false
       → noteIn s x ≡ bounded (s .most) (push (s .list) x) (s .over || leb room (length (s .list)))
   unfolding noteIn
-  in-new s x p h c = rw (ne-eqb (size x) 0 (λ e. omega arith), le-ltb (size x) (s .most) (omega arith), le-ltb (s .most) (size x) (omega arith), c)
-      refl
+  in-new s x p h c =
+      rw (ne-eqb (size x) 0 (λ e. omega arith), le-ltb (size x) (s .most) (omega arith), le-ltb (s .most) (size x) (omega arith), c) refl
 
   module _ (same-refl : (x : A) → same x x ≡ true) (same-true : (x y : A) → same x y ≡ true → x ≡ y) (some : 0 < room) where
     in-whole : (l : List A) (x : A) → Member x (take room l) → Member x l
@@ -72,15 +72,15 @@ module _ {A : Type 0} (same : A → A → Bool) (size : A → ℕ) (room : ℕ) 
 
         fits : contains same (take room l) x ≡ false → length l < room → Adds same same-refl same-true l x → add same l x ≡ l ++ (x ∷ [])
         fits c h (new n e) = e
-        fits c h (there m e) = absurd (false≢true
-            (sym c ∙ ap (λ (r : List A). contains same r x) (take-all room l (omega arith)) ∙ member-contains same same-refl same-true l x m))
+        fits c h (there m e) =
+            absurd (false≢true (sym c ∙ ap (λ (r : List A). contains same r x) (take-all room l (omega arith)) ∙ member-contains same same-refl same-true l x m))
 
         full : contains same (take room l) x ≡ false → room ≤ length l → Adds same same-refl same-true l x
             → view room (found k (add same l x)) ≡ bounded k (take room l) true
         full c h (new n e) =
             ap (λ (r : List A). view room (found k r)) e
             ∙ ap₂ (λ (r : List A) (o : Bool). bounded k r o) (take-append-le room l (x ∷ []) h)
-                (lt-ltb room (length (l ++ (x ∷ []))) (omega (arith, length-append l (x ∷ []))))
+            (lt-ltb room (length (l ++ (x ∷ []))) (omega (arith, length-append l (x ∷ []))))
         full c h (there m e) =
             ap (λ (r : List A). view room (found k r)) e ∙ ap (λ (o : Bool). bounded k (take room l) o) (over (ltb room (length l)) refl)
           where
@@ -97,11 +97,11 @@ module _ {A : Type 0} (same : A → A → Bool) (size : A → ℕ) (room : ℕ) 
             let w : take room l ≡ l = take-all room l (omega arith) in
             ap (λ (r : List A). view room (found k r)) (fits c h a)
             ∙ ap₂ (λ (r : List A) (o : Bool). bounded k r o) (take-all room (l ++ (x ∷ [])) (omega (arith, length-append l (x ∷ []))))
-                (le-ltb room (length (l ++ (x ∷ []))) (omega (arith, length-append l (x ∷ []))))
+            (le-ltb room (length (l ++ (x ∷ []))) (omega (arith, length-append l (x ∷ []))))
             ∙ sym (in-new (view room (found k l)) x p q c
             ∙ ap (λ (r : List A). bounded k (push r x) (ltb room (length l) || leb room (length r))) w
             ∙ ap₂ (λ (b o : Bool). bounded k (cond b (l ++ (x ∷ [])) l) o) e
-                (ap₂ (λ (s t : Bool). s || t) (le-ltb room (length l) (omega arith)) (lt-leb room (length l) h)))
+            (ap₂ (λ (s t : Bool). s || t) (le-ltb room (length l) (omega arith)) (lt-leb room (length l) h)))
         go false c a false e =
             let h = ltb-false (length l) room e in
             let n : length (take room l) ≡ room = omega (arith, length-take room l) in
@@ -132,5 +132,5 @@ module _ {A : Type 0} (same : A → A → Bool) (size : A → ℕ) (room : ℕ) 
         foldl noteIn (bounded 0 [] false) xs ≡ bounded (best size (keep (takes size) xs)) (take room l) (ltb room (length l))
     bounded-law xs =
         ap₂ (λ (r : List A) (o : Bool). foldl noteIn (bounded 0 r o) xs) (sym (take-all {A = A} room [] (omega arith)))
-            (sym (le-ltb room 0 (omega arith)))
+        (sym (le-ltb room 0 (omega arith)))
         ∙ fold-seen xs (found 0 []) ∙ ap (view room) (fold-law same size xs)

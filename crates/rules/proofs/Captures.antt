@@ -10,14 +10,13 @@ use borrow.Author.Tests.{eqb-false, ne-eqb, not-true}
 use Rattle.squares.specs.declared.piece.PieceKind.{PieceKind}
 use Rattle.squares.specs.declared.piece.PieceKind.the-variants.{Man, King}
 use Rattle.squares.specs.Sets.{has, members}
-use Rattle.squares.proofs.Members.{of-members, in-members}
-use Rattle.squares.proofs.Pointwise.{member-lt}
+use Rattle.squares.proofs.Members.{of-members}
 use Rattle.rules.proofs.Tree.{sound, jump, complete}
-use Rattle.positions.specs.Boards.{Board, own, pieces}
+use Rattle.positions.specs.Boards.{Board, pieces}
+use Rattle.rules.proofs.Boards.{piece-own, piece-member}
 use Rattle.rules.specs.Lists.{concatMap, keep}
 use Rattle.rules.specs.Ordered.{jumps, enough, sequences, allSequences, count, captures}
 use Rattle.rules.specs.Rules.{BitMove, bitMove, Sequence, first, then, Capture, Open, NoJump, Fair}
-use Rattle.rules.proofs.Boards.{own-lt, piece-own}
 use Rattle.rules.proofs.Jumps.{Good, remaining, good, grows, falls}
 use Rattle.rules.proofs.Lists.{in-concatMap, of-concatMap, in-keep, of-keep}
 use Rattle.rules.proofs.Paths.{Path, begin, of-sequence, path-sequence, to-from, of-from, starts, fuel, capture-some}
@@ -71,8 +70,11 @@ module _ (b : Board) (fair : Fair b) where
   of-kind k m h =
       let r = of-concatMap (sequences b k) (members (pieces b k)) h in
       let s = of-sequences k (r .0) m (r .2) in
-      record { kind = k; piece = ap (has (pieces b k)) (s .0) ∙ of-members (pieces b k) (r .0) (r .1); path =
-          subst (λ u. Path b k u (m .to) (m .taken)) (sym (s .0)) (s .1) }
+      record {
+        kind = k;
+        piece = ap (has (pieces b k)) (s .0) ∙ of-members (pieces b k) (r .0) (r .1);
+        path = subst (λ u. Path b k u (m .to) (m .taken)) (sym (s .0)) (s .1);
+      }
 
   of-all : (m : BitMove) → Member m (allSequences b) → Any m
   unfolding allSequences
@@ -90,8 +92,7 @@ module _ (b : Board) (fair : Fair b) where
   in-all : (m : BitMove) (k : PieceKind) → has (pieces b k) (m .from) ≡ true → Path b k (m .from) (m .to) (m .taken) → Reached m (allSequences b)
   in-all m k h s =
       wider m (sequences b k (m .from)) (allSequences b)
-      (λ w i. kind-all k w (in-concatMap (sequences b k)
-          (in-members (pieces b k) (m .from) (omega (arith, member-lt 54 (own b) (m .from) (own-lt b fair) (piece-own b fair k (m .from) h))) h) i))
+      (λ w i. kind-all k w (in-concatMap (sequences b k) (piece-member b fair k (m .from) h) i))
       (in-sequences k m h s)
 
   pub of-captures : (m : BitMove) → Member m (captures b) → Capture b m

@@ -117,24 +117,24 @@ module _ {A : Type 0} (same : A → A → Bool) (size : A → ℕ) where
           let t = ltb-true (size x) B q in
           bring (max (size x) B) true _ (omega arith) (lt-ltb k (max (size x) B) (omega arith))
           (ap (λ (s : Found A). foldl note s xs) (note-more (found k l) x h) ∙ ih (size x) (x ∷ [])
-              ∙ ap (λ (c : Bool). upshot (max (size x) B) c (x ∷ []) xs) q ∙ skipped (max (size x) B) true l (λ e. omega arith))
+          ∙ ap (λ (c : Bool). upshot (max (size x) B) c (x ∷ []) xs) q ∙ skipped (max (size x) B) true l (λ e. omega arith))
       longer h false q =
           let t = ltb-false (size x) B q in
           bring (max (size x) B) true _ (omega arith) (lt-ltb k (max (size x) B) (omega arith))
           (ap (λ (s : Found A). foldl note s xs) (note-more (found k l) x h) ∙ ih (size x) (x ∷ [])
-              ∙ ap (λ (c : Bool). upshot (max (size x) B) c (x ∷ []) xs) q ∙ unfold add contains in taken (max (size x) B) [] (omega arith))
+          ∙ ap (λ (c : Bool). upshot (max (size x) B) c (x ∷ []) xs) q ∙ unfold add contains in taken (max (size x) B) [] (omega arith))
 
       level : size x ≡ k → (b : Bool) → ltb k B ≡ b → foldl note (note (found k l) x) xs ≡ upshot M (ltb k (max (size x) B)) l (x ∷ xs)
       level h true q =
           let t = ltb-true k B q in
           bring (max k B) true _ (omega arith) (lt-ltb k (max (size x) B) (omega arith))
           (ap (λ (s : Found A). foldl note s xs) (note-same (found k l) x p h) ∙ ih k (add same l x)
-              ∙ ap (λ (c : Bool). upshot (max k B) c (add same l x) xs) q ∙ skipped (max k B) true l (λ e. omega arith))
+          ∙ ap (λ (c : Bool). upshot (max k B) c (add same l x) xs) q ∙ skipped (max k B) true l (λ e. omega arith))
       level h false q =
           let t = ltb-false k B q in
           bring (max k B) false _ (omega arith) (le-ltb k (max (size x) B) (omega arith))
           (ap (λ (s : Found A). foldl note s xs) (note-same (found k l) x p h) ∙ ih k (add same l x)
-              ∙ ap (λ (c : Bool). upshot (max k B) c (add same l x) xs) q ∙ taken (max k B) l (omega arith))
+          ∙ ap (λ (c : Bool). upshot (max k B) c (add same l x) xs) q ∙ taken (max k B) l (omega arith))
 
       go : Case (found k l) x → foldl note (note (found k l) x) xs ≡ upshot M (ltb k (max (size x) B)) l (x ∷ xs)
       go (none e) = absurd (omega arith)
@@ -153,7 +153,7 @@ module _ {A : Type 0} (same : A → A → Bool) (size : A → ℕ) where
   unfolding longest distinct
   fold-longest xs h =
       fold-from xs h 0 [] ∙ ap (λ (m : ℕ). upshot m (ltb 0 (best size xs)) [] xs) (omega arith)
-          ∙ ap (λ (l : List A). found (best size xs) (foldl (add same) l (keep (λ x. eqb (size x) (best size xs)) xs))) (both (ltb 0 (best size xs)))
+      ∙ ap (λ (l : List A). found (best size xs) (foldl (add same) l (keep (λ x. eqb (size x) (best size xs)) xs))) (both (ltb 0 (best size xs)))
     where
       both : (c : Bool) → cond {A = List A} c [] [] ≡ []
       both true = refl

@@ -38,7 +38,7 @@ unfolding rowsBefore
 forward-row White d i m p q = eqb-true _ _ (sym (ap (λ (t : Bool). moved t (rowOf i) (rowOf (next d i))) (up-of White d m)) ∙ next-row d i p q)
 forward-row Black d i m p q =
     let e : rowOf (next d i) ≡ rowOf i + 1 = eqb-true _ _
-        (sym (ap (λ (t : Bool). moved t (rowOf i) (rowOf (next d i))) (up-of Black d m)) ∙ next-row d i p q) in
+    (sym (ap (λ (t : Bool). moved t (rowOf i) (rowOf (next d i))) (up-of Black d m)) ∙ next-row d i p q) in
     omega (arith, row-le (next d i) q)
 
 module _ (b : Board) (fair : Fair b) where

@@ -81,8 +81,12 @@ unfolding jumpsAlong blocker
 of-along b Man s m d h =
     let r = of-over b s m (next d (s .to)) (manLandings (space b (s .from)) (next d (next d (s .to)))) h in
     let q = of-manLandings (space b (s .from)) (next d (next d (s .to))) (r .1 .0) (r .1 .1) in
-    record { over = next d (s .to); land = next d (next d (s .to)); jump = manJump d (r .0) (q .0); is = r .1 .2
-        ∙ ap (hop s (next d (s .to))) (q .1) }
+    record {
+      over = next d (s .to);
+      land = next d (next d (s .to));
+      jump = manJump d (r .0) (q .0);
+      is = r .1 .2 ∙ ap (hop s (next d (s .to))) (q .1);
+    }
 of-along b King s m d h =
     let e = space b (s .from) in
     let o = blocker e d (s .to) in
@@ -113,7 +117,7 @@ module _ (b : Board) (fair : Fair b) where
   in-jumps {f} {t} {i} p (manJump d h e) =
       in-concatMap (jumpsAlong b Man (bitMove f i t)) (all-directions d)
       (in-over b (bitMove f i t) (next d i) (next d (next d i)) (manLandings (space b f) (next d (next d i))) h
-          (in-manLandings (space b f) (next d (next d i)) e))
+      (in-manLandings (space b f) (next d (next d i)) e))
   in-jumps {f} {t} {i} {l = l} p (kingJump d {p = q} g h e) =
       let small = space-lt b fair f (member-lt 54 (own b) f (own-lt b fair) p) in
       let at : last i (ray (space b f) d i) ≡ q = last-is (space b f) d small g (enemy-blocks b fair f (next d q) p (h .enemy)) in
@@ -141,4 +145,4 @@ module _ (b : Board) (fair : Fair b) where
     unfolding hop
     falls = subst (λ z. remaining b z < remaining b s) (sym (jumped .is))
         (size-falls (enemy b) (s .taken) (jumped .over) (wide (enemy b) (enemy-lt b fair)) (g .small) o-lt (jump-target (jumped .jump) .enemy)
-            (jump-target (jumped .jump) .untaken))
+        (jump-target (jumped .jump) .untaken))

@@ -1,5 +1,4 @@
--- The laws that crates above cite. A position that refusal 12 lets pass is accepted, and an accepted board is fair
--- (Boards.fair-of-accepted). `Legal` is the rule, `legal` the list; by the first law each of the others speaks of both.
+-- The laws that crates above cite. `Legal` is the rule, `legal` the list: by `listed-legal` each of the others speaks of both.
 use mathlib.Core.Path.{_≡_, refl, sym, ap, _∙_, subst}
 use Prim.Native.Nat.{ℕ, _+_, _≤_, _<_}
 use native.Mathlib.Omega.{arith}
@@ -16,6 +15,7 @@ use Rattle.squares.specs.Sets.{has, size}
 use Rattle.squares.specs.Squares.{bitOf}
 use Rattle.squares.proofs.Numbers.{bit-back}
 use Rattle.squares.proofs.Sizes.{size-zero}
+use Rattle.positions.specs.Acceptance.{Accepted}
 use Rattle.positions.specs.Boards.{Board, pieces}
 use Rattle.positions.specs.Measure.{rowsBefore}
 use Rattle.positions.specs.Moves.{isCapture, squaresOf, same}
@@ -38,6 +38,17 @@ use Rattle.rules.proofs.Search.{searched, searched-open, searched-shut}
 use Rattle.rules.proofs.Shortcut.{kingTried, king-law}
 use Rattle.rules.proofs.Times.{times-most, times-some}
 
+-- a position that refusal 12 lets pass is accepted, and an accepted board is fair
+pub fair-of-accepted : (b : Board) → Accepted b → Fair b
+fair-of-accepted b a = record {
+  whiteOn = a .whiteOn;
+  blackOn = a .blackOn;
+  apart = a .apart;
+  whiteFits = a .whiteFits;
+  blackFits = a .blackFits;
+  kingsFits = a .kingsFits;
+}
+
 module _ (b : Board) (fair : Fair b) where
   -- ---- the list and the rules
 
@@ -58,13 +69,17 @@ module _ (b : Board) (fair : Fair b) where
   one-entry {k} {k′} {f} {i} {t} s r p q most =
       listed-once (numbered (bitMove f i t))
       (listed-legal (numbered (bitMove f i t)) .1
-          (record { by = bitMove f i t; is = refl; legal = capture (record { kind = k; piece = p; sequence = s }) most }))
+      (record { by = bitMove f i t; is = refl; legal = capture (record { kind = k; piece = p; sequence = s }) most }))
 
   -- ---- captures and quiet moves
 
   pub capture-takes : (w : BitMove) → Capture b w → isCapture (numbered w) ≡ true
   unfolding isCapture
   capture-takes w c = ap not (ne-eqb (w .taken) 0 (λ e. omega (arith, capture-some b fair w c, ap size e ∙ size-zero)))
+
+  pub quiet-takes-none : (w : BitMove) → Quiet b w → isCapture (numbered w) ≡ false
+  unfolding isCapture
+  quiet-takes-none w q = ap not (eq-eqb (w .taken) 0 (quiet-none q))
 
   -- no legal jump sequence of the side takes more than a legal move
   pub legal-most : (m : Move) → Legal b m → AtMost b (size (m .captured))
@@ -86,12 +101,11 @@ module _ (b : Board) (fair : Fair b) where
 
   -- a legal move that takes a piece is a capture of the rules
   pub legal-capture : (m : Move) (h : Legal b m) → isCapture m ≡ true → Capture b (h .by)
-  unfolding isCapture
   legal-capture m h e = go (h .legal) (ap isCapture (sym (h .is)) ∙ e)
     where
       go : {w : BitMove} → BitLegal b w → isCapture (numbered w) ≡ true → Capture b w
       go (capture c most) t = c
-      go (quiet none q) t = absurd (false≢true (sym (ap not (eq-eqb _ 0 (quiet-none q))) ∙ t))
+      go {w} (quiet none q) t = absurd (false≢true (sym (quiet-takes-none w q) ∙ t))
 
   -- one that takes none is a quiet move, and no jump is open
   pub legal-quiet : (m : Move) (h : Legal b m) → isCapture m ≡ false → NoJump b × Quiet b (h .by)
@@ -148,8 +162,8 @@ module _ (b : Board) (fair : Fair b) where
       → searched b room ≡ bounded (best count (captures b)) (take room (legal b)) (ltb room (length (legal b)))
   search-open room some o = go (captures b) refl
     where
-      go : (l : List BitMove) → captures b ≡ l → searched b room ≡ bounded (best count (captures b)) (take room (legal b))
-          (ltb room (length (legal b)))
+      go : (l : List BitMove) → captures b ≡ l
+          → searched b room ≡ bounded (best count (captures b)) (take room (legal b)) (ltb room (length (legal b)))
       go [] e = absurd (shut-law b fair .0 e o)
       go (c ∷ cs) e = searched-open b fair room some c cs e
 

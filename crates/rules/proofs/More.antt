@@ -44,7 +44,7 @@ size-falls a t o ha ht l p q =
     (λ i k h. let r = of-without a (bitOr t (2 ^ o)) ha both i h in in-without a t ha ht i (r .0) (none i (r .1)))
     (in-without a t ha ht o p q)
     (not-so _ (λ h. true≢false (sym (has-or t (2 ^ o) o ∙ ap (λ (x : Bool). has t o || x) (has-bit-same o) ∙ or-true (has t o))
-        ∙ of-without a (bitOr t (2 ^ o)) ha both o h .1)))
+    ∙ of-without a (bitOr t (2 ^ o)) ha both o h .1)))
   where
     both : bitOr t (2 ^ o) < 2 ^ 64
     both = or-lt 64 t (2 ^ o) ht (pow-lt l)
@@ -91,7 +91,7 @@ rising-map f n (x ∷ xs) e lo h up =
     rising-cons lo (f x) (map f xs) (h x (head refl))
     (rising-map f (suc x) xs (rising-tail n x xs e) (suc (f x))
     (λ (y : ℕ) (m : Member y xs). up x y (head refl) (tail m) (rising-least (suc x) xs y (rising-tail n x xs e) m))
-        (λ y z m k. up y z (tail m) (tail k)))
+    (λ y z m k. up y z (tail m) (tail k)))
 
 -- rising lists with the same members are equal
 pub rising-ext : (n : ℕ) (xs ys : List ℕ) → rising n xs ≡ true → rising n ys ≡ true

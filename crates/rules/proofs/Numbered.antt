@@ -33,7 +33,7 @@ pub same-numbered : (v w : BitMove) → OnBoard v → OnBoard w → same (number
 unfolding same sameBits
 same-numbered v w p q =
     ap₂ (λ (x y : Bool). x && (y && eqb (v .taken) (w .taken))) (square-eqb (v .from) (w .from) (p .from) (q .from))
-        (square-eqb (v .to) (w .to) (p .to) (q .to))
+    (square-eqb (v .to) (w .to) (p .to) (q .to))
 
 pub numbered-inj : (v w : BitMove) → OnBoard v → OnBoard w → numbered v ≡ numbered w → v ≡ w
 numbered-inj v w p q e = bits-true v w (sym (same-numbered v w p q) ∙ ap (λ (m : Move). same m (numbered w)) e ∙ same-refl (numbered w))

@@ -75,7 +75,7 @@ module _ (b : Board) (fair : Fair b) where
       concatMap-once (λ d. map (λ (j : ℕ). bitMove i j 0) (ray (empty b) d i)) directions directions-once
       (λ d m. map-once (λ (j : ℕ). bitMove i j 0) (ray (empty b) d i) (λ x y e. ap (λ (u : BitMove). u .to) e) (ray-once (empty b) d (empty-lt b) i))
       (λ d c z m n p q. meet d c z (of-map (λ (j : ℕ). bitMove i j 0) (ray (empty b) d i) p)
-          (of-map (λ (j : ℕ). bitMove i j 0) (ray (empty b) c i) q))
+      (of-map (λ (j : ℕ). bitMove i j 0) (ray (empty b) c i) q))
     where
       meet : (d c : Direction) (z : BitMove) → (j : ℕ) × Member j (ray (empty b) d i) × (z ≡ bitMove i j 0)
           → (k : ℕ) × Member k (ray (empty b) c i) × (z ≡ bitMove i k 0) → d ≡ c
@@ -94,7 +94,7 @@ module _ (b : Board) (fair : Fair b) where
       let r = of-concatMap (manSteps b) (forward (b .side)) m in
       let s = of-concatMap (kingFlights b) (members (pieces b King)) n in
       man-not-king b fair (z .from) (of-steps (r .0) z (r .2) .leaves)
-          (ap (has (pieces b King)) (of-flights (s .0) z (s .2)) ∙ piece-in King (s .0) (s .1)))
+      (ap (has (pieces b King)) (of-flights (s .0) z (s .2)) ∙ piece-in King (s .0) (s .1)))
 
   -- the law
   pub bits-once : Distinct (bitLegal b)

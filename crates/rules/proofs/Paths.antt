@@ -52,7 +52,7 @@ module _ (b : Board) (fair : Fair b) where
       let j = of-jumps b k x y m in
       of-from r f (ap (λ (w : BitMove). w .from) (j .is) ∙ p)
       (subst (λ w. Path b k f (w .to) (w .taken)) (sym (j .is))
-          (onward s (subst (λ u. Jump b u (x .taken) (x .to) k (j .over) (j .land)) p (j .jump))))
+      (onward s (subst (λ u. Jump b u (x .taken) (x .to) k (j .over) (j .land)) p (j .jump))))
 
   pub starts : (k : PieceKind) (i : ℕ) → has (pieces b k) i ≡ true → Good b (bitMove i i 0)
   starts k i h = record { own = piece-own b fair k i h; small = lit< tt }

@@ -102,10 +102,10 @@ module _ (b : Board) (fair : Fair b) where
 
       go : (has (empty b) (w .to) ≡ true) ⊎ (w .to ≡ w .from)
           → (eqb (squareAtBit (w .to)) (squareAtBit (w .from))
-              || (not (has (b .white) (bitOf (squareAtBit (w .to)))) && not (has (b .black) (bitOf (squareAtBit (w .to)))))) ≡ true
+          || (not (has (b .white) (bitOf (squareAtBit (w .to)))) && not (has (b .black) (bitOf (squareAtBit (w .to)))))) ≡ true
       go (inl e) =
           ap (λ (t : Bool). eqb (squareAtBit (w .to)) (squareAtBit (w .from)) || t)
-              (none (bitOf (squareAtBit (w .to))) (bit-back (w .to) (to-on g)) e)
+          (none (bitOf (squareAtBit (w .to))) (bit-back (w .to) (to-on g)) e)
           ∙ or-true (eqb (squareAtBit (w .to)) (squareAtBit (w .from)))
       go (inr e) = ap (λ (t : Bool). t || (not (has (b .white) (bitOf (squareAtBit (w .to)))) && not (has (b .black) (bitOf (squareAtBit (w .to))))))
           (eq-eqb (squareAtBit (w .to)) (squareAtBit (w .from)) (ap squareAtBit e))

@@ -51,12 +51,12 @@ module _ (b : Board) (fair : Fair b) where
   unfolding quiets manSteps kingFlights
   in-quiets (manStep {i = i} d p f e) =
       in-left _ (in-concatMap (manSteps b) f (in-map (λ (i : ℕ). bitMove i (next d i) 0)
-          (in-keep (λ i. has (empty b) (next d i)) (piece-member b fair Man i p) e)))
+      (in-keep (λ i. has (empty b) (next d i)) (piece-member b fair Man i p) e)))
   in-quiets (kingFlight {i = i} {j = j} d p f) =
       in-right (concatMap (manSteps b) (forward (b .side)))
       (in-concatMap (kingFlights b) (piece-member b fair King i p)
       (in-concatMap (λ d. map (λ (j : ℕ). bitMove i j 0) (ray (empty b) d i)) (all-directions d)
-          (in-map (λ (j : ℕ). bitMove i j 0) (in-ray (empty b) d (empty-lt b) i j f))))
+      (in-map (λ (j : ℕ). bitMove i j 0) (in-ray (empty b) d (empty-lt b) i j f))))
 
   -- the list of quiet moves is empty exactly where there is none
   pub no-quiet : (quiets b ≡ []) ↔ ((w : BitMove) → Quiet b w → ⊥)

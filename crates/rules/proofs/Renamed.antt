@@ -40,16 +40,16 @@ module _ {A B : Type 0} (φ : A → B) (sameA : A → A → Bool) (sizeA : A →
   unfolding noteIn
   note-map s x h k =
       ap₂ (λ (n : ℕ) (t : Bool). cond (eqb n 0) (renamed φ s)
-          (cond (ltb n (s .most)) (renamed φ s) (cond (ltb (s .most) n) (bounded n (φ x ∷ []) false)
+      (cond (ltb n (s .most)) (renamed φ s) (cond (ltb (s .most) n) (bounded n (φ x ∷ []) false)
       (cond t (renamed φ s) (bounded (s .most) (push sameB sizeB room (map φ (s .list)) (φ x)) (s .over || leb room (length (map φ (s .list)))))))))
       (sizes x k) (contains-map (s .list) x h k)
       ∙ go (eqb (sizeA x) 0) (ltb (sizeA x) (s .most)) (ltb (s .most) (sizeA x)) (contains sameA (s .list) x)
     where
       go : (p q r t : Bool) → cond p (renamed φ s) (cond q (renamed φ s) (cond r (bounded (sizeA x) (φ x ∷ []) false)
           (cond t (renamed φ s) (bounded (s .most) (push sameB sizeB room (map φ (s .list)) (φ x))
-              (s .over || leb room (length (map φ (s .list))))))))
+          (s .over || leb room (length (map φ (s .list))))))))
           ≡ renamed φ (cond p s (cond q s (cond r (bounded (sizeA x) (x ∷ []) false)
-              (cond t s (bounded (s .most) (push sameA sizeA room (s .list) x) (s .over || leb room (length (s .list))))))))
+          (cond t s (bounded (s .most) (push sameA sizeA room (s .list) x) (s .over || leb room (length (s .list))))))))
       go true q r t = refl
       go false true r t = refl
       go false false true t = refl

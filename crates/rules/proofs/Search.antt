@@ -51,9 +51,13 @@ map-length f (x ∷ l) = ap suc (map-length f l)
 module _ (b : Board) (fair : Fair b) where
   path-on : (k : PieceKind) (i : ℕ) (w : BitMove) → has (pieces b k) i ≡ true → (w .from ≡ i) × Path b k i (w .to) (w .taken) → OnBoard w
   path-on k i w h s =
-      let g : Goes b w = record { mover = ap (has (own b)) (s .0) ∙ piece-own b fair k i h; stands =
-          path-stands b fair (subst (λ f. Path b k f (w .to) (w .taken)) (sym (s .0)) (s .1)) } in
-      record { from = from-on b fair g; to = to-on b fair g }
+      record { from = from-on b fair goes; to = to-on b fair goes }
+    where
+      goes : Goes b w
+      goes = record {
+        mover = ap (has (own b)) (s .0) ∙ piece-own b fair k i h;
+        stands = path-stands b fair (subst (λ f. Path b k f (w .to) (w .taken)) (sym (s .0)) (s .1));
+      }
 
   of-kingTried : (i : ℕ) (w : BitMove) → Member w (kingTried b i) → (w .from ≡ i) × Path b King i (w .to) (w .taken)
   unfolding kingTried jumps
@@ -76,7 +80,7 @@ module _ (b : Board) (fair : Fair b) where
       → searched b room ≡ bounded (best count (captures b)) (take room (map numbered l)) (ltb room (length (map numbered l)))
   searched-is room some l e =
       fold-map numbered sameBits count same taking room OnBoard (λ v w p q. same-numbered v w p q) (λ w p. refl) (allTried b) (bounded 0 [] false)
-          (λ w m. absurd (not-nil m)) tried-on
+      (λ w m. absurd (not-nil m)) tried-on
       ∙ ap (renamed numbered) (search-law b fair room some)
       ∙ ap (λ (r : List BitMove). bounded (best count (captures b)) (map numbered (take room r)) (ltb room (length r))) e
       ∙ ap₂ (λ (r : List Move) (n : ℕ). bounded (best count (captures b)) r (ltb room n)) (map-take numbered room l) (sym (map-length numbered l))

@@ -74,10 +74,6 @@ module _ (e : ℕ) (d : Direction) where
   glide-on rest q = step q rest
   glide-on (step h g) q = step h (glide-on g q)
 
-  glide-lt : {i j : ℕ} → Glide e d i j → i < 64 → j < 64
-  glide-lt rest l = l
-  glide-lt (step {i = i} h g) l = glide-lt g (next-lt d i)
-
   glide-last : e < 2 ^ 54 → {i j : ℕ} → Glide e d i j → last i (ray e d i) ≡ last j (ray e d j)
   unfolding last
   glide-last small rest = refl
@@ -142,7 +138,7 @@ module _ (b : Board) (fair : Fair b) where
     unfolding jumpsAlong hop blocker target
     none-back j f =
         over-no b (hop x o j) (next (opposite d) (last j (ray e (opposite d) j)))
-            (ray e (opposite d) (next (opposite d) (last j (ray e (opposite d) j))))
+        (ray e (opposite d) (next (opposite d) (last j (ray e (opposite d) j))))
         (ap (λ (i : ℕ). target b (bitOr (x .taken) (2 ^ o)) i) meets ∙ taken)
       where
         e : ℕ
@@ -167,7 +163,7 @@ module _ (b : Board) (fair : Fair b) where
     unfolding jumpsAlong hop blocker jumpsOver
     same-on j f =
         ap (λ (p : ℕ). jumpsOver b (hop x o j) (next d p) (ray (space b (x .from)) d (next d p)))
-            (sym (glide-last (space b (x .from)) d small (f .far)))
+        (sym (glide-last (space b (x .from)) d small (f .far)))
 
   abbrev Dir : Direction → Type 0
   Dir d = Member d directions
@@ -198,7 +194,7 @@ module _ (b : Board) (fair : Fair b) where
   unfolding kingTried sequences jumps
   king-law i h s =
       cut-start directions (jumpsAlong b King) back aside sameBits bits-refl bits-true count (Good b) (good b fair King)
-          (grows b fair King) first-none later-same
+      (grows b fair King) first-none later-same
       enough (bitMove i i 0) s (starts b fair King i h)
 
   kings : (is : List ℕ) → ((i : ℕ) → Member i is → has (pieces b King) i ≡ true) → (s : Found BitMove)
@@ -227,5 +223,5 @@ module _ (b : Board) (fair : Fair b) where
       ≡ bounded (best count (captures b)) (take room (longest sameBits count (captures b))) (ltb room (length (longest sameBits count (captures b))))
   search-law room some =
       ap₂ (λ (r : List BitMove) (o : Bool). foldl (noteIn sameBits count room) (bounded 0 r o) (allTried b))
-          (sym (take-all {A = BitMove} room [] (omega arith))) (sym (le-ltb room 0 (omega arith)))
+      (sym (take-all {A = BitMove} room [] (omega arith))) (sym (le-ltb room 0 (omega arith)))
       ∙ fold-seen sameBits count room bits-refl bits-true some (allTried b) (found 0 []) ∙ ap (view room) tried-law

@@ -85,5 +85,8 @@ pub man-steps-code : (b : Board) → Fair b → (d : Direction)
 unfolding manSteps
 man-steps-code b fair d =
     ap (map (λ (z : ℕ). bitMove (next (opposite d) z) z 0)) (shifted-members d (pieces b Man) (empty b) (men-lt b fair) (empty-lt b))
-    ∙ map-back d _ (λ i m. omega (arith, member-lt 54 (pieces b Man) i (men-lt b fair)
-        (of-members (pieces b Man) i (of-keep (λ i. has (empty b) (next d i)) (members (pieces b Man)) m .0))))
+    ∙ map-back d _ (λ i m. omega (
+      arith,
+      member-lt 54 (pieces b Man) i (men-lt b fair)
+          (of-members (pieces b Man) i (of-keep (λ i. has (empty b) (next d i)) (members (pieces b Man)) m .0)),
+    ))

@@ -140,7 +140,7 @@ module _ {A D : Type 0} (dirs : List D) (rays : A → D → List A) (first later
       (first-none : (x l : A) (ls : List A) (d e : D) → Good x → Member d dirs → Member e dirs → rays x d ≡ l ∷ ls → first d e ≡ true → rays l e ≡ [])
       -- in a direction that a later landing leaves out it finds what the first finds
       (later-same : (x l k : A) (ls : List A) (d e : D) → Good x → Member d dirs → Member e dirs → rays x d ≡ l ∷ ls → Member k ls → later d e ≡ true
-          → rays k e ≡ rays l e) where
+      → rays k e ≡ rays l e) where
     abbrev Hold : Found A → A → Type 0
     Hold s x = Held size s x
 
@@ -186,7 +186,7 @@ module _ {A D : Type 0} (dirs : List D) (rays : A → D → List A) (first later
     landings n ih x l ls d s g m q =
         foldl-append (note same size) s (pruned n (first d) l) (concatMap (pruned n (later d)) ls)
         ∙ ap (λ (t : Found A). run t (concatMap (pruned n (later d)) ls))
-            (ih (first d) l s (good x l g (along l (head refl))) (covered-first n x l ls d s g m q))
+        (ih (first d) l s (good x l g (along l (head refl))) (covered-first n x l ls d s g m q))
         ∙ rest ls (λ k h. h) (run s (full n l)) (λ z k. fold-held same same-refl same-true size (full n l) s z k)
         ∙ sym (foldl-append (note same size) s (full n l) (concatMap (full n) ls))
       where
@@ -223,7 +223,7 @@ module _ {A D : Type 0} (dirs : List D) (rays : A → D → List A) (first later
         foldl-append (note same size) s (branch n skip x d) (concatMap (branch n skip x) ds)
         ∙ ap (λ (t : Found A). run t (concatMap (branch n skip x) ds)) (direction n ih skip x d s g (f d (head refl)) c)
         ∙ directions n ih skip x g ds (λ e m. f e (tail m)) (run s (concatMap (full n) (rays x d)))
-            (covered-on (suc n) skip s x (concatMap (full n) (rays x d)) c)
+        (covered-on (suc n) skip s x (concatMap (full n) (rays x d)) c)
         ∙ sym (foldl-append (note same size) s (concatMap (full n) (rays x d)) (concatMap (λ e. concatMap (full n) (rays x e)) ds))
 
     -- a direction that is tried and finds something is found by the full search too
@@ -257,7 +257,7 @@ module _ {A D : Type 0} (dirs : List D) (rays : A → D → List A) (first later
     ends n x s g [] (u ∷ us) e p f =
         held-note same same-refl same-true size s x
         (held-shorter same same-refl same-true size s u x
-            (subst (λ t. Hold t u) (sym e) (fold-held same same-refl same-true size (u ∷ us) s u (head refl))) (f u (head refl)))
+        (subst (λ t. Hold t u) (sym e) (fold-held same same-refl same-true size (u ∷ us) s u (head refl))) (f u (head refl)))
         ∙ e
 
     -- the law: leaving these out changes nothing that is found
