@@ -127,7 +127,7 @@ module _ {A : Type 0} (same : A → A → Bool) (size : A → ℕ) (room : ℕ) 
     fold-seen [] s = refl
     fold-seen (x ∷ xs) s = ap (λ (t : Bounded A). foldl noteIn t xs) (sym (seen s x)) ∙ fold-seen xs (note same size s x)
 
-    -- the law: the bounded fold over all that is found
+    -- the bounded fold over all that is found
     pub bounded-law : (xs : List A) → let l = longest same size (keep (takes size) xs) in
         foldl noteIn (bounded 0 [] false) xs ≡ bounded (best size (keep (takes size) xs)) (take room l) (ltb room (length l))
     bounded-law xs =

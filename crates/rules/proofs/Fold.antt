@@ -177,6 +177,6 @@ module _ {A : Type 0} (same : A → A → Bool) (size : A → ℕ) where
       go true e = absurd (false≢true (sym (ap not e) ∙ of-keep (takes size) xs m .1))
       go false e = let n = eqb-false (size x) 0 e in omega arith
 
-  -- the law: the fold over all that is found
+  -- the fold over all that is found
   pub fold-law : (xs : List A) → foldl note (found 0 []) xs ≡ found (best size (keep (takes size) xs)) (longest same size (keep (takes size) xs))
   fold-law xs = fold-takes (found 0 []) xs ∙ fold-longest (keep (takes size) xs) (positive xs)

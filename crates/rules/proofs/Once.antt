@@ -96,7 +96,6 @@ module _ (b : Board) (fair : Fair b) where
       man-not-king b fair (z .from) (of-steps (r .0) z (r .2) .leaves)
       (ap (has (pieces b King)) (of-flights (s .0) z (s .2)) ∙ piece-in King (s .0) (s .1)))
 
-  -- the law
   pub bits-once : Distinct (bitLegal b)
   bits-once = go (captures b) refl
     where

@@ -188,7 +188,7 @@ module _ (b : Board) (fair : Fair b) where
           ap₂ (λ (k : BitMove) (c : Direction). along k c) (r .2) c ∙ none-back x g d (s .o) (s .aim) (r .0) (r .1)
           ∙ sym (ap₂ (λ (k : BitMove) (c : Direction). along k c) (s .first) c ∙ none-back x g d (s .o) (s .aim) (s .j) (s .near))
 
-  -- the law for one king: what is found is the same, in the same order, whatever was found before
+  -- for one king: what is found is the same, in the same order, whatever was found before
   pub king-law : (i : ℕ) → has (pieces b King) i ≡ true → (s : Found BitMove)
       → foldl (note sameBits count) s (kingTried b i) ≡ foldl (note sameBits count) s (sequences b King i)
   unfolding kingTried sequences jumps
@@ -218,7 +218,7 @@ module _ (b : Board) (fair : Fair b) where
       men : List BitMove
       men = concatMap (sequences b Man) (members (pieces b Man))
 
-  -- the law with room for that many, and a mark: what the code's search ends with
+  -- with room for that many, and a mark: what the code's search ends with
   pub search-law : (room : ℕ) → 0 < room → foldl (noteIn sameBits count room) (bounded 0 [] false) (allTried b)
       ≡ bounded (best count (captures b)) (take room (longest sameBits count (captures b))) (ltb room (length (longest sameBits count (captures b))))
   search-law room some =

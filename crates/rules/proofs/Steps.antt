@@ -13,10 +13,10 @@ use Rattle.squares.proofs.Members.{of-members, in-members, rising, members-risi
 use Rattle.squares.proofs.Pointwise.{has-and, member-lt}
 use Rattle.squares.proofs.Shifts.{next-back, next-forth, has-shifted}
 use Rattle.positions.specs.Boards.{Board, pieces, empty}
+use Rattle.rules.proofs.Boards.{empty-lt, piece-lt, men-lt}
 use Rattle.rules.specs.Lists.{keep}
 use Rattle.rules.specs.Ordered.{manSteps}
 use Rattle.rules.specs.Rules.{BitMove, bitMove, Fair}
-use Rattle.rules.proofs.Boards.{empty-lt, men-lt}
 use Rattle.rules.proofs.Lists.{in-map, of-map, keep-yes, keep-no, in-keep, of-keep}
 use Rattle.rules.proofs.More.{rising-head, rising-tail, rising-cons, rising-lower, rising-map, rising-ext}
 use Rattle.rules.proofs.Shortcut.{back}
@@ -60,7 +60,7 @@ module _ (d : Direction) (s e : ℕ) (hs : s < 2 ^ 54) (he : e < 2 ^ 54) where
       in-members (bitAnd (shifted d s) e) z (omega arith)
       (has-and (shifted d s) e z ∙ ap₂ (λ (x y : Bool). x && y) (has-shifted d s z (omega arith) (omega arith) ∙ ap (has s) back ∙ in-s) ez)
 
-  -- the law: `for to in men.shift(dir) & empty`
+  -- `for to in men.shift(dir) & empty`
   pub shifted-members : members (bitAnd (shifted d s) e) ≡ map (next d) (keep (λ i. has e (next d i)) (members s))
   shifted-members =
       rising-ext 0 _ _ (members-rising (bitAnd (shifted d s) e))
@@ -85,8 +85,7 @@ pub man-steps-code : (b : Board) → Fair b → (d : Direction)
 unfolding manSteps
 man-steps-code b fair d =
     ap (map (λ (z : ℕ). bitMove (next (opposite d) z) z 0)) (shifted-members d (pieces b Man) (empty b) (men-lt b fair) (empty-lt b))
-    ∙ map-back d _ (λ i m. omega (
-      arith,
-      member-lt 54 (pieces b Man) i (men-lt b fair)
-          (of-members (pieces b Man) i (of-keep (λ i. has (empty b) (next d i)) (members (pieces b Man)) m .0)),
-    ))
+    ∙ map-back d (keep (λ i. has (empty b) (next d i)) (members (pieces b Man))) small
+  where
+    small : (i : ℕ) → Member i (keep (λ i. has (empty b) (next d i)) (members (pieces b Man))) → i < 64
+    small i m = omega (arith, piece-lt b fair Man i (of-members (pieces b Man) i (of-keep (λ i. has (empty b) (next d i)) (members (pieces b Man)) m .0)))

@@ -260,7 +260,7 @@ module _ {A D : Type 0} (dirs : List D) (rays : A → D → List A) (first later
         (subst (λ t. Hold t u) (sym e) (fold-held same same-refl same-true size (u ∷ us) s u (head refl))) (f u (head refl)))
         ∙ e
 
-    -- the law: leaving these out changes nothing that is found
+    -- leaving these out changes nothing that is found
     pub cut : (n : ℕ) → Cut n
     unfolding pruned followed
     cut zero skip x s g c = refl

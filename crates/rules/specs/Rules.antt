@@ -1,5 +1,8 @@
--- The rules of moves as the paper says them (document 01, "movegen.rs"). A move is its first square, its last square and the set
--- of pieces taken; routes equal in these three are one move; only the captures of the largest number stand.
+-- The rules of moves as the paper says them (document 01, "movegen.rs").
+-- A move is its first square, its last square and the set of pieces taken; routes equal in these three are one move (`Legal`).
+-- Where a dispute is settled: what blocks, and the mover's first square: `space`; a piece jumped twice: `Target`; how a man and
+-- a king jump: `Jump`; stopping early, and a man that passes its promotion row: `Sequence`; the largest number: `BitLegal`.
+-- Squares are bits here: `has s i` says that bit i belongs to the set s, `next d i` is the neighbour of bit i along d.
 use mathlib.Core.Path.{_≡_}
 use Prim.Native.Nat.{ℕ, _^_, _≤_, _<_}
 use mathlib.Core.Bool.{true, false}
@@ -43,7 +46,7 @@ pub data Glide (e : ℕ) (d : Direction) : ℕ → ℕ → Type 0 where
   rest : {i : ℕ} → Glide e d i i
   step : {i j : ℕ} → has e (next d i) ≡ true → Glide e d (next d i) j → Glide e d i j
 
--- by one step or more
+-- the same by one step or more: how a king flies
 pub record Flight (e : ℕ) (d : Direction) (i j : ℕ) : Type 0 where
   pub near : has e (next d i) ≡ true
   pub far : Glide e d (next d i) j
