@@ -6,4 +6,5 @@ pub mod Successor
 pub mod Standing
 pub mod Measure
 pub mod Flip
+pub mod Score
 pub mod Computed

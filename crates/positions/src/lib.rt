@@ -1,3 +1,4 @@
 // Positions: acceptance, hash, successor, flip; the move record; the score.
+pub mod eval;
 pub mod moves;
 pub mod position;

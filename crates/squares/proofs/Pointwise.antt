@@ -162,9 +162,12 @@ none-zero s h f = ext 64 s 0 h (lit< tt) (λ i l. f i l ∙ sym (has-zero i))
 pub and-lt : (a b : ℕ) → a < 2 ^ 64 → bitAnd a b < 2 ^ 64
 and-lt a b h = lt-of-le-of-lt (and-le-l a b) h
 
-pub without-lt : (a b : ℕ) → a < 2 ^ 64 → without a b < 2 ^ 64
+pub without-le : (a b : ℕ) → without a b ≤ a
 unfolding without
-without-lt a b h = lt-of-le-of-lt (sub-le a (bitAnd a b)) h
+without-le a b = sub-le a (bitAnd a b)
+
+pub without-lt : (a b : ℕ) → a < 2 ^ 64 → without a b < 2 ^ 64
+without-lt a b h = lt-of-le-of-lt (without-le a b) h
 
 -- ---- a & !b
 module _ (a b : ℕ) (ha : a < 2 ^ 64) (hb : b < 2 ^ 64) where
