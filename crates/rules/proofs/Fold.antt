@@ -38,8 +38,8 @@ module _ {A : Type 0} (same : A → A → Bool) (size : A → ℕ) where
   unfolding note
   note-less s x h = go (eqb (size x) 0)
     where
-      go : (b : Bool) → cond b s (cond (ltb (size x) (s .most)) s
-          (cond (ltb (s .most) (size x)) (found (size x) (x ∷ [])) (found (s .most) (add same (s .list) x)))) ≡ s
+      go : (b : Bool)
+          → cond b s (cond (ltb (size x) (s .most)) s (cond (ltb (s .most) (size x)) (found (size x) (x ∷ [])) (found (s .most) (add same (s .list) x)))) ≡ s
       go true = refl
       go false = rw (lt-ltb (size x) (s .most) h) refl
 
