@@ -52,15 +52,17 @@ pub record Sound (p : Position) : Type 0 where
   pub accepted : Accepted (boardOf p)
   pub hash : p .hash ≡ hashOf (boardOf p)
 
--- the position of these sets, kings on empty squares dropped; refused 11, then 7, then 8, with the lowest square
+-- the position of these sets; refused 7, then 8, with the lowest square
+unfoldable pub placeOf : ℕ → ℕ → ℕ → Color → Placed
+placeOf white black kings side =
+    cond (eqb (bitAnd white black) 0)
+    (cond (eqb (misplaced white black kings) 0) (placed.Position (positionOf (board white black kings side)))
+    (placed.Refused (ManOnPromotionRow (firstOf (misplaced white black kings)))))
+    (placed.Refused (Overlap (firstOf (bitAnd white black))))
+
+-- kings on empty squares are dropped; 11 before all else
 unfoldable pub fromPartsOf : ℕ → ℕ → ℕ → Color → Placed
 fromPartsOf white black kings side =
-    let dropped = bitAnd kings (bitOr white black) in
-    let both = bitAnd white black in
-    let high = misplaced white black dropped in
     cond (squaresOnly white && (squaresOnly black && squaresOnly kings))
-    (cond (eqb both 0)
-    (cond (eqb high 0) (placed.Position (positionOf (board white black dropped side)))
-    (placed.Refused (ManOnPromotionRow (firstOf high))))
-    (placed.Refused (Overlap (firstOf both))))
+    (placeOf white black (bitAnd kings (bitOr white black)) side)
     (placed.Refused NoSuchSquare)

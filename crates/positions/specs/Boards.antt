@@ -4,7 +4,7 @@ use mathlib.Core.Bool.{Bool, true, false, cond, _&&_}
 use lib.Dec.{eqb}
 use lib.Bits.{bitAnd, bitOr}
 use Rattle.squares.specs.Sets.{has, size, without}
-use Rattle.squares.specs.Squares.{isSquare, all, containsOf}
+use Rattle.squares.specs.Squares.{isSquare, run, all, containsOf}
 use Rattle.squares.specs.Pieces.{other}
 use Rattle.squares.specs.declared.piece.Color.{Color}
 use Rattle.squares.specs.declared.piece.Color.the-variants.{White, Black}
@@ -23,6 +23,10 @@ pub record Board : Type 0 where
 
 abbrev pub board : ℕ → ℕ → ℕ → Color → Board
 board w b k s = record { white = w; black = b; kings = k; side = s }
+
+-- the standard start: Black on 1 to 20, White on 31 to 50, White to move
+abbrev pub start : Board
+start = board (run 31 20) (run 1 20) 0 White
 
 -- a position but for its hash
 abbrev pub boardOf : Position → Board

@@ -1,9 +1,8 @@
 -- The board seen from the other side (document 01): square n goes to 51 - n, the colours and the side are exchanged.
 use Prim.Native.Nat.{ℕ, _-_}
 use mathlib.Core.Bool.{cond}
-use lib.Bits.{bitOr}
 use Rattle.squares.specs.Squares.{squareAtBit, single}
-use Rattle.squares.specs.Folds.{over}
+use Rattle.squares.specs.Folds.{unionOver}
 use Rattle.squares.specs.Pieces.{other}
 use Rattle.squares.specs.declared.refusal.Refusal.the-variants.{BadPosition}
 use Rattle.positions.specs.Boards.{Board, board, boardOf}
@@ -15,7 +14,7 @@ use Rattle.positions.specs.declared.position.Placed.the-variants as plac
 
 -- the union of the squares 51 - n, for the squares n of s
 unfoldable pub rotated : ℕ → ℕ
-rotated s = over bitOr 0 (λ i. single (51 - squareAtBit i)) s
+rotated s = unionOver (λ i. single (51 - squareAtBit i)) s
 
 unfoldable pub flip : Board → Board
 flip b = board (rotated (b .black)) (rotated (b .white)) (rotated (b .kings)) (other (b .side))

@@ -6,7 +6,7 @@ use Rattle.squares.specs.Keys.{setKeyOf, sideKey}
 use Rattle.squares.specs.declared.piece.Color.{Color}
 use Rattle.squares.specs.declared.piece.Color.the-variants.{White, Black}
 use Rattle.squares.specs.declared.piece.PieceKind.the-variants.{Man, King}
-use Rattle.positions.specs.Boards.{Board, menOf, kingsOf}
+use Rattle.positions.specs.Boards.{Board, start, menOf, kingsOf}
 use Rattle.positions.specs.declared.position.Position.{Position}
 
 -- the keys of a colour's men and kings
@@ -23,3 +23,6 @@ hashOf b = sideHash (b .side) (bitXor (colorKey White b) (colorKey Black b))
 -- the board with its hash
 abbrev pub positionOf : Board → Position
 positionOf b = record { white = b .white; black = b .black; kings = b .kings; side = b .side; hash = hashOf b }
+
+abbrev pub initialOf : Position
+initialOf = positionOf start

@@ -62,20 +62,16 @@ moverKey c king n = pieceKeyOf c (kindIf king) n
 unfoldable pub takenKey : Color → ℕ → ℕ → ℕ
 takenKey c captured kings = bitXor (setKeyOf c Man (without captured kings)) (setKeyOf c King (bitAnd captured kings))
 
--- the mover's kings after: a king is moved, a man that promotes is marked
-unfoldable pub kingsPlayed : Color → ℕ → Move → ℕ
-kingsPlayed c kings m =
-    let kept = without kings (m .captured) in
-    cond (containsOf kept (m .from)) (bitXor kept (bitXor (single (m .from)) (single (m .to))))
-    (cond (containsOf (promotion c) (m .to)) (bitOr kept (single (m .to))) kept)
+-- the kings after a move, from those that were not taken: a king is moved, a man that promotes is marked
+unfoldable pub kingsPlayed : Color → ℕ → ℕ → ℕ → ℕ
+kingsPlayed c kept from to =
+    cond (containsOf kept from) (bitXor kept (bitXor (single from) (single to)))
+    (cond (containsOf (promotion c) to) (bitOr kept (single to)) kept)
 
--- hash, taken pieces out, the mover off its first square and onto its last, the side changed
-unfoldable pub hashPlayed : Position → Move → ℕ
-hashPlayed p m =
-    let was = containsOf (without (p .kings) (m .captured)) (m .from) in
-    bitXor (bitXor (bitXor (bitXor (p .hash) (takenKey (other (p .side)) (m .captured) (p .kings)))
-    (moverKey (p .side) was (m .from)))
-    (moverKey (p .side) (was || containsOf (promotion (p .side)) (m .to)) (m .to))) sideKey
+-- the mover off its first square as what it was, and onto its last as what it ends as
+unfoldable pub movedKey : Color → ℕ → ℕ → ℕ → ℕ
+movedKey c kept from to =
+    bitXor (moverKey c (containsOf kept from) from) (moverKey c (containsOf kept from || containsOf (promotion c) to) to)
 
 abbrev pub positionAfter : Color → ℕ → ℕ → ℕ → ℕ → Position
 positionAfter White own enemy kings hash = record { white = own; black = enemy; kings = kings; side = Black; hash = hash }
@@ -83,5 +79,9 @@ positionAfter Black own enemy kings hash = record { white = enemy; black = own; 
 
 unfoldable pub playOf : Position → Move → Position
 playOf p m =
-    positionAfter (p .side) (bitXor (own (boardOf p)) (bitXor (single (m .from)) (single (m .to)))) (without (enemy (boardOf p)) (m .captured))
-    (kingsPlayed (p .side) (p .kings) m) (hashPlayed p m)
+    positionAfter (p .side)
+    (bitXor (own (boardOf p)) (bitXor (single (m .from)) (single (m .to))))
+    (without (enemy (boardOf p)) (m .captured))
+    (kingsPlayed (p .side) (without (p .kings) (m .captured)) (m .from) (m .to))
+    (bitXor (bitXor (bitXor (p .hash) (takenKey (other (p .side)) (m .captured) (p .kings)))
+    (movedKey (p .side) (without (p .kings) (m .captured)) (m .from) (m .to))) sideKey)

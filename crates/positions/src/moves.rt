@@ -3,7 +3,6 @@
 use squares::bitboard;
 use squares::bitboard::Bitboard;
 use squares::square;
-
 ghost use mathlib.Core.Path.{_≡_};
 ghost use Rattle.positions.specs.Moves.{isCapture, squaresOf, same};
 

@@ -1,7 +1,7 @@
 -- Folds over the members of a set in a commutative monoid. The law is that of a disjoint union; counts, keys and rows follow.
 use mathlib.Core.Path.{_≡_, refl, sym, ap, ap₂, _∙_}
 use Prim.Native.Nat.{ℕ, zero, suc, _+_, _-_, _*_, _^_, _≤_, _<_, zero-le}
-use native.Mathlib.Nat.{not-suc-le-zero, add-assoc, add-comm, zero-add, pow-suc, mul-suc}
+use native.Mathlib.Nat.{not-suc-le-zero, add-assoc, add-comm, zero-add, add-zero, pow-suc, mul-suc}
 use native.Mathlib.Omega.{arith}
 use mathlib.Core.Bool.{Bool, true, false, not, _&&_, _||_, xor, cond, true≢false, false≢true}
 use mathlib.Core.List.{List, [], _∷_}
@@ -12,7 +12,7 @@ use borrow.Author.Tests.{eqb-true, eqb-false}
 use Rattle.squares.specs.Sets.{has, without, lowest, members}
 use Rattle.squares.specs.Folds.{foldTo, over, xorOver, sumOver}
 use Rattle.squares.proofs.Bools.{every2, at2, every3, at3, iff, iff-eq, tested}
-use Rattle.squares.proofs.Pointwise.{has-zero, has-bit, has-bit-same, has-bit-other, has-and, has-or, has-xor, has-without, ext}
+use Rattle.squares.proofs.Pointwise.{has-zero, has-past, has-bit, has-bit-same, has-bit-other, has-and, has-or, has-xor, has-without, ext}
 use Rattle.squares.proofs.Members.{lowest-in, lowest-lt, has-clear, members-cons, members-none}
 
 -- ---- disjoint unions
@@ -115,7 +115,7 @@ module _ (op : ℕ → ℕ → ℕ) (z : ℕ)
   fold-op zero f g = sym (idl z)
   fold-op (suc n) f g = ap (λ (x : ℕ). op x (op (f n) (g n))) (fold-op n f g) ∙ swap (foldTo op z f n) (foldTo op z g n) (f n) (g n)
 
-  fold-ext : (n : ℕ) (f g : ℕ → ℕ) → ((i : ℕ) → i < n → f i ≡ g i) → foldTo op z f n ≡ foldTo op z g n
+  pub fold-ext : (n : ℕ) (f g : ℕ → ℕ) → ((i : ℕ) → i < n → f i ≡ g i) → foldTo op z f n ≡ foldTo op z g n
   unfolding foldTo
   fold-ext zero f g h = refl
   fold-ext (suc n) f g h = ap₂ op (fold-ext n f g (λ i l. h i (omega arith))) (h n (omega arith))
@@ -195,12 +195,39 @@ module _ (op : ℕ → ℕ → ℕ) (z : ℕ)
   over-next f s p h =
       over-parts f (parts-lowest s p h) ∙ ap (op (over op z f (bitAnd s (s - 1)))) (over-bit f (lowest s) (lowest-lt 64 s p h))
 
+  -- ---- the other way round
+  pub fold-first : (n : ℕ) (f : ℕ → ℕ) → foldTo op z f (suc n) ≡ op (f 0) (foldTo op z (λ i. f (suc i)) n)
+  unfolding foldTo
+  fold-first zero f = idl (f 0) ∙ sym (idr (f 0))
+  fold-first (suc n) f = ap (λ (x : ℕ). op x (f (suc n))) (fold-first n f) ∙ assoc (f 0) _ (f (suc n))
+
+  pub fold-reverse : (n : ℕ) (f : ℕ → ℕ) → foldTo op z f n ≡ foldTo op z (λ i. f (n - suc i)) n
+  unfolding foldTo
+  fold-reverse zero f = refl
+  fold-reverse (suc n) f =
+      ap (λ (x : ℕ). op x (f n)) (fold-reverse n f) ∙ comm _ (f n)
+      ∙ sym (fold-first n (λ i. f (suc n - suc i))
+      ∙ ap₂ op (ap f (omega arith)) (fold-ext n (λ i. f (suc n - suc (suc i))) (λ i. f (n - suc i)) (λ i l. ap f (omega arith))))
+
+  -- what lies past n gives nothing
+  fold-past : (n k : ℕ) (f : ℕ → ℕ) → ((i : ℕ) → n ≤ i → f i ≡ z) → foldTo op z f (n + k) ≡ foldTo op z f n
+  unfolding foldTo
+  fold-past n zero f h = ap (foldTo op z f) (add-zero n)
+  fold-past n (suc k) f h =
+      let e : n + suc k ≡ suc (n + k) = omega arith in
+      ap (foldTo op z f) e ∙ ap₂ op (fold-past n k f h) (h (n + k) (omega arith)) ∙ idr _
+
+  -- a set of squares has its members below 54
+  pub over-board : (f : ℕ → ℕ) (s : ℕ) → s < 2 ^ 54 → over op z f s ≡ foldTo op z (λ i. cond (has s i) (f i) z) 54
+  unfolding over
+  over-board f s h = fold-past 54 10 (λ i. cond (has s i) (f i) z) (λ i l. ap (λ (x : Bool). cond x (f i) z) (has-past 54 s i h l))
+
 -- ---- sums and exclusive ors
 big : (n : ℕ) → n < 2 ^ n
 big zero = omega arith
 big (suc n) = omega (arith, big n, pow-suc 2 n)
 
-three : (a b c : ℕ) → (a < 2 ^ (a + b + c)) × (b < 2 ^ (a + b + c)) × (c < 2 ^ (a + b + c))
+pub three : (a b c : ℕ) → (a < 2 ^ (a + b + c)) × (b < 2 ^ (a + b + c)) × (c < 2 ^ (a + b + c))
 three a b c = let s = big (a + b + c) in (omega arith, omega arith, omega arith)
 
 pub xor-assoc : (a b c : ℕ) → bitXor (bitXor a b) c ≡ bitXor a (bitXor b c)

@@ -3,6 +3,7 @@ pub mod Below
 pub mod Pointwise
 pub mod Members
 pub mod Folds
+pub mod Unions
 pub mod Sizes
 pub mod Numbers
 pub mod Shifts

@@ -227,6 +227,10 @@ bit-test s j l = ap (λ (x : ℕ). not (eqb x 0)) (and-bit s j l) ∙ go (has s 
     go false = refl
 
 -- a set within another: nothing is left of the difference
+pub within-le : (a b : ℕ) → without a b ≡ 0 → a ≤ b
+unfolding without
+within-le a b e = omega (arith, and-le-l a b, lib.Bits.and-le-r a b)
+
 pub within-none : (a b : ℕ) → a < 2 ^ 64 → b < 2 ^ 64 → without a b ≡ 0 → (i : ℕ) → has a i ≡ true → has b i ≡ true
 within-none a b ha hb e i p = go (has b i) refl
   where

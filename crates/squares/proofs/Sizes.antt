@@ -1,7 +1,7 @@
 -- Counts of members: the count of ones is the sum of ones, so each law of a count is a disjoint union.
 use mathlib.Core.Path.{_≡_, refl, sym, ap, ap₂, _∙_}
 use Prim.Native.Nat.{ℕ, zero, suc, _+_, _*_, _/_, _%_, _^_, _≤_, _<_}
-use native.Mathlib.Nat.{add-assoc, zero-add, add-zero, mod-lt}
+use native.Mathlib.Nat.{add-assoc, add-comm, zero-add, mod-lt}
 use native.Mathlib.Omega.{arith}
 use mathlib.Core.Bool.{Bool, true, false, not, _&&_, _||_, cond, true≢false, false≢true}
 use lib.Arith.{lt-one}
@@ -14,7 +14,7 @@ use Rattle.squares.specs.Folds.{foldTo, over, sumOver}
 use Rattle.squares.proofs.Bools.{every2, at2, tested}
 use Rattle.squares.proofs.Pointwise.{half-lt, has-low, has-half, has-or, has-without, without-lt, none-zero, member-lt}
 use Rattle.squares.proofs.Members.{lowest-in, lowest-lt}
-use Rattle.squares.proofs.Folds.{Parts, parts, parts-apart, parts-split, parts-within, parts-add, parts-remove, bitIf, sum-parts, sum-none, sum-bitIf}
+use Rattle.squares.proofs.Folds.{Parts, parts, fold-first, parts-apart, parts-split, parts-within, parts-add, parts-remove, bitIf, sum-parts, sum-none, sum-bitIf}
 
 -- the language's count of ones, on a word of k bits
 pub ones-in : (k n : ℕ) → n < 2 ^ k → ones n ≡ onesIn k n
@@ -27,11 +27,6 @@ unfolding size
 ones-size s h = ones-in 64 s h
 
 -- ---- a count is a sum of ones
-from-low : (n : ℕ) (f : ℕ → ℕ) → foldTo _+_ 0 f (suc n) ≡ f 0 + foldTo _+_ 0 (λ i. f (suc i)) n
-unfolding foldTo
-from-low zero f = zero-add (f 0) ∙ sym (add-zero (f 0))
-from-low (suc n) f = ap (λ (x : ℕ). x + f (suc n)) (from-low n f) ∙ add-assoc (f 0) _ (f (suc n))
-
 -- 1 where c holds, else 0
 abbrev pub one : Bool → ℕ
 one c = cond c 1 0
@@ -46,7 +41,7 @@ unfolding onesIn foldTo
 ones-sum zero s = refl
 ones-sum (suc n) s =
     ap₂ _+_ (digit-one s (s % 2) refl) (ones-sum n (s / 2) ∙ simp has-half)
-    ∙ sym (from-low n (λ i. one (has s i)))
+    ∙ sym (fold-first _+_ 0 add-assoc add-comm zero-add n (λ i. one (has s i)))
 
 pub size-sum : (s : ℕ) → size s ≡ sumOver (λ i. 1) s
 unfolding size over

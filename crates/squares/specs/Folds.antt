@@ -1,7 +1,7 @@
 -- Values joined over the members of a set: exclusive ors of keys, counts, sums of rows.
 use Prim.Native.Nat.{ℕ, zero, suc, _+_}
 use mathlib.Core.Bool.{cond}
-use lib.Bits.{bitXor}
+use lib.Bits.{bitOr, bitXor}
 use Rattle.squares.specs.Sets.{has}
 
 -- f 0, .., f (n - 1) joined by op, beginning with z
@@ -20,3 +20,7 @@ xorOver = over bitXor 0
 -- the sum of f at the members of s
 abbrev pub sumOver : (ℕ → ℕ) → ℕ → ℕ
 sumOver = over _+_ 0
+
+-- the union of the sets f at the members of s
+abbrev pub unionOver : (ℕ → ℕ) → ℕ → ℕ
+unionOver = over bitOr 0

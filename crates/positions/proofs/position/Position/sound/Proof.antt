@@ -1,0 +1,18 @@
+-- Both tests are the definition's.
+use Rattle.positions.specs.Acceptance.{sound, accepted}
+use borrow.Author.Needs.{needs}
+use Rattle.positions.proofs.position.Position.sound.Statement.{statement}
+use Rattle.positions.proofs.position.Position.sound.Tie as tie
+
+accepted-requires : tie.Need-accepted-requires
+accepted-requires c κs = search needs
+
+compute-hash-requires : tie.Need-compute-hash-requires
+compute-hash-requires c κs = search needs
+
+returns : tie.Need-returns
+unfolding sound accepted
+returns c = cc
+
+pub sound-spec : {M : Type 1} → statement M
+sound-spec = tie.close (tie.spec accepted-requires compute-hash-requires returns)
