@@ -138,19 +138,19 @@ impl Captures {
         let empty = self.empty;
         let mut s = self;
         let mut extended = false;
-        let mut d = 0;
-        while d < 4 {
-            if !skips(false, dir, d) {
-                let over = slide(at, d, empty) & untaken;
-                let mut land = bitboard::shift(over, d) & empty;
+        let mut turn = 0;
+        while turn < 4 {
+            if !skips(false, dir, turn) {
+                let over = slide(at, turn, empty) & untaken;
+                let mut land = bitboard::shift(over, turn) & empty;
                 let near = land;
                 while land != 0 {
                     extended = true;
-                    s = s.king_landing(land, captured | over, d, land == near);
-                    land = bitboard::shift(land, d) & empty;
+                    s = s.king_landing(land, captured | over, turn, land == near);
+                    land = bitboard::shift(land, turn) & empty;
                 }
             }
-            d += 1;
+            turn += 1;
         }
         if extended { s } else { s.record(at, captured) }
     }

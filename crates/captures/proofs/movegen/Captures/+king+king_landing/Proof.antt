@@ -211,7 +211,7 @@ module _ (t : ℕ) where
       let head = in-loop .before in
       let start = head .before .before .before in
       let a = start .args in
-      let d = head .loop .d in
+      let d = head .loop .turn in
       let kept = head .loop .inv .kept in
       let j = jumped (a .self) (a .at) (a .captured) d _ _ _ (head .before .difference .ensures) (sh .before .slide .ensures) (sh .shift .ensures) in
       let less = jump-fewer (a .self) (a .at) (a .captured) d _ _ j (head .loop .inv .fits) (start .fits .captured .fits) (ray-first _ _ _ _ _ _ _ _ _ _ _ (at2 .loop2 .inv) (c .loop2-test .taken)) in
@@ -225,7 +225,7 @@ module _ (t : ℕ) where
   landing-loop2-less : king-landing-lts.Need-loop2-less (landing-calls t) (king-landing-at t) king-landing.Post landing-Inv-loop2 landing-μ-loop2 landing-Inv-loop landing-μ-loop
   landing-loop2-less c =
       let at2 = c .before .before .before in
-      let d = at2 .before .before .before .before .before .before .loop .d in
+      let d = at2 .before .before .before .before .before .before .loop .turn in
       let ray = at2 .loop2 in
       rw (c .shift2 .ensures) (ray-falls (directionAt d) (ray .land) _ (ray .inv .fits) (shifted-lt (directionAt d) (ray .land) (ray .inv .fits)) (c .before .before .loop2-test .taken))
 
@@ -238,14 +238,14 @@ module _ (t : ℕ) where
       let head = in-loop .before in
       let start = head .before .before .before in
       let a = start .args in
-      let d = head .loop .d in
+      let d = head .loop .turn in
       let kept = head .loop .inv .kept in
       let j = jumped (a .self) (a .at) (a .captured) d _ _ _ (head .before .difference .ensures) (sh .before .slide .ensures) (sh .shift .ensures) in
       let less = jump-fewer (a .self) (a .at) (a .captured) d _ _ j (head .loop .inv .fits) (start .fits .captured .fits) (ray-first _ _ _ _ _ _ _ _ _ _ _ (at2 .loop2 .inv) ne) in
       ray-step _ _ _ _ _ _ _ _ _ _ _ (at2 .loop2 .inv) (c .shift2 .result) (c .before .king-landing .result) refl (kept .empty) (rw (kept .them) less) ne (c .shift2 .ensures) (c .before .king-landing .ensures)
 
-  landing-add-d : king-landing-lts.Need-add-d (landing-calls t) (king-landing-at t) king-landing.Post landing-Inv-loop2 landing-μ-loop2 landing-Inv-loop landing-μ-loop
-  landing-add-d c = search needs
+  landing-add-turn : king-landing-lts.Need-add-turn (landing-calls t) (king-landing-at t) king-landing.Post landing-Inv-loop2 landing-μ-loop2 landing-Inv-loop landing-μ-loop
+  landing-add-turn c = search needs
 
   landing-loop-less : king-landing-lts.Need-loop-less (landing-calls t) (king-landing-at t) king-landing.Post landing-Inv-loop2 landing-μ-loop2 landing-Inv-loop landing-μ-loop
   landing-loop-less c = search needs
@@ -257,7 +257,7 @@ module _ (t : ℕ) where
       let head = in-loop .before in
       let start = head .before .before .before in
       let a = start .args in
-      let d = head .loop .d in
+      let d = head .loop .turn in
       let lt : d < 4 = in-loop .loop-test .taken in
       ⊎-elim
       (λ w. rw (w .5, w .6) (walked-ray (a .self) (a .at) (a .captured) (skipOf false (a .dir)) d (head .loop .s) (head .loop .extended) (head .loop .inv) lt _ _ (w .3 .s) (w .3 .extended) (w .3 .land)
@@ -273,14 +273,14 @@ module _ (t : ℕ) where
   landing-returns-2 : king-landing-lts.Need-returns-2 (landing-calls t) (king-landing-at t) king-landing.Post landing-Inv-loop2 landing-μ-loop2 landing-Inv-loop landing-μ-loop
   landing-returns-2 c =
       let head = c .before .before in
-      rw (head .before .before .if1 .left) (walked-out _ _ _ _ (head .loop .d) (head .loop .s) (rw (c .if3 .taken) at (head .loop .inv)) (c .before .loop-test .left))
+      rw (head .before .before .if1 .left) (walked-out _ _ _ _ (head .loop .turn) (head .loop .s) (rw (c .if3 .taken) at (head .loop .inv)) (c .before .loop-test .left))
 
   landing-returns-3 : king-landing-lts.Need-returns-3 (landing-calls t) (king-landing-at t) king-landing.Post landing-Inv-loop2 landing-μ-loop2 landing-Inv-loop landing-μ-loop
   landing-returns-3 c =
       let head = c .before .before .before in
-      rw (head .before .before .if1 .left) (walked-end _ _ _ _ (head .loop .d) (head .loop .s) (c .«record» .result) (rw (c .before .if3 .left) at (head .loop .inv)) (c .before .before .loop-test .left) (c .«record» .ensures))
+      rw (head .before .before .if1 .left) (walked-end _ _ _ _ (head .loop .turn) (head .loop .s) (c .«record» .result) (rw (c .before .if3 .left) at (head .loop .inv)) (c .before .before .loop-test .left) (c .«record» .ensures))
 
 pub +king+king-landing-spec : {M : Type 1} → statement M
 +king+king-landing-spec = close μ-king μ-king-landing
     (λ t. king-lts.spec (king-calls t) (king-at t) king.Post king-Inv-loop2 king-μ-loop2 king-Inv-loop king-μ-loop (king-difference-requires t) (king-loop-holds t) (king-skips-requires t) (king-slide-requires t) (king-shift-requires t) (king-loop2-holds t) (king-king-landing-requires t) (king-shift-requires-2 t) (king-loop2-less t) (king-loop2-again t) (king-add-d t) (king-loop-less t) (king-loop-again t) (king-record-requires t) (king-returns t) (king-returns-2 t))
-    (λ t. king-landing-lts.spec (landing-calls t) (king-landing-at t) king-landing.Post landing-Inv-loop2 landing-μ-loop2 landing-Inv-loop landing-μ-loop (landing-king-requires t) (landing-returns t) (landing-difference-requires t) (landing-loop-holds t) (landing-skips-requires t) (landing-slide-requires t) (landing-shift-requires t) (landing-loop2-holds t) (landing-king-landing-requires t) (landing-shift-requires-2 t) (landing-loop2-less t) (landing-loop2-again t) (landing-add-d t) (landing-loop-less t) (landing-loop-again t) (landing-record-requires t) (landing-returns-2 t) (landing-returns-3 t))
+    (λ t. king-landing-lts.spec (landing-calls t) (king-landing-at t) king-landing.Post landing-Inv-loop2 landing-μ-loop2 landing-Inv-loop landing-μ-loop (landing-king-requires t) (landing-returns t) (landing-difference-requires t) (landing-loop-holds t) (landing-skips-requires t) (landing-slide-requires t) (landing-shift-requires t) (landing-loop2-holds t) (landing-king-landing-requires t) (landing-shift-requires-2 t) (landing-loop2-less t) (landing-loop2-again t) (landing-add-turn t) (landing-loop-less t) (landing-loop-again t) (landing-record-requires t) (landing-returns-2 t) (landing-returns-3 t))
