@@ -7,3 +7,5 @@ pub mod Walks
 pub mod Men
 pub mod Kings
 pub mod Loops
+pub mod Whole
+pub mod Limit

@@ -1,6 +1,7 @@
 pub mod Lists
 pub mod Rays
 pub mod Record
+pub mod Limit
 pub mod Walks
 pub mod Men
 pub mod Kings

@@ -1,10 +1,8 @@
 -- A finished sequence is kept by the rule of the largest number, and once (document 01, "movegen.rs").
 use mathlib.Core.Path.{_≡_}
-use Prim.Native.Nat.{ℕ, _+_}
-use mathlib.Core.Bool.{Bool, true, false, cond, _||_}
-use mathlib.Core.List.{List, [], _∷_, _++_}
+use Prim.Native.Nat.{ℕ}
+use mathlib.Core.Bool.{false, cond, _||_}
 use lib.Dec.{eqb, ltb, leb}
-use lib.ListN.{length, take}
 use Rattle.squares.specs.Sets.{size}
 use Rattle.squares.specs.Squares.{firstOf}
 use Rattle.positions.specs.declared.moves.Move.{Move}
@@ -57,27 +55,3 @@ pub record Kept (a b : Captures) : Type 0 where
   pub them : b .them ≡ a .them
   pub empty : b .empty ≡ a .empty
   pub from : b .from ≡ a .from
-
--- ---- the same for any limit, on the moves alone
--- the largest number, the moves that take as many, and whether there were more than the limit
-pub record Found : Type 0 where
-  pub most : ℕ
-  pub moves : List Move
-  pub overflow : Bool
-
-abbrev pub found : ℕ → List Move → Bool → Found
-found k l o = record { most = k; moves = l; overflow = o }
-
--- one more where there are fewer than `limit`, else the mark
-abbrev pub addIn : ℕ → Found → Move → Found
-addIn limit s m = found (s .most) (cond (ltb (length (s .moves)) limit) (s .moves ++ (m ∷ [])) (s .moves)) (s .overflow || leb limit (length (s .moves)))
-
-unfoldable pub noteIn : ℕ → Found → Move → Found
-noteIn limit s m =
-    cond (eqb (size (m .captured)) 0 || ltb (size (m .captured)) (s .most)) s
-    (cond (ltb (s .most) (size (m .captured))) (addIn limit (found (size (m .captured)) [] false) m)
-    (cond (listed (s .moves) m) s (addIn limit s m)))
-
--- what a search has found
-abbrev pub seen : Captures → Found
-seen s = found (s .best) (entries (s .list)) (s .overflow)
