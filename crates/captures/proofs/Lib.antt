@@ -9,3 +9,4 @@ pub mod Kings
 pub mod Loops
 pub mod Whole
 pub mod Limit
+pub mod Rows

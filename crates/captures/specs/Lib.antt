@@ -5,3 +5,4 @@ pub mod Limit
 pub mod Walks
 pub mod Men
 pub mod Kings
+pub mod Computed
