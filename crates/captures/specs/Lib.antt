@@ -1,0 +1,8 @@
+pub mod Lists
+pub mod Rays
+pub mod Record
+pub mod Limit
+pub mod Walks
+pub mod Men
+pub mod Kings
+pub mod Computed

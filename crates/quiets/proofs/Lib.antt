@@ -1,0 +1,5 @@
+pub mod Some
+pub mod Added
+pub mod Forward
+pub mod Both
+pub mod Held
