@@ -1,0 +1,194 @@
+-- The laws that crates above cite. `Legal` is the rule, `legal` the list: by `listed-legal` each of the others speaks of both.
+use mathlib.Core.Path.{_≡_, refl, sym, ap, _∙_, subst}
+use Prim.Native.Nat.{ℕ, _+_, _≤_, _<_}
+use native.Mathlib.Omega.{arith}
+use mathlib.Core.Bool.{Bool, true, false, not, true≢false, false≢true}
+use mathlib.Core.List.{List, [], _∷_, map, foldl, List·Memᴰ as Member, List·Memᴰ·head as head, List·Memᴰ·not-nil as not-nil}
+use mathlib.Core.Logic.{_↔_}
+use lib.ListN.{length, take}
+use lib.Dec.{ltb}
+use borrow.Author.Tests.{eq-eqb, ne-eqb}
+use Rattle.squares.specs.declared.piece.PieceKind.{PieceKind}
+use Rattle.squares.specs.declared.piece.PieceKind.the-variants.{King}
+use Rattle.positions.specs.declared.moves.Move.{Move}
+use Rattle.squares.specs.Sets.{has, size}
+use Rattle.squares.specs.Squares.{bitOf}
+use Rattle.squares.proofs.Numbers.{bit-back}
+use Rattle.squares.proofs.Sizes.{size-zero}
+use Rattle.positions.specs.Acceptance.{Accepted}
+use Rattle.positions.specs.Boards.{Board, pieces}
+use Rattle.positions.specs.Measure.{rowsBefore}
+use Rattle.positions.specs.Moves.{isCapture, squaresOf, same}
+use Rattle.positions.specs.Successor.{Playable}
+use Rattle.rules.specs.Lists.{keep, times, best, longest}
+use Rattle.rules.specs.Ordered.{sequences, count, captures, quiets, sameBits, legal, listed}
+use Rattle.rules.specs.Rules.{BitMove, bitMove, numbered, Sequence, Capture, AtMost, Open, NoJump, Quiet, BitLegal, capture, quiet, Legal, Fair}
+use Rattle.rules.proofs.Agreement.{bits-none}
+use Rattle.rules.proofs.Bounded.{bounded, noteIn, bounded-law}
+use Rattle.rules.proofs.Captures.{open-of, shut-law}
+use Rattle.rules.proofs.Fold.{Found, found, takes, note, fold-law}
+use Rattle.rules.proofs.Forward.{quiet-row}
+use Rattle.rules.proofs.Held.{absorbed}
+use Rattle.rules.proofs.Numbered.{legal-distinct, member-sound, member-complete}
+use Rattle.rules.proofs.Paths.{capture-some}
+use Rattle.rules.proofs.Places.{Goes, legal-goes, from-on, to-on, goes-playable, goes-squares}
+use Rattle.rules.proofs.Quiets.{quiet-none}
+use Rattle.rules.proofs.Same.{same-refl, same-true, listed-member}
+use Rattle.rules.proofs.Search.{searched, searched-open, searched-shut}
+use Rattle.rules.proofs.Shortcut.{kingTried, king-law}
+use Rattle.rules.proofs.Times.{times-most, times-some}
+
+-- a position that refusal 12 lets pass is accepted, and an accepted board is fair
+pub fair-of-accepted : (b : Board) → Accepted b → Fair b
+fair-of-accepted b a = record {
+  whiteOn = a .whiteOn;
+  blackOn = a .blackOn;
+  apart = a .apart;
+  whiteFits = a .whiteFits;
+  blackFits = a .blackFits;
+  kingsFits = a .kingsFits;
+}
+
+module _ (b : Board) (fair : Fair b) where
+  -- ---- the list and the rules
+
+  -- a move stands in the list exactly when it is legal
+  pub listed-legal : (m : Move) → (listed (legal b) m ≡ true) ↔ Legal b m
+  listed-legal m = ((λ e. member-sound b fair m (listed-member (legal b) m .0 e)), (λ h. listed-member (legal b) m .1 (member-complete b fair m h)))
+
+  -- no entry stands twice
+  pub no-doubles : (m : Move) → times same (legal b) m ≤ 1
+  no-doubles m = times-most same same-refl same-true (legal b) m (legal-distinct b fair)
+
+  pub listed-once : (m : Move) → listed (legal b) m ≡ true → times same (legal b) m ≡ 1
+  listed-once m e = omega (arith, no-doubles m, times-some same same-refl same-true (legal b) m (listed-member (legal b) m .0 e))
+
+  -- two routes with equal first square, last square and set, where none takes more, are one entry
+  pub one-entry : {k k′ : PieceKind} {f i t : ℕ} (s : Sequence b k f i t) (r : Sequence b k′ f i t)
+      → has (pieces b k) f ≡ true → has (pieces b k′) f ≡ true → AtMost b (size t) → times same (legal b) (numbered (bitMove f i t)) ≡ 1
+  one-entry {k} {k′} {f} {i} {t} s r p q most =
+      listed-once (numbered (bitMove f i t))
+      (listed-legal (numbered (bitMove f i t)) .1
+      (record { by = bitMove f i t; is = refl; legal = capture (record { kind = k; piece = p; sequence = s }) most }))
+
+  -- ---- captures and quiet moves
+
+  pub capture-takes : (w : BitMove) → Capture b w → isCapture (numbered w) ≡ true
+  unfolding isCapture
+  capture-takes w c = ap not (ne-eqb (w .taken) 0 (λ e. omega (arith, capture-some b fair w c, ap size e ∙ size-zero)))
+
+  pub quiet-takes-none : (w : BitMove) → Quiet b w → isCapture (numbered w) ≡ false
+  unfolding isCapture
+  quiet-takes-none w q = ap not (eq-eqb (w .taken) 0 (quiet-none q))
+
+  -- no legal jump sequence of the side takes more than a legal move
+  pub legal-most : (m : Move) → Legal b m → AtMost b (size (m .captured))
+  legal-most m h = subst (λ n. AtMost b (size (n .captured))) (sym (h .is)) (go (h .legal))
+    where
+      go : {w : BitMove} → BitLegal b w → AtMost b (count w)
+      go (capture c most) = most
+      go (quiet none q) = λ v c. absurd (none (open-of v c))
+
+  -- all legal moves take the same number
+  pub same-number : (m n : Move) → Legal b m → Legal b n → size (m .captured) ≡ size (n .captured)
+  same-number m n h k = ap (λ (u : Move). size (u .captured)) (h .is) ∙ go (h .legal) (k .legal) ∙ ap (λ (u : Move). size (u .captured)) (sym (k .is))
+    where
+      go : {v w : BitMove} → BitLegal b v → BitLegal b w → count v ≡ count w
+      go {v} {w} (capture c most) (capture d more) = omega (arith, most w d, more v c)
+      go {v} {w} (capture c most) (quiet none q) = absurd (none (open-of v c))
+      go {v} {w} (quiet none q) (capture d more) = absurd (none (open-of w d))
+      go {v} {w} (quiet none q) (quiet none′ r) = ap size (quiet-none q ∙ sym (quiet-none r))
+
+  -- a legal move that takes a piece is a capture of the rules
+  pub legal-capture : (m : Move) (h : Legal b m) → isCapture m ≡ true → Capture b (h .by)
+  legal-capture m h e = go (h .legal) (ap isCapture (sym (h .is)) ∙ e)
+    where
+      go : {w : BitMove} → BitLegal b w → isCapture (numbered w) ≡ true → Capture b w
+      go (capture c most) t = c
+      go {w} (quiet none q) t = absurd (false≢true (sym (quiet-takes-none w q) ∙ t))
+
+  -- one that takes none is a quiet move, and no jump is open
+  pub legal-quiet : (m : Move) (h : Legal b m) → isCapture m ≡ false → NoJump b × Quiet b (h .by)
+  legal-quiet m h e = go (h .legal) (ap isCapture (sym (h .is)) ∙ e)
+    where
+      go : {w : BitMove} → BitLegal b w → isCapture (numbered w) ≡ false → NoJump b × Quiet b w
+      go {w} (capture c most) t = absurd (true≢false (sym (capture-takes w c) ∙ t))
+      go (quiet none q) t = (none, q)
+
+  -- ---- what a successor needs
+
+  pub legal-playable : (m : Move) → Legal b m → Playable b m
+  legal-playable m h = subst (Playable b) (sym (h .is)) (goes-playable b fair (legal-goes b fair (h .by) (h .legal)))
+
+  -- the test of refusal 11 passes
+  pub legal-squares : (m : Move) → Legal b m → squaresOf m ≡ true
+  legal-squares m h = ap squaresOf (h .is) ∙ goes-squares b fair (legal-goes b fair (h .by) (h .legal))
+
+  -- a quiet move of a man goes one row nearer to its promotion row
+  pub man-nearer : (m : Move) → Legal b m → isCapture m ≡ false → has (b .kings) (bitOf (m .from)) ≡ false
+      → rowsBefore (b .side) (bitOf (m .to)) + 1 ≡ rowsBefore (b .side) (bitOf (m .from))
+  man-nearer m h e n =
+      ap (λ (i : ℕ). rowsBefore (b .side) i + 1) to ∙ quiet-row b fair (legal-quiet m h e .1) (ap (has (b .kings)) (sym from) ∙ n)
+      ∙ ap (rowsBefore (b .side)) (sym from)
+    where
+      goes : Goes b (h .by)
+      goes = legal-goes b fair (h .by) (h .legal)
+
+      from : bitOf (m .from) ≡ h .by .from
+      from = ap (λ (u : Move). bitOf (u .from)) (h .is) ∙ bit-back (h .by .from) (from-on b fair goes)
+
+      to : bitOf (m .to) ≡ h .by .to
+      to = ap (λ (u : Move). bitOf (u .to)) (h .is) ∙ bit-back (h .by .to) (to-on b fair goes)
+
+  -- ---- where no move is legal
+  pub none-legal : (legal b ≡ []) ↔ ((m : Move) → Legal b m → ⊥)
+  none-legal = ((λ e m h. not-nil (rw e at (member-complete b fair m h))), (λ n. go (legal b) refl n))
+    where
+      go : (l : List Move) → legal b ≡ l → ((m : Move) → Legal b m → ⊥) → legal b ≡ []
+      go [] e n = e
+      go (x ∷ xs) e n = absurd (n x (member-sound b fair x (rw e (head refl))))
+
+  -- no jump is open exactly where the list of captures is empty
+  pub no-jump : (captures b ≡ []) ↔ NoJump b
+  no-jump = shut-law b fair
+
+  -- ---- the search of the code: the king's shortcut, for whatever was found before, with room for any number
+  pub king-shortcut : (i : ℕ) → has (pieces b King) i ≡ true → (s : Found BitMove)
+      → foldl (note sameBits count) s (kingTried b i) ≡ foldl (note sameBits count) s (sequences b King i)
+  king-shortcut = king-law b fair
+
+  -- where a jump is open the search ends with the list, as far as the room goes, and a mark where there is more
+  pub search-open : (room : ℕ) → 0 < room → Open b
+      → searched b room ≡ bounded (best count (captures b)) (take room (legal b)) (ltb room (length (legal b)))
+  search-open room some o = go (captures b) refl
+    where
+      go : (l : List BitMove) → captures b ≡ l
+          → searched b room ≡ bounded (best count (captures b)) (take room (legal b)) (ltb room (length (legal b)))
+      go [] e = absurd (shut-law b fair .0 e o)
+      go (c ∷ cs) e = searched-open b fair room some c cs e
+
+  -- where none is open it ends with nothing, and the list is of the quiet moves
+  pub search-shut : (room : ℕ) → 0 < room → NoJump b → searched b room ≡ bounded 0 [] false
+  search-shut room some n = searched-shut b fair room some (shut-law b fair .1 n)
+
+  pub quiet-list : NoJump b → legal b ≡ map numbered (quiets b)
+  unfolding legal
+  quiet-list n = ap (map numbered) (bits-none b (shut-law b fair .1 n))
+
+-- ---- folds over any type
+module _ {A : Type 0} (same : A → A → Bool) (number : A → ℕ) where
+  -- a running best ends with the longest, each once
+  pub running-best : (xs : List A)
+      → foldl (note same number) (found 0 []) xs ≡ found (best number (keep (takes number) xs)) (longest same number (keep (takes number) xs))
+  running-best = fold-law same number
+
+  module _ (same-refl : (x : A) → same x x ≡ true) (same-true : (x y : A) → same x y ≡ true → x ≡ y) where
+    -- what was folded in once changes nothing
+    pub absorption : (xs ys : List A) (s : Found A) → ((x : A) → Member x ys → Member x xs)
+        → foldl (note same number) (foldl (note same number) s xs) ys ≡ foldl (note same number) s xs
+    absorption = absorbed same same-refl same-true number
+
+    -- with room for that many, and a mark where there are more: only the final list counts
+    pub room-and-mark : (room : ℕ) → 0 < room → (xs : List A) → let l = longest same number (keep (takes number) xs) in
+        foldl (noteIn same number room) (bounded 0 [] false) xs ≡ bounded (best number (keep (takes number) xs)) (take room l) (ltb room (length l))
+    room-and-mark room some = bounded-law same number room same-refl same-true some
