@@ -1,0 +1,9 @@
+pub mod Listed
+pub mod Steps
+pub mod Fewer
+pub mod Rays
+pub mod Recorded
+pub mod Walks
+pub mod Men
+pub mod Kings
+pub mod Loops

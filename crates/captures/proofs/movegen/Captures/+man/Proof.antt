@@ -1,0 +1,98 @@
+-- `man` ends, since each jump leaves fewer untaken enemies, and records what `manEndings` lists.
+use mathlib.Core.Path.{_≡_, refl, sym, ap, _∙_, subst}
+use mathlib.Core.Logic.{⊎-elim}
+use Prim.Native.Nat.{ℕ, _<_, _≤_, _-_, _+_, _^_}
+use native.Mathlib.Omega.{arith}
+use borrow.Author.Needs.{needs}
+use borrow.Fn.Kinds.{In}
+use borrow.Fn.PlainCycle.{Measures, is, falls, and}
+use Rattle.squares.specs.Sets.{size, without}
+use Rattle.squares.proofs.bitboard.difference.Reads as difference-reads
+use Rattle.squares.proofs.bitboard.shift.Reads as shift-reads
+use Rattle.captures.proofs.Men.{Walked, walked-none, walked-past, walked-jump, walked-out, walked-end, Jumped, jumped, jump-fewer}
+use Rattle.captures.proofs.movegen.Captures.man.Reads as man
+use Rattle.captures.proofs.movegen.Captures.man.Kinds as man-kinds
+use Rattle.captures.proofs.movegen.Captures.+man.Lts-man as man-lts
+use Rattle.captures.proofs.movegen.Captures.record.Reads as record-reads
+use Rattle.captures.proofs.movegen.Captures.+man.{statement}
+use Rattle.captures.proofs.movegen.Captures.+man.Tie.{close}
+
+-- the untaken enemies
+abbrev μ-man : Measures 0 man-kinds.ps ℕ
+μ-man κs a = size (without (a .0 .them) (a .1 .1 .0))
+
+abbrev man-at : ℕ → In 0 man-kinds.ps
+man-at t = and 0 man-kinds.ps (is 0 man-kinds.ps μ-man t) man.Pre
+
+abbrev man-below : ℕ → In 0 man-kinds.ps
+man-below t = and 0 man-kinds.ps (falls 0 man-kinds.ps _<_ μ-man t) man.Pre
+
+abbrev calls : ℕ → man-lts.Claims
+calls t = (difference-reads.Asked, difference-reads.Learnt, shift-reads.Asked, shift-reads.Learnt, man-below t, man.Post, record-reads.Asked, record-reads.Learnt)
+
+abbrev Inv-loop : man-lts.InvT-loop
+Inv-loop at captured untaken empty s₀ extended₀ d₀ s extended d = Walked s₀ at captured d s extended
+
+abbrev μ-loop : man-lts.MeasureT-loop
+μ-loop at captured untaken empty s₀ extended₀ d₀ s extended d = 4 - d
+
+module _ (t : ℕ) where
+  difference-requires : man-lts.Need-difference-requires (calls t) (man-at t) man.Post Inv-loop μ-loop
+  difference-requires c κs = search needs
+
+  loop-holds : man-lts.Need-loop-holds (calls t) (man-at t) man.Post Inv-loop μ-loop
+  loop-holds c = walked-none _ _ _
+
+  shift-requires : man-lts.Need-shift-requires (calls t) (man-at t) man.Post Inv-loop μ-loop
+  shift-requires c κs = search needs
+
+  shift-requires-2 : man-lts.Need-shift-requires-2 (calls t) (man-at t) man.Post Inv-loop μ-loop
+  shift-requires-2 c κs = search needs
+
+  man-requires : man-lts.Need-man-requires (calls t) (man-at t) man.Post Inv-loop μ-loop
+  man-requires c κs =
+      let head = c .before .before .before .before in
+      let start = head .before .before in
+      let a = start .args in
+      let s = head .loop .s in
+      let ht : a .self .them < 2 ^ 64 = search needs in
+      let j = jumped (a .self) (a .at) (a .captured) (head .loop .d) _ _ _ (head .before .difference .ensures) (c .before .before .shift .ensures) (c .before .shift2 .ensures) in
+      let less = jump-fewer (a .self) (a .at) (a .captured) (head .loop .d) _ _ j ht (start .fits .captured .fits) (c .if1 .taken) in
+      (rw (head .loop .inv .kept .them, ← start .pre .0) less, tt)
+
+  add-d : man-lts.Need-add-d (calls t) (man-at t) man.Post Inv-loop μ-loop
+  add-d c = search needs
+
+  loop-less : man-lts.Need-loop-less (calls t) (man-at t) man.Post Inv-loop μ-loop
+  loop-less c = search needs
+
+  loop-again : man-lts.Need-loop-again (calls t) (man-at t) man.Post Inv-loop μ-loop
+  loop-again c =
+      let sh = c .before in
+      let head = sh .before .before .before in
+      let start = head .before .before in
+      let a = start .args in
+      let d = head .loop .d in
+      let ht : a .self .them < 2 ^ 64 = search needs in
+      let lt : d < 4 = sh .before .before .loop-test .taken in
+      let j = jumped (a .self) (a .at) (a .captured) d _ _ _ (head .before .difference .ensures) (sh .before .shift .ensures) (sh .shift2 .ensures) in
+      ⊎-elim
+      (λ w. rw (w .2, w .3) (walked-jump (a .self) (a .at) (a .captured) d (head .loop .s) (head .loop .extended) (head .loop .inv) lt _ _ j (w .1 .result) ht (start .fits .captured .fits) (w .0 .taken) (w .1 .ensures)))
+      (λ w. rw (w .1, w .2) (walked-past (a .self) (a .at) (a .captured) d (head .loop .s) (head .loop .extended) (head .loop .inv) lt _ _ j (w .0 .left)))
+      (c .if1 .came)
+
+  record-requires : man-lts.Need-record-requires (calls t) (man-at t) man.Post Inv-loop μ-loop
+  record-requires c κs = search needs
+
+  returns : man-lts.Need-returns (calls t) (man-at t) man.Post Inv-loop μ-loop
+  returns c =
+      let head = c .before .before in
+      walked-out _ _ _ (head .loop .d) (head .loop .s) (rw (c .if2 .taken) at (head .loop .inv)) (c .before .loop-test .left)
+
+  returns-2 : man-lts.Need-returns-2 (calls t) (man-at t) man.Post Inv-loop μ-loop
+  returns-2 c =
+      let head = c .before .before .before in
+      walked-end _ _ _ (head .loop .d) (head .loop .s) (c .«record» .result) (rw (c .before .if2 .left) at (head .loop .inv)) (c .before .before .loop-test .left) (c .«record» .ensures)
+
+pub +man-spec : {M : Type 1} → statement M
++man-spec = close μ-man (λ t. man-lts.spec (calls t) (man-at t) man.Post Inv-loop μ-loop (difference-requires t) (loop-holds t) (shift-requires t) (shift-requires-2 t) (man-requires t) (add-d t) (loop-less t) (loop-again t) (record-requires t) (returns t) (returns-2 t))

@@ -1,0 +1,4 @@
+pub mod Some
+pub mod Added
+pub mod Forward
+pub mod Both

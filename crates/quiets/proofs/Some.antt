@@ -1,0 +1,42 @@
+-- Whether some member of a set, or some direction, passes a test, as the loops ask it.
+use mathlib.Core.Path.{_≡_, refl, sym, ap, ap₂, _∙_}
+use mathlib.Core.Bool.{Bool, true, false, _||_, or-true}
+use Prim.Native.Nat.{ℕ, zero, suc, _+_, _-_, _^_, _≤_, _<_}
+use native.Mathlib.Omega.{arith}
+use native.Mathlib.Numerals.{add-one}
+use lib.Bits.{bitAnd}
+use Rattle.squares.specs.Sets.{lowest, members}
+use Rattle.squares.proofs.Members.{members-cons, members-none}
+use Rattle.captures.specs.Walks.{anyUpTo}
+use Rattle.quiets.specs.Tests.{anyIn}
+
+module _ (p : ℕ → Bool) where
+  -- some member: the lowest, or one of the rest
+  pub any-here : (m : ℕ) (t : Bool) → 0 < m → m < 2 ^ 64 → anyIn p (members m) ≡ t → p (lowest m) ≡ true → true ≡ t
+  unfolding anyIn
+  any-here m t h l q e = ap (λ (c : Bool). c || anyIn p (members (bitAnd m (m - 1)))) (sym e) ∙ ap (anyIn p) (sym (members-cons m h l)) ∙ q
+
+  pub any-on : (m : ℕ) (t : Bool) → 0 < m → m < 2 ^ 64 → anyIn p (members m) ≡ t → p (lowest m) ≡ false → anyIn p (members (bitAnd m (m - 1))) ≡ t
+  unfolding anyIn
+  any-on m t h l q e = ap (λ (c : Bool). c || anyIn p (members (bitAnd m (m - 1)))) (sym e) ∙ ap (anyIn p) (sym (members-cons m h l)) ∙ q
+
+  pub any-done : (m : ℕ) (t : Bool) → m ≡ 0 → anyIn p (members m) ≡ t → false ≡ t
+  unfolding anyIn
+  any-done m t z q = ap (anyIn p) (sym members-none) ∙ ap (λ (n : ℕ). anyIn p (members n)) (sym z) ∙ q
+
+  -- some direction
+  pub up-found : (d : ℕ) → d < 4 → p d ≡ true → true ≡ anyUpTo p 4
+  unfolding anyUpTo
+  up-found zero h e = rw e refl
+  up-found (suc zero) h e = rw (e, or-true) refl
+  up-found (suc (suc zero)) h e = rw (e, or-true) refl
+  up-found (suc (suc (suc zero))) h e = rw (e, or-true) refl
+  up-found (suc (suc (suc (suc n)))) h e = absurd (omega arith)
+
+  pub up-none : anyUpTo p 0 ≡ false
+  unfolding anyUpTo
+  up-none = refl
+
+  pub up-on : (d : ℕ) → anyUpTo p d ≡ false → p d ≡ false → anyUpTo p (d + 1) ≡ false
+  unfolding anyUpTo
+  up-on d q e = ap (anyUpTo p) (add-one d) ∙ ap₂ _||_ q e

@@ -1,0 +1,36 @@
+-- Each test is the definition's.
+use Rattle.captures.specs.Walks.{anyUpTo}
+use Rattle.quiets.specs.Tests.{hasCaptureOf}
+use borrow.Author.Needs.{needs}
+use Rattle.quiets.proofs.quiets.has_capture.Statement.{statement}
+use Rattle.quiets.proofs.quiets.has_capture.Tie as tie
+
+men-jump-requires : tie.Need-men-jump-requires
+men-jump-requires c κs = search needs
+
+men-jump-requires-2 : tie.Need-men-jump-requires-2
+men-jump-requires-2 c κs = search needs
+
+men-jump-requires-3 : tie.Need-men-jump-requires-3
+men-jump-requires-3 c κs = search needs
+
+men-jump-requires-4 : tie.Need-men-jump-requires-4
+men-jump-requires-4 c κs = search needs
+
+kings-open-requires : tie.Need-kings-open-requires
+kings-open-requires c κs = search needs
+
+returns : tie.Need-returns
+unfolding hasCaptureOf anyUpTo
+returns c = cc
+
+pub has-capture-spec : {M : Type 1} → statement M
+has-capture-spec =
+    tie.close
+    (tie.spec
+    men-jump-requires
+    men-jump-requires-2
+    men-jump-requires-3
+    men-jump-requires-4
+    kings-open-requires
+    returns)

@@ -1,0 +1,188 @@
+// Quiet moves, and the tests by shifted sets, after movegen.rs. The lists are stored to in place.
+use captures::movegen;
+use captures::moves::MAX_MOVES;
+use captures::moves::MoveList;
+use positions::moves::Move;
+use squares::bitboard;
+use squares::bitboard::Bitboard;
+use squares::piece::Color;
+ghost use mathlib.Core.Path.{_≡_};
+ghost use Prim.Native.Nat.{_<_};
+ghost use Rattle.squares.specs.Sets.{members};
+ghost use Rattle.captures.specs.Walks.{anyUpTo};
+ghost use Rattle.quiets.specs.Tests.{forwardOf, stepsOpen, hasQuietOf, menJump, kingJump, kingOpen, anyIn, hasCaptureOf};
+ghost use Rattle.quiets.specs.Quiets.{menMovesOf, kingMovesOf, quietMovesOf};
+
+// A list, and whether there were more moves than it holds.
+pub struct Listing {
+    pub list: MoveList,
+    pub overflow: bool,
+}
+
+// The first of a man's two directions forward; the other has the next index. White goes up, Black down.
+fn forward(side: Color) -> usize
+    ensures { λ r. ⌜ r ≡ forwardOf side ⌝ }
+{
+    match side {
+        Color::White => 0,
+        Color::Black => 2,
+    }
+}
+
+// Whether some piece of the set steps in direction `d` onto an empty square.
+fn steps(set: Bitboard, empty: Bitboard, d: usize) -> bool
+    ensures { λ r. ⌜ r ≡ stepsOpen set empty d ⌝ }
+{
+    bitboard::shift(set, d) & empty != 0
+}
+
+// Whether the side has a quiet move.
+pub fn has_quiet(men: Bitboard, kings: Bitboard, empty: Bitboard, side: Color) -> bool
+    ensures { λ r. ⌜ r ≡ hasQuietOf men kings empty side ⌝ }
+{
+    let first = forward(side);
+    let a = steps(men, empty, first) | steps(men, empty, first + 1);
+    let b = steps(kings, empty, 0) | steps(kings, empty, 1);
+    let c = b | steps(kings, empty, 2);
+    a | (c | steps(kings, empty, 3))
+}
+
+// Whether some man has an enemy next to it in direction `d` and an empty square behind that.
+fn men_jump(men: Bitboard, them: Bitboard, empty: Bitboard, d: usize) -> bool
+    requires { ⌜ d < 4 ⌝ }
+    ensures { λ r. ⌜ r ≡ menJump men them empty d ⌝ }
+{
+    let over = bitboard::shift(empty, 3 - d) & them;
+    bitboard::shift(over, 3 - d) & men != 0
+}
+
+// Whether the king on `at` has an enemy ahead of it in direction `d` and an empty square behind that. Its own square
+// counts as empty.
+fn king_jump(at: Bitboard, them: Bitboard, empty: Bitboard, d: usize) -> bool
+    ensures { λ r. ⌜ r ≡ kingJump at them empty d ⌝ }
+{
+    let over = movegen::slide(at, d, empty) & them;
+    bitboard::shift(over, d) & empty != 0
+}
+
+fn king_open(at: Bitboard, them: Bitboard, empty: Bitboard) -> bool
+    ensures { λ r. ⌜ r ≡ anyUpTo (kingJump at them empty) 4 ⌝ }
+{
+    let mut d = 0;
+    while d < 4 {
+        if king_jump(at, them, empty, d) {
+            return true;
+        }
+        d += 1;
+    }
+    false
+}
+
+fn kings_open(kings: Bitboard, them: Bitboard, empty: Bitboard) -> bool
+    ensures { λ r. ⌜ r ≡ anyIn (kingOpen them empty) (members kings) ⌝ }
+{
+    let mut left = kings;
+    while left != 0 {
+        let at = 1u64 << u64::trailing_zeros(left);
+        if king_open(at, them, empty | at) {
+            return true;
+        }
+        left = left & (left - 1);
+    }
+    false
+}
+
+// Whether the side has a jump.
+pub fn has_capture(men: Bitboard, kings: Bitboard, them: Bitboard, empty: Bitboard) -> bool
+    ensures { λ r. ⌜ r ≡ hasCaptureOf men kings them empty ⌝ }
+{
+    let a = men_jump(men, them, empty, 0) | men_jump(men, them, empty, 1);
+    let b = a | men_jump(men, them, empty, 2);
+    let c = b | men_jump(men, them, empty, 3);
+    c | kings_open(kings, them, empty)
+}
+
+// The men's steps forward: by direction first, then by the bit reached.
+pub fn men_moves(men: Bitboard, empty: Bitboard, side: Color) -> Listing
+    ensures { λ r. ⌜ r ≡ menMovesOf men empty side ⌝ }
+{
+    let first = forward(side);
+    let mut list = MoveList::new();
+    let mut overflow = false;
+    let mut k = 0;
+    while k < 2 {
+        let d = first + k;
+        let mut to = bitboard::shift(men, d) & empty;
+        while to != 0 {
+            let at = 1u64 << u64::trailing_zeros(to);
+            let back = bitboard::shift(at, 3 - d);
+            let mv = Move {
+                captured: 0,
+                from: bitboard::first(back),
+                to: bitboard::first(at),
+            };
+            let len = list.len;
+            if len < MAX_MOVES {
+                list.moves[len] = mv;
+                list.len = len + 1;
+            } else {
+                overflow = true;
+            }
+            to = to & (to - 1);
+        }
+        k += 1;
+    }
+    Listing {
+        list: list,
+        overflow: overflow,
+    }
+}
+
+// The kings' flights: by bit, by direction, near to far.
+pub fn king_moves(start: Listing, kings: Bitboard, empty: Bitboard) -> Listing
+    ensures { λ r. ⌜ r ≡ kingMovesOf start kings empty ⌝ }
+{
+    let mut list = start.list;
+    let mut overflow = start.overflow;
+    let mut left = kings;
+    while left != 0 {
+        let at = 1u64 << u64::trailing_zeros(left);
+        let from = bitboard::first(at);
+        let mut d = 0;
+        while d < 4 {
+            let mut to = bitboard::shift(at, d) & empty;
+            while to != 0 {
+                let mv = Move {
+                    captured: 0,
+                    from: from,
+                    to: bitboard::first(to),
+                };
+                let len = list.len;
+                if len < MAX_MOVES {
+                    list.moves[len] = mv;
+                    list.len = len + 1;
+                } else {
+                    overflow = true;
+                }
+                to = bitboard::shift(to, d) & empty;
+            }
+            d += 1;
+        }
+        left = left & (left - 1);
+    }
+    Listing {
+        list: list,
+        overflow: overflow,
+    }
+}
+
+// All quiet moves: the men's, then the kings'.
+pub fn quiet_moves(men: Bitboard, kings: Bitboard, empty: Bitboard, side: Color) -> Listing
+    ensures { λ r. ⌜ r ≡ quietMovesOf men kings empty side ⌝ }
+{
+    let steps = men_moves(men, empty, side);
+    if kings == 0 {
+        return steps;
+    }
+    king_moves(steps, kings, empty)
+}
