@@ -1,9 +1,9 @@
 -- Lists of at most 256 moves by value: the moves, then blanks (document 01, "Forms of this Rust that need another").
-use Prim.Native.Nat.{ℕ, _+_}
+use Prim.Native.Nat.{ℕ, _+_, min}
 use mathlib.Core.Bool.{Bool, false, cond, _||_}
-use mathlib.Core.List.{List, [], _∷_}
+use mathlib.Core.List.{List, [], _∷_, _++_}
 use lib.Dec.{ltb}
-use lib.ListN.{getD, set, take, replicate}
+use lib.ListN.{length, getD, set, take, replicate}
 use Rattle.positions.specs.declared.moves.Move.{Move}
 use Rattle.positions.specs.Moves.{move, same}
 use Rattle.captures.specs.declared.moves.MoveList.{MoveList}
@@ -31,3 +31,7 @@ pushOf l m = cond (ltb (l .len) 256) (record { moves = set (l .moves) (l .len) m
 -- the entry at index i, blank past the last
 unfoldable pub getOf : MoveList → ℕ → Move
 getOf l i = getD (l .moves) i blank
+
+-- the list of these moves: as many as there is room for, then blanks
+unfoldable pub listOf : List Move → MoveList
+listOf xs = record { moves = take 256 (xs ++ replicate 256 blank); len = min 256 (length xs) }
