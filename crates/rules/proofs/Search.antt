@@ -59,7 +59,7 @@ module _ (b : Board) (fair : Fair b) where
         stands = path-stands b fair (subst (λ f. Path b k f (w .to) (w .taken)) (sym (s .0)) (s .1));
       }
 
-  of-kingTried : (i : ℕ) (w : BitMove) → Member w (kingTried b i) → (w .from ≡ i) × Path b King i (w .to) (w .taken)
+  pub of-kingTried : (i : ℕ) (w : BitMove) → Member w (kingTried b i) → (w .from ≡ i) × Path b King i (w .to) (w .taken)
   unfolding kingTried jumps
   of-kingTried i w h = of-from b fair (pruned-sound directions (jumpsAlong b King) back aside enough (λ d. false) (bitMove i i 0) w h) i refl begin
 

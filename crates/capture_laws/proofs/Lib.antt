@@ -1,0 +1,4 @@
+pub mod More
+pub mod Four
+pub mod Stored
+pub mod Recorded
