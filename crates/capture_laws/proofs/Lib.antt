@@ -2,3 +2,5 @@ pub mod More
 pub mod Four
 pub mod Stored
 pub mod Recorded
+pub mod Steps
+pub mod Men
