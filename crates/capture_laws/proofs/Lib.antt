@@ -4,3 +4,5 @@ pub mod Stored
 pub mod Recorded
 pub mod Steps
 pub mod Men
+pub mod Rays
+pub mod Kings
