@@ -6,3 +6,4 @@ pub mod Steps
 pub mod Men
 pub mod Rays
 pub mod Kings
+pub mod Search
