@@ -199,7 +199,8 @@ module _ (b : Board) (fair : Fair b) (f : ℕ) (mine : has (own b) f ≡ true) w
       (λ (d : Direction). triesAlong n d (along d i t) (skip d))
       (λ d. ap (λ (x : Bool). not x && not (eqb (kingLand (enemy b) e (2 ^ i) t (indexOf d)) 0)) (rel d)
       ∙ flag n (law n) i t h g l d (blocker e d i) refl (skip d) (way d i t (blocker e d i) refl))
-      (λ d. ap (λ (x : Bool). cond x [] (onward n (law n) i t h g l d (blocker e d i) refl (kingOver (enemy b) e (2 ^ i) t (indexOf d)) (kingLand (enemy b) e (2 ^ i) t (indexOf d)))) (rel d)
+      (λ d. ap (λ (x : Bool). cond x [] (onward n (law n) i t h g l d (blocker e d i) refl (kingOver (enemy b) e (2 ^ i) t (indexOf d))
+      (kingLand (enemy b) e (2 ^ i) t (indexOf d)))) (rel d)
       ∙ branch n (law n) i t h g l d (blocker e d i) refl (skip d) (way d i t (blocker e d i) refl))
       (bitMove f i t)
 

@@ -7,3 +7,4 @@ pub mod Men
 pub mod Rays
 pub mod Kings
 pub mod Search
+pub mod Laws

@@ -3,7 +3,7 @@ use mathlib.Core.Path.{_≡_, refl, sym, ap, ap₂, _∙_}
 use Prim.Native.Nat.{ℕ, zero, suc, _^_, _<_}
 use native.Mathlib.Omega.{arith}
 use mathlib.Core.Bool.{Bool, true, false, not, _&&_, cond}
-use mathlib.Core.List.{List, [], _∷_, _++_, map, append-nil, List·Memᴰ as Member, List·Memᴰ·head as head}
+use mathlib.Core.List.{List, [], _∷_, map, append-nil, List·Memᴰ as Member, List·Memᴰ·head as head}
 use lib.Bits.{bitAnd, bitOr}
 use lib.Dec.{eqb}
 use Rattle.squares.specs.declared.piece.PieceKind.the-variants.{Man}
@@ -55,7 +55,8 @@ module _ (b : Board) (fair : Fair b) (f : ℕ) (mine : has (own b) f ≡ true) w
   unfolding jumpsAlong
   way d i t = go (target b t (next d i)) (has e (next d (next d i))) refl refl
     where
-      landed : (l : List ℕ) → manLandings e (next d (next d i)) ≡ l → target b t (next d i) ≡ true → along d i t ≡ map (hop (bitMove f i t) (next d i)) l
+      landed : (l : List ℕ) → manLandings e (next d (next d i)) ≡ l → target b t (next d i) ≡ true
+          → along d i t ≡ map (hop (bitMove f i t) (next d i)) l
       landed l q u = over-yes b (bitMove f i t) (next d i) (manLandings e (next d (next d i))) u ∙ ap (map (hop (bitMove f i t) (next d i))) q
 
       go : (p q : Bool) → target b t (next d i) ≡ p → has e (next d (next d i)) ≡ q → Way d i t
@@ -114,7 +115,9 @@ module _ (b : Board) (fair : Fair b) (f : ℕ) (mine : has (own b) f ≡ true) w
     flag : Way d i t → jumping ≡ some (rules n (along d i t))
     unfolding concatMap some
     flag (free u v q) =
-        opens u v ∙ sym (ap (λ (r : List BitMove). some (rules n r)) q ∙ some-member (followed (jumps b Man) n (w u v)) [] (some-followed (jumps b Man) n (w u v) .1))
+        opens u v
+        ∙ sym (ap (λ (r : List BitMove). some (rules n r)) q
+        ∙ some-member (followed (jumps b Man) n (w u v)) [] (some-followed (jumps b Man) n (w u v) .1))
     flag (shut u q) = shuts u ∙ sym (ap (λ (r : List BitMove). some (rules n r)) q)
 
     branch : Way d i t → cond jumping (onward over land) [] ≡ map ended (rules n (along d i t))
@@ -129,7 +132,8 @@ module _ (b : Board) (fair : Fair b) (f : ℕ) (mine : has (own b) f ≡ true) w
   law zero i t h g l = absurd (omega arith)
   law (suc n) i t h g l =
       four ended (manJumps (enemy b) e (2 ^ i) t)
-      (λ (d : ℕ). cond (manJumps (enemy b) e (2 ^ i) t d) (manEndings (enemy b) e n (manLand (enemy b) e (2 ^ i) t d) (bitOr t (manOver (enemy b) e (2 ^ i) t d))) [])
+      (λ (d : ℕ). cond (manJumps (enemy b) e (2 ^ i) t d)
+      (manEndings (enemy b) e n (manLand (enemy b) e (2 ^ i) t d) (bitOr t (manOver (enemy b) e (2 ^ i) t d))) [])
       (λ (d : Direction). rules n (along d i t)) (λ d. flag n (law n) i t h g l d (way d i t)) (λ d. branch n (law n) i t h g l d (way d i t)) (bitMove f i t)
       ∙ ap (λ (r : List BitMove). map ended (orEnd (bitMove f i t) r))
       (sym (concatMap-concatMap (followed (jumps b Man) n) (jumpsAlong b Man (bitMove f i t)) directions))

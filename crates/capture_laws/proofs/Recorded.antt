@@ -3,7 +3,7 @@ use mathlib.Core.Path.{_≡_, refl, sym, ap, ap₂, _∙_, subst}
 use Prim.Native.Nat.{ℕ, _≤_, _<_}
 use native.Mathlib.Omega.{arith}
 use mathlib.Core.Bool.{Bool, true, false, _||_, cond}
-use mathlib.Core.List.{List, [], _∷_, _++_, map, foldl}
+use mathlib.Core.List.{List, [], _∷_, map, foldl}
 use lib.ListN.{length}
 use lib.Dec.{eqb, ltb, leb}
 use borrow.Author.Tests.{lt-ltb, lt-leb}
@@ -13,13 +13,13 @@ use Rattle.positions.specs.declared.moves.Move.{Move}
 use Rattle.positions.specs.Moves.{move, same}
 use Rattle.captures.specs.declared.moves.MoveList.{MoveList}
 use Rattle.captures.specs.declared.movegen.Captures.{Captures}
-use Rattle.captures.specs.Lists.{noMoves, entries, listed, pushOf, listOf}
+use Rattle.captures.specs.Lists.{entries, listed, pushOf, listOf}
 use Rattle.captures.specs.Record.{Ending, moveOf, anewOf, moreOf, recordOf, noteOf, Kept, Found, found, addIn, noteIn, seen}
 use Rattle.captures.proofs.Recorded.{kept-refl, kept-trans, record-kept}
 use Rattle.rules.specs.Lists.{contains}
 use Rattle.rules.proofs.Bounded.{Bounded, bounded, noteIn as noteWithin}
 use Rattle.rules.proofs.Search.{taking}
-use Rattle.capture_laws.proofs.Stored.{none-listed, few-len, few-entries, added, push-listed, few-added}
+use Rattle.capture_laws.proofs.Stored.{none-listed, few-len, few-entries, push-listed, few-added}
 
 -- ---- the code's record
 
@@ -38,7 +38,8 @@ holds-seen s x h =
 pub record-holds : (s : Captures) (x : Found) (to c : ℕ) → Holds s x → Holds (recordOf s to c) (noteIn 256 x (moveOf s to c))
 unfolding recordOf noteIn
 record-holds s x to c h =
-    subst (λ (y : Found). Holds (cond (eqb (size c) 0 || ltb (size c) (y .most)) s (cond (ltb (y .most) (size c)) (anewOf s to c) (cond (listed (y .moves) m) s (moreOf s to c)))) (noteIn 256 x m))
+    subst (λ (y : Found). Holds (cond (eqb (size c) 0 || ltb (size c) (y .most)) s
+    (cond (ltb (y .most) (size c)) (anewOf s to c) (cond (listed (y .moves) m) s (moreOf s to c)))) (noteIn 256 x m))
     (sym (holds-seen s x h))
     (go (eqb (size c) 0 || ltb (size c) (x .most)) (ltb (x .most) (size c)) (listed (x .moves) m))
   where
@@ -46,7 +47,12 @@ record-holds s x to c h =
     m = moveOf s to c
 
     anew : Holds (anewOf s to c) (addIn 256 (found (size c) [] false) m)
-    anew = record { list = ap (λ (l : MoveList). pushOf l m) none-listed ∙ push-listed [] m (omega arith); few = few-added [] m (omega arith); best = refl; overflow = refl }
+    anew = record {
+      list = ap (λ (l : MoveList). pushOf l m) none-listed ∙ push-listed [] m (omega arith);
+      few = few-added [] m (omega arith);
+      best = refl;
+      overflow = refl;
+    }
 
     more : Holds (moreOf s to c) (addIn 256 x m)
     more = record {
@@ -57,7 +63,8 @@ record-holds s x to c h =
     }
 
     go : (p q r : Bool)
-        → Holds (cond p s (cond q (anewOf s to c) (cond r s (moreOf s to c)))) (cond p x (cond q (addIn 256 (found (size c) [] false) m) (cond r x (addIn 256 x m))))
+        → Holds (cond p s (cond q (anewOf s to c) (cond r s (moreOf s to c))))
+        (cond p x (cond q (addIn 256 (found (size c) [] false) m) (cond r x (addIn 256 x m))))
     go true q r = h
     go false true r = anew
     go false false true = h
@@ -72,7 +79,8 @@ pub record Searched (s r : Captures) (x : Found) : Type 0 where
   pub kept : Kept s r
   pub holds : Holds r x
 
-pub fold-holds : (es : List Ending) (s : Captures) (x : Found) → Holds s x → Searched s (foldl noteOf s es) (foldl (noteIn 256) x (map (moveTo (s .from)) es))
+pub fold-holds : (es : List Ending) (s : Captures) (x : Found) → Holds s x
+    → Searched s (foldl noteOf s es) (foldl (noteIn 256) x (map (moveTo (s .from)) es))
 fold-holds [] s x h = record { kept = kept-refl s; holds = h }
 fold-holds (e ∷ es) s x h =
     let k = record-kept s (e .to) (e .taken) in
@@ -113,7 +121,8 @@ note-bound limit some x m =
     go false false false true = refl
     go false false false false = refl
 
-pub fold-bound : (limit : ℕ) → 0 < limit → (ms : List Move) (x : Found) → bound (foldl (noteIn limit) x ms) ≡ foldl (noteWithin same taking limit) (bound x) ms
+pub fold-bound : (limit : ℕ) → 0 < limit → (ms : List Move) (x : Found)
+    → bound (foldl (noteIn limit) x ms) ≡ foldl (noteWithin same taking limit) (bound x) ms
 fold-bound limit some [] x = refl
 fold-bound limit some (m ∷ ms) x =
     fold-bound limit some ms (noteIn limit x m) ∙ ap (λ (y : Bounded Move). foldl (noteWithin same taking limit) y ms) (note-bound limit some x m)

@@ -2,8 +2,8 @@
 use mathlib.Core.Path.{_≡_, refl, sym, ap, ap₂, _∙_, subst}
 use Prim.Native.Nat.{ℕ, _^_, _<_}
 use native.Mathlib.Omega.{arith}
-use mathlib.Core.Bool.{Bool, true, false}
-use mathlib.Core.List.{List, [], _∷_, _++_, map, foldl, foldl-append, List·Memᴰ as Member, List·Memᴰ·head as head, List·Memᴰ·tail as tail}
+use mathlib.Core.Bool.{true, false}
+use mathlib.Core.List.{List, [], _∷_, map, foldl, foldl-append, List·Memᴰ as Member, List·Memᴰ·head as head, List·Memᴰ·tail as tail}
 use lib.ListN.{length, take, length-map}
 use lib.Dec.{ltb}
 use Rattle.squares.specs.declared.piece.PieceKind.{PieceKind}
@@ -92,7 +92,8 @@ module _ (b : Board) (fair : Fair b) where
 
   -- pieces one after the other
   module _ (k : PieceKind) (step : Captures → ℕ → Captures) (rule : ℕ → List BitMove)
-      (one : (s : Captures) (x : Found) (i : ℕ) → has (pieces b k) i ≡ true → State s x → State (step s i) (foldl (noteIn 256) x (map numbered (rule i)))) where
+      (one : (s : Captures) (x : Found) (i : ℕ) → has (pieces b k) i ≡ true → State s x
+      → State (step s i) (foldl (noteIn 256) x (map numbered (rule i)))) where
     each : (l : List ℕ) → ((i : ℕ) → Member i l → has (pieces b k) i ≡ true) → (s : Captures) (x : Found) → State s x
         → State (foldl step s l) (foldl (noteIn 256) x (map numbered (concatMap rule l)))
     unfolding concatMap

@@ -1,9 +1,8 @@
 -- One-bit sets of the code against bits of the rules: the enemy jumped and the square behind it.
-use mathlib.Core.Path.{_≡_, refl, sym, ap, ap₂, _∙_}
-use Prim.Native.Nat.{ℕ, _^_, _≤_, _<_}
+use mathlib.Core.Path.{_≡_, refl, ap, _∙_}
+use Prim.Native.Nat.{ℕ, _^_, _<_}
 use native.Mathlib.Nat.{lt-of-le-of-lt}
-use native.Mathlib.Omega.{arith}
-use mathlib.Core.Bool.{Bool, true, false, not, _&&_}
+use mathlib.Core.Bool.{Bool, true, false, _&&_}
 use lib.Bits.{bitAnd, and-zero-l}
 use Rattle.squares.specs.Directions.{Direction, next, shifted}
 use Rattle.squares.specs.Sets.{has, without}

@@ -7,7 +7,7 @@ use mathlib.Core.List.{List, [], _∷_, _++_}
 use lib.ListN.{length, take, set, replicate, length-take, length-append}
 use lib.Seq.{take-append-le, take-append-seam, take-all, take-take}
 use lib.Dec.{ltb}
-use borrow.Author.Tests.{ltb-true, ltb-false, lt-ltb, le-ltb}
+use borrow.Author.Tests.{ltb-true, ltb-false}
 use Rattle.positions.specs.declared.moves.Move.{Move}
 use Rattle.captures.specs.declared.moves.MoveList.{MoveList}
 use Rattle.captures.specs.Lists.{blank, noMoves, entries, pushOf, listOf}
@@ -70,7 +70,9 @@ added xs m = cond (ltb (length xs) 256) (xs ++ (m ∷ [])) xs
 
 pub push-listed : (xs : List Move) (m : Move) → length xs ≤ 256 → pushOf (listOf xs) m ≡ listOf (added xs m)
 unfolding pushOf listOf
-push-listed xs m h = ap (λ (n : ℕ). cond (ltb n 256) (list (set (filled blank 256 xs) n m) (n + 1)) (list (filled blank 256 xs) n)) len ∙ go (ltb (length xs) 256) refl
+push-listed xs m h =
+    ap (λ (n : ℕ). cond (ltb n 256) (list (set (filled blank 256 xs) n m) (n + 1)) (list (filled blank 256 xs) n)) len
+    ∙ go (ltb (length xs) 256) refl
   where
     len : min 256 (length xs) ≡ length xs
     len = omega arith
