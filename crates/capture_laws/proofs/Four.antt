@@ -2,7 +2,7 @@
 use mathlib.Core.Path.{_≡_, refl, sym, ap, ap₂, _∙_}
 use Prim.Native.Nat.{ℕ}
 use mathlib.Core.Bool.{Bool, true, false, _||_, cond}
-use mathlib.Core.List.{List, [], _∷_, _++_, map, append-assoc, append-nil, List·Memᴰ as Member, List·Memᴰ·not-nil as not-nil}
+use mathlib.Core.List.{List, [], _∷_, _++_, map, map-append, append-assoc, append-nil, List·Memᴰ as Member, List·Memᴰ·not-nil as not-nil}
 use Rattle.squares.specs.Directions.{Direction, upLeft, upRight, downLeft, downRight, indexOf}
 use Rattle.captures.specs.Walks.{upTo, anyUpTo}
 use Rattle.rules.specs.Lists.{concatMap, orEnd}
@@ -22,10 +22,6 @@ pub some-member : {A : Type 0} (xs ys : List A) {x : A} → Member x xs → some
 unfolding some
 some-member [] ys m = absurd (not-nil m)
 some-member (x ∷ xs) ys m = refl
-
-pub map-append : {A B : Type 0} (f : A → B) (xs ys : List A) → map f (xs ++ ys) ≡ map f xs ++ map f ys
-map-append f [] ys = refl
-map-append {B = B} f (x ∷ xs) ys = ap (λ (l : List B). f x ∷ l) (map-append f xs ys)
 
 module _ {A B : Type 0} (f : A → B) (p : ℕ → Bool) (g : ℕ → List B) (h : Direction → List A)
     (flags : (d : Direction) → p (indexOf d) ≡ some (h d)) (lists : (d : Direction) → g (indexOf d) ≡ map f (h d)) where

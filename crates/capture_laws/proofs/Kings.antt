@@ -3,7 +3,7 @@ use mathlib.Core.Path.{_≡_, refl, sym, ap, ap₂, _∙_}
 use Prim.Native.Nat.{ℕ, zero, suc, _^_, _<_}
 use native.Mathlib.Omega.{arith}
 use mathlib.Core.Bool.{Bool, true, false, not, _&&_, cond}
-use mathlib.Core.List.{List, [], _∷_, _++_, map, flatMap, List·Memᴰ as Member, List·Memᴰ·head as head, List·Memᴰ·tail as tail}
+use mathlib.Core.List.{List, [], _∷_, _++_, map, map-append, flatMap, List·Memᴰ as Member, List·Memᴰ·head as head, List·Memᴰ·tail as tail}
 use lib.Bits.{bitAnd, bitOr}
 use lib.Dec.{eqb}
 use borrow.Author.Tests.{eq-eqb}
@@ -27,7 +27,7 @@ use Rattle.rules.proofs.Paths.{starts, fuel}
 use Rattle.rules.proofs.Ray.{ray-on, ray-end, of-ray, last-ray, glide-in, flight-off}
 use Rattle.rules.proofs.Shortcut.{back, aside, kingTried}
 use Rattle.rules.proofs.Tree.{tried, pruned}
-use Rattle.capture_laws.proofs.Four.{some, some-member, map-append, four}
+use Rattle.capture_laws.proofs.Four.{some, some-member, four}
 use Rattle.capture_laws.proofs.More.{bit-some, bits-apart}
 use Rattle.capture_laws.proofs.Rays.{slide-is, landings-are, landings-none, skips-back, skips-aside, skips-none}
 use Rattle.capture_laws.proofs.Steps.{ended, small, target-lt, over-is, land-is}

@@ -3,7 +3,7 @@ use mathlib.Core.Path.{_≡_, refl, sym, ap, ap₂, _∙_, subst}
 use Prim.Native.Nat.{ℕ, _^_, _<_}
 use native.Mathlib.Omega.{arith}
 use mathlib.Core.Bool.{true, false}
-use mathlib.Core.List.{List, [], _∷_, map, foldl, foldl-append, List·Memᴰ as Member, List·Memᴰ·head as head, List·Memᴰ·tail as tail}
+use mathlib.Core.List.{List, [], _∷_, map, map-append, foldl, foldl-append, List·Memᴰ as Member, List·Memᴰ·head as head, List·Memᴰ·tail as tail}
 use lib.ListN.{length, take, length-map}
 use lib.Dec.{ltb}
 use Rattle.squares.specs.declared.piece.PieceKind.{PieceKind}
@@ -28,7 +28,6 @@ use Rattle.rules.proofs.Captures.{of-sequences}
 use Rattle.rules.proofs.Paths.{Path}
 use Rattle.rules.proofs.Search.{path-on, of-kingTried, searched-is}
 use Rattle.rules.proofs.Shortcut.{kingTried, allTried}
-use Rattle.capture_laws.proofs.Four.{map-append}
 use Rattle.capture_laws.proofs.Kings.{king-endings}
 use Rattle.capture_laws.proofs.Men.{man-endings}
 use Rattle.capture_laws.proofs.More.{first-bit}
