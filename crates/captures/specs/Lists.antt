@@ -1,6 +1,6 @@
 -- Lists of at most 256 moves by value: the moves, then blanks (document 01, "Forms of this Rust that need another").
 use mathlib.Core.Path.{_≡_}
-use Prim.Native.Nat.{ℕ, _+_, _-_}
+use Prim.Native.Nat.{ℕ, _+_, _-_, min}
 use mathlib.Core.Bool.{Bool, false, cond, _||_}
 use mathlib.Core.List.{List, [], _∷_, _++_}
 use lib.Dec.{ltb}
@@ -41,3 +41,7 @@ pushOf l m = cond (ltb (l .len) 256) (record { moves = set (l .moves) (l .len) m
 -- the entry at index i, blank past the last
 unfoldable pub getOf : MoveList → ℕ → Move
 getOf l i = getD (l .moves) i blank
+
+-- the list of these moves: as many as there is room for, then blanks
+unfoldable pub listOf : List Move → MoveList
+listOf xs = record { moves = take 256 (xs ++ replicate 256 blank); len = min 256 (length xs) }
