@@ -10,3 +10,5 @@ pub mod Loops
 pub mod Whole
 pub mod Limit
 pub mod Rows
+pub mod Some
+pub mod Shut

@@ -12,6 +12,7 @@ use Rattle.captures.specs.declared.movegen.Captures.{Captures}
 use Rattle.captures.specs.Record.{noteOf}
 use Rattle.captures.specs.Men.{onto, manEndings, Man, manCaptures}
 use Rattle.captures.specs.Kings.{skipOf, kingEndings, King, kingCaptures}
+use Rattle.captures.proofs.Shut.{set-onto}
 
 -- belongs to squares: a turn of a loop that takes the lowest member, with any state and step
 module _ {S : Type 0} (f : S → ℕ → S) where
@@ -23,10 +24,6 @@ module _ {S : Type 0} (f : S → ℕ → S) where
 
 pub cleared : (m : ℕ) → 0 < m → bitAnd m (m - 1) < m
 cleared m p = omega (arith, and-le-r m (m - 1))
-
--- the search of the piece `at`
-abbrev pub set-onto : ℕ → Captures → ℕ → Captures
-set-onto empty s at = record { list = s .list; them = s .them; empty = bitOr empty at; from = at; best = s .best; overflow = s .overflow }
 
 few : (s : ℕ) → size s < 65
 few s = suc-le-suc (size-most s)

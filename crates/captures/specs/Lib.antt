@@ -1,5 +1,6 @@
 pub mod Lists
 pub mod Rays
+pub mod Open
 pub mod Record
 pub mod Limit
 pub mod Walks

@@ -13,6 +13,8 @@ ghost use Prim.Native.Nat.{_<_, _≤_};
 ghost use Rattle.squares.specs.Directions.{directionAt};
 ghost use Rattle.captures.specs.Rays.{slideOf};
 ghost use Rattle.captures.specs.Record.{startOf, recordOf};
+ghost use Rattle.captures.specs.Walks.{anyUpTo};
+ghost use Rattle.captures.specs.Open.{manJump, kingJump};
 ghost use Rattle.captures.specs.Men.{Man, menCapturesOf};
 ghost use Rattle.captures.specs.Kings.{skipOf, King, kingsCapturesOf};
 
@@ -25,6 +27,50 @@ pub fn slide(from: Bitboard, d: usize, empty: Bitboard) -> Bitboard
         square = bitboard::shift(square, d);
     }
     square
+}
+
+// Whether a man on `at` has an enemy next to it in direction `d` and an empty square behind that.
+fn man_jump(at: Bitboard, them: Bitboard, empty: Bitboard, d: usize) -> bool
+    ensures { λ r. ⌜ r ≡ manJump at them empty d ⌝ }
+{
+    let over = bitboard::shift(at, d) & them;
+    bitboard::shift(over, d) & empty != 0
+}
+
+// Whether a man on `at` has a jump.
+pub fn man_open(at: Bitboard, them: Bitboard, empty: Bitboard) -> bool
+    ensures { λ r. ⌜ r ≡ anyUpTo (manJump at them empty) 4 ⌝ }
+{
+    let mut d = 0;
+    while d < 4 {
+        if man_jump(at, them, empty, d) {
+            return true;
+        }
+        d += 1;
+    }
+    false
+}
+
+// Whether a king on `at` has an enemy ahead of it in direction `d` and an empty square behind that.
+fn king_jump(at: Bitboard, them: Bitboard, empty: Bitboard, d: usize) -> bool
+    ensures { λ r. ⌜ r ≡ kingJump at them empty d ⌝ }
+{
+    let over = slide(at, d, empty) & them;
+    bitboard::shift(over, d) & empty != 0
+}
+
+// Whether a king on `at` has a jump.
+pub fn king_open(at: Bitboard, them: Bitboard, empty: Bitboard) -> bool
+    ensures { λ r. ⌜ r ≡ anyUpTo (kingJump at them empty) 4 ⌝ }
+{
+    let mut d = 0;
+    while d < 4 {
+        if king_jump(at, them, empty, d) {
+            return true;
+        }
+        d += 1;
+    }
+    false
 }
 
 // Whether a king that came in direction `came` leaves direction `d` out. Going back would jump the piece just taken.
@@ -188,7 +234,8 @@ impl Captures {
     }
 }
 
-// The captures of all men, by bit. The first square of the one that moves counts as empty.
+// The captures of all men, by bit. The first square of the one that moves counts as empty. A man without a jump would
+// record nothing.
 pub fn men_captures(start: Captures, men: Bitboard, empty: Bitboard) -> Captures
     ensures { λ r. ⌜ r ≡ menCapturesOf start men empty ⌝ }
 {
@@ -198,7 +245,10 @@ pub fn men_captures(start: Captures, men: Bitboard, empty: Bitboard) -> Captures
         let at = 1u64 << u64::trailing_zeros(left);
         s.from = at;
         s.empty = empty | at;
-        s = s.man(at, 0);
+        let them = s.them;
+        if man_open(at, them, empty | at) {
+            s = s.man(at, 0);
+        }
         left = left & (left - 1);
     }
     s
@@ -214,7 +264,10 @@ pub fn kings_captures(start: Captures, kings: Bitboard, empty: Bitboard) -> Capt
         let at = 1u64 << u64::trailing_zeros(left);
         s.from = at;
         s.empty = empty | at;
-        s = s.king(at, 0, 4);
+        let them = s.them;
+        if king_open(at, them, empty | at) {
+            s = s.king(at, 0, 4);
+        }
         left = left & (left - 1);
     }
     s

@@ -23,20 +23,3 @@ module _ (p : ℕ → Bool) where
   pub any-done : (m : ℕ) (t : Bool) → m ≡ 0 → anyIn p (members m) ≡ t → false ≡ t
   unfolding anyIn
   any-done m t z q = ap (anyIn p) (sym members-none) ∙ ap (λ (n : ℕ). anyIn p (members n)) (sym z) ∙ q
-
-  -- some direction
-  pub up-found : (d : ℕ) → d < 4 → p d ≡ true → true ≡ anyUpTo p 4
-  unfolding anyUpTo
-  up-found zero h e = rw e refl
-  up-found (suc zero) h e = rw (e, or-true) refl
-  up-found (suc (suc zero)) h e = rw (e, or-true) refl
-  up-found (suc (suc (suc zero))) h e = rw (e, or-true) refl
-  up-found (suc (suc (suc (suc n)))) h e = absurd (omega arith)
-
-  pub up-none : anyUpTo p 0 ≡ false
-  unfolding anyUpTo
-  up-none = refl
-
-  pub up-on : (d : ℕ) → anyUpTo p d ≡ false → p d ≡ false → anyUpTo p (d + 1) ≡ false
-  unfolding anyUpTo
-  up-on d q e = ap (anyUpTo p) (add-one d) ∙ ap₂ _||_ q e

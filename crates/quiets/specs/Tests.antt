@@ -8,7 +8,7 @@ use Rattle.squares.specs.Sets.{members}
 use Rattle.squares.specs.Directions.{directionAt, shifted}
 use Rattle.squares.specs.declared.piece.Color.{Color}
 use Rattle.squares.specs.declared.piece.Color.the-variants.{White, Black}
-use Rattle.captures.specs.Rays.{slideOf}
+use Rattle.captures.specs.Open.{kingJump}
 use Rattle.captures.specs.Walks.{anyUpTo}
 
 -- the first of a man's two directions forward; the other has the next index
@@ -33,10 +33,6 @@ hasQuietOf men kings empty side =
 -- empty squares back
 unfoldable pub menJump : ℕ → ℕ → ℕ → ℕ → Bool
 menJump men them empty d = not (eqb (bitAnd (shifted (directionAt (3 - d)) (bitAnd (shifted (directionAt (3 - d)) empty) them)) men) 0)
-
--- the king on `at` has an enemy ahead of it, and an empty square behind that
-unfoldable pub kingJump : ℕ → ℕ → ℕ → ℕ → Bool
-kingJump at them empty d = not (eqb (bitAnd (shifted (directionAt d) (bitAnd (slideOf (directionAt d) empty at) them)) empty) 0)
 
 -- the king at bit i, in some direction; its own square counts as empty
 unfoldable pub kingOpen : ℕ → ℕ → ℕ → Bool

@@ -9,8 +9,7 @@ use squares::piece::Color;
 ghost use mathlib.Core.Path.{_≡_};
 ghost use Prim.Native.Nat.{_<_};
 ghost use Rattle.squares.specs.Sets.{members};
-ghost use Rattle.captures.specs.Walks.{anyUpTo};
-ghost use Rattle.quiets.specs.Tests.{forwardOf, stepsOpen, hasQuietOf, menJump, kingJump, kingOpen, anyIn, hasCaptureOf};
+ghost use Rattle.quiets.specs.Tests.{forwardOf, stepsOpen, hasQuietOf, menJump, kingOpen, anyIn, hasCaptureOf};
 ghost use Rattle.quiets.specs.Quiets.{menMovesOf, kingMovesOf, quietMovesOf};
 
 // A list, and whether there were more moves than it holds.
@@ -56,35 +55,14 @@ fn men_jump(men: Bitboard, them: Bitboard, empty: Bitboard, d: usize) -> bool
     bitboard::shift(over, 3 - d) & men != 0
 }
 
-// Whether the king on `at` has an enemy ahead of it in direction `d` and an empty square behind that. Its own square
-// counts as empty.
-fn king_jump(at: Bitboard, them: Bitboard, empty: Bitboard, d: usize) -> bool
-    ensures { λ r. ⌜ r ≡ kingJump at them empty d ⌝ }
-{
-    let over = movegen::slide(at, d, empty) & them;
-    bitboard::shift(over, d) & empty != 0
-}
-
-fn king_open(at: Bitboard, them: Bitboard, empty: Bitboard) -> bool
-    ensures { λ r. ⌜ r ≡ anyUpTo (kingJump at them empty) 4 ⌝ }
-{
-    let mut d = 0;
-    while d < 4 {
-        if king_jump(at, them, empty, d) {
-            return true;
-        }
-        d += 1;
-    }
-    false
-}
-
+// Whether some king has a jump. Its own square counts as empty.
 fn kings_open(kings: Bitboard, them: Bitboard, empty: Bitboard) -> bool
     ensures { λ r. ⌜ r ≡ anyIn (kingOpen them empty) (members kings) ⌝ }
 {
     let mut left = kings;
     while left != 0 {
         let at = 1u64 << u64::trailing_zeros(left);
-        if king_open(at, them, empty | at) {
+        if movegen::king_open(at, them, empty | at) {
             return true;
         }
         left = left & (left - 1);

@@ -9,7 +9,8 @@ use Rattle.squares.proofs.Pointwise.{one-bit}
 use Rattle.squares.proofs.Members.{lowest-lt}
 use Rattle.captures.specs.Walks.{anyUpTo}
 use Rattle.captures.proofs.Loops.{cleared}
-use Rattle.quiets.specs.Tests.{anyIn, kingJump, kingOpen}
+use Rattle.captures.specs.Open.{kingJump}
+use Rattle.quiets.specs.Tests.{anyIn, kingOpen}
 use Rattle.quiets.proofs.Some.{any-here, any-on, any-done}
 use Rattle.quiets.proofs.quiets.kings_open.Statement.{statement}
 use Rattle.quiets.proofs.quiets.kings_open.Tie as tie

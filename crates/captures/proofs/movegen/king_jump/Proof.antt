@@ -1,9 +1,9 @@
 -- The code writes the definition.
 use mathlib.Core.Path.{refl}
-use Rattle.quiets.specs.Tests.{kingJump}
+use Rattle.captures.specs.Open.{kingJump}
 use borrow.Author.Needs.{needs}
-use Rattle.quiets.proofs.quiets.king_jump.Statement.{statement}
-use Rattle.quiets.proofs.quiets.king_jump.Tie as tie
+use Rattle.captures.proofs.movegen.king_jump.Statement.{statement}
+use Rattle.captures.proofs.movegen.king_jump.Tie as tie
 
 slide-requires : tie.Need-slide-requires
 slide-requires c κs = search needs
