@@ -1,2 +1,4 @@
 pub mod Some
 pub mod Filled
+pub mod Bits
+pub mod Lists
