@@ -1,16 +1,15 @@
 -- Moves added one by one fill the list: it holds as many as there is room for, then blanks, and the mark says that there
 -- were more.
 use mathlib.Core.Path.{_≡_, refl, sym, ap, ap₂, _∙_}
-use Prim.Native.Nat.{ℕ, zero, suc, _+_, _^_, _≤_, _<_, min}
+use Prim.Native.Nat.{ℕ, zero, suc, _+_, _≤_, _<_, min}
 use native.Mathlib.Omega.{arith}
 use mathlib.Core.Bool.{Bool, true, false, cond, _||_, or-true}
 use mathlib.Core.List.{List, [], _∷_, _++_, foldl, append-assoc, append-nil}
 use lib.ListN.{length, take, set, replicate, length-append}
 use lib.Seq.{take-append-le}
 use lib.Dec.{ltb, leb}
-use borrow.Author.Tests.{ltb-true, ltb-false, lt-ltb, le-ltb, le-leb, lt-leb}
+use borrow.Author.Tests.{ltb-true, ltb-false, lt-ltb, le-ltb, lt-leb}
 use Rattle.positions.specs.declared.moves.Move.{Move}
-use Rattle.captures.specs.declared.moves.MoveList.{MoveList}
 use Rattle.captures.specs.Lists.{blank, noMoves, pushOf, listOf}
 use Rattle.quiets.specs.declared.quiets.Listing.{Listing}
 use Rattle.quiets.specs.Quiets.{listing, addOf}
@@ -19,7 +18,7 @@ use Rattle.quiets.specs.Quiets.{listing, addOf}
 abbrev pub filled : List Move → Listing
 filled xs = listing (listOf xs) (ltb 256 (length xs))
 
-pub filled-none : listing noMoves false ≡ filled []
+filled-none : listing noMoves false ≡ filled []
 unfolding listOf
 filled-none = refl
 
@@ -72,6 +71,10 @@ add-filled xs m = go (ltb (length xs) 256) refl
         ∙ sym (take-append-le 256 xs (m ∷ []) h)
         ∙ sym (take-append-le 256 (xs ++ (m ∷ [])) (replicate 256 blank) (omega (arith, long xs m)))) k
 
-pub fold-filled : (ys xs : List Move) → foldl addOf (filled xs) ys ≡ filled (xs ++ ys)
+fold-filled : (ys xs : List Move) → foldl addOf (filled xs) ys ≡ filled (xs ++ ys)
 fold-filled [] xs = ap filled (sym (append-nil xs))
 fold-filled (y ∷ ys) xs = ap (λ (l : Listing). foldl addOf l ys) (add-filled xs y) ∙ fold-filled ys (xs ++ (y ∷ [])) ∙ ap filled (append-assoc xs (y ∷ []) ys)
+
+-- from the list without moves
+pub fill-law : (xs : List Move) → foldl addOf (listing noMoves false) xs ≡ filled xs
+fill-law xs = ap (λ (l : Listing). foldl addOf l xs) filled-none ∙ fold-filled xs []

@@ -1,4 +1,9 @@
+pub mod More
 pub mod Some
+pub mod Walks
+pub mod Rays
 pub mod Filled
-pub mod Bits
 pub mod Lists
+pub mod HasQuiet
+pub mod HasCapture
+pub mod Laws

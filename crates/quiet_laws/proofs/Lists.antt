@@ -1,60 +1,37 @@
 -- The quiet lists are those of the rules: the men's steps and the kings' flights, entry by entry in the same order.
-use mathlib.Core.Path.{_≡_, refl, sym, ap, ap₂, _∙_, subst}
-use Prim.Native.Nat.{ℕ, zero, suc, _+_, _-_, _^_, _<_}
-use native.Mathlib.Nat.{lt-of-le-of-lt}
-use native.Mathlib.Omega.{arith}
-use mathlib.Core.Bool.{Bool, true, false, cond}
+use mathlib.Core.Path.{_≡_, refl, sym, ap, ap₂, _∙_}
+use Prim.Native.Nat.{ℕ, _+_, _-_, _^_, _<_}
 use mathlib.Core.List.{List, [], _∷_, _++_, map, flatMap, append-nil, map-map, map-append, List·Memᴰ as Member, List·Memᴰ·head as head, List·Memᴰ·tail as tail}
-use lib.Dec.{eqb}
-use lib.Bits.{bitAnd, and-le-l}
+use lib.Bits.{bitAnd}
 use Rattle.squares.specs.Sets.{has, members}
-use Rattle.squares.specs.Squares.{squareAtBit, firstOf}
-use Rattle.squares.specs.Directions.{Direction, upLeft, upRight, downLeft, downRight, next, opposite, indexOf, directionAt, shifted}
+use Rattle.squares.specs.Squares.{firstOf}
+use Rattle.squares.specs.Directions.{Direction, upLeft, upRight, downLeft, downRight, next, opposite, indexOf, shifted}
 use Rattle.squares.specs.declared.piece.Color.{Color}
 use Rattle.squares.specs.declared.piece.Color.the-variants.{White, Black}
 use Rattle.squares.specs.declared.piece.PieceKind.the-variants.{Man, King}
 use Rattle.squares.proofs.Bools.{and-right}
 use Rattle.squares.proofs.Members.{of-members}
 use Rattle.squares.proofs.Pointwise.{has-and, member-lt}
-use Rattle.squares.proofs.Shifts.{direction-index, step-and}
+use Rattle.squares.proofs.Shifts.{direction-index}
 use Rattle.positions.specs.declared.moves.Move.{Move}
 use Rattle.positions.specs.Boards.{Board, pieces, empty}
 use Rattle.positions.specs.Moves.{move}
 use Rattle.captures.specs.Rays.{far, landings}
 use Rattle.captures.specs.Walks.{upTo}
 use Rattle.rules.specs.Lists.{concatMap}
-use Rattle.rules.specs.Ordered.{directions, ahead, ray, manSteps, kingFlights, quiets}
-use Rattle.rules.specs.Rules.{BitMove, bitMove, numbered, forward, Fair}
+use Rattle.rules.specs.Ordered.{ray, manSteps, kingFlights, quiets}
+use Rattle.rules.specs.Rules.{bitMove, numbered, forward, Fair}
 use Rattle.rules.proofs.Boards.{empty-lt, piece-lt}
-use Rattle.rules.proofs.Ray.{ahead-on, ahead-end, of-ray, glide-in}
+use Rattle.rules.proofs.Ray.{of-ray, glide-in}
 use Rattle.rules.proofs.Steps.{man-steps-code}
-use Rattle.quiets.specs.Tests.{forwardOf}
 use Rattle.quiets.specs.Quiets.{quietMove, stepMove, menSteps, menQuiets, flightOf, flights, kingQuiets}
-use Rattle.quiet_laws.proofs.Bits.{bit-some, first-bit, first-step, at-opposite, all-four}
+use Rattle.quiet_laws.proofs.More.{first-bit, first-step, at-opposite}
+use Rattle.quiet_laws.proofs.Rays.{landings-ray}
+use Rattle.quiet_laws.proofs.Walks.{all-four}
 
 map-same : {A B : Type 0} (f g : A → B) (l : List A) → ((x : A) → Member x l → f x ≡ g x) → map f l ≡ map g l
 map-same f g [] h = refl
 map-same {B = B} f g (x ∷ xs) h = ap₂ (λ (a : B) (l : List B). a ∷ l) (h x (head refl)) (map-same f g xs (λ y m. h y (tail m)))
-
--- ---- landings
--- one-bit sets along a ray
-pub landings-ahead : (n : ℕ) (e : ℕ) (d : Direction) (o : ℕ) → e < 2 ^ 54 → o < 54
-    → landings n d e (bitAnd (shifted d (2 ^ o)) e) ≡ map (λ (j : ℕ). 2 ^ j) (ahead n e d o)
-unfolding landings ahead
-landings-ahead zero e d o s h = refl
-landings-ahead (suc n) e d o s h = ap (landings (suc n) d e) (step-and d o h e s) ∙ go (λ l. landings-ahead n e d (next d o) s l) (has e (next d o)) refl
-  where
-    go : (next d o < 54 → landings n d e (bitAnd (shifted d (2 ^ next d o)) e) ≡ map (λ (j : ℕ). 2 ^ j) (ahead n e d (next d o)))
-        → (c : Bool) → has e (next d o) ≡ c → landings (suc n) d e (cond (has e (next d o)) (2 ^ next d o) 0) ≡ map (λ (j : ℕ). 2 ^ j) (ahead (suc n) e d o)
-    go ih true q =
-        ap (λ (c : Bool). landings (suc n) d e (cond c (2 ^ next d o) 0)) q
-        ∙ ap (λ (c : Bool). cond c [] (2 ^ next d o ∷ landings n d e (bitAnd (shifted d (2 ^ next d o)) e))) (bit-some (next d o))
-        ∙ ap (λ (r : List ℕ). 2 ^ next d o ∷ r) (ih (member-lt 54 e (next d o) s q)) ∙ ap (map (λ (j : ℕ). 2 ^ j)) (sym (ahead-on e d n o q))
-    go ih false q = ap (λ (c : Bool). landings (suc n) d e (cond c (2 ^ next d o) 0)) q ∙ ap (map (λ (j : ℕ). 2 ^ j)) (sym (ahead-end e d (suc n) o q))
-
-pub landings-ray : (e : ℕ) (d : Direction) (o : ℕ) → e < 2 ^ 54 → o < 54 → landings far d e (bitAnd (shifted d (2 ^ o)) e) ≡ map (λ (j : ℕ). 2 ^ j) (ray e d o)
-unfolding far ray
-landings-ray e d o s h = landings-ahead 64 e d o s h
 
 module _ (b : Board) (fair : Fair b) where
   -- ---- men
