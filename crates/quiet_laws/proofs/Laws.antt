@@ -1,6 +1,6 @@
 -- The laws that crates above cite: on a fair board the quiet list and the tests by sets are those of the rules.
-use mathlib.Core.Path.{_≡_, sym, ap, _∙_}
-use mathlib.Core.Bool.{true, false, false≢true}
+use mathlib.Core.Path.{_≡_, sym, ap, ap₂, _∙_}
+use mathlib.Core.Bool.{Bool, true, false, _||_, false≢true}
 use mathlib.Core.List.{_++_, map}
 use mathlib.Core.Logic.{_↔_}
 use lib.ListN.{length, length-map}
@@ -17,6 +17,7 @@ use Rattle.quiets.specs.Tests.{hasQuietOf, hasCaptureOf}
 use Rattle.quiet_laws.specs.Some.{some}
 use Rattle.quiet_laws.proofs.Filled.{filled, fill-law}
 use Rattle.quiet_laws.proofs.HasCapture.{open-tested, capture-test}
+use Rattle.quiet_laws.proofs.HasMove.{some-legal}
 use Rattle.quiet_laws.proofs.HasQuiet.{quiet-test}
 use Rattle.quiet_laws.proofs.Lists.{lists-law}
 
@@ -57,3 +58,7 @@ module _ (b : Board) (fair : Fair b) where
   unfolding quietMovesOf
   legal-filled e =
       fill-law (menQuiets (pieces b Man) (empty b) (b .side) ++ kingQuiets (pieces b King) (empty b)) ∙ ap filled (quiet-moves ∙ sym (quiets-legal e))
+
+  -- ---- whether a move is legal
+  pub has-move-law : (hasCaptureOf (pieces b Man) (pieces b King) (enemy b) (empty b) || hasQuietOf (pieces b Man) (pieces b King) (empty b) (b .side)) ≡ some (legal b)
+  has-move-law = ap₂ (λ (x y : Bool). x || y) has-capture-law has-quiet-law ∙ sym (some-legal b)

@@ -6,4 +6,5 @@ pub mod Filled
 pub mod Lists
 pub mod HasQuiet
 pub mod HasCapture
+pub mod HasMove
 pub mod Laws

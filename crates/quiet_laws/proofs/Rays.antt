@@ -38,19 +38,21 @@ landings-ray e d o s h = landings-ahead 64 e d o s h
 slide-ahead : (n e : ℕ) (d : Direction) (i : ℕ) → e < 2 ^ 54 → i < 54 → slideFrom n d e (shifted d (2 ^ i)) ≡ shifted d (2 ^ last i (ahead n e d i))
 unfolding slideFrom ahead last
 slide-ahead zero e d i s h = refl
-slide-ahead (suc n) e d i s h = go (λ l. slide-ahead n e d (next d i) s l) (has e (next d i)) refl
+slide-ahead (suc n) e d i s h = ap on (step-and d i h e s) ∙ go (λ l. slide-ahead n e d (next d i) s l) (has e (next d i)) refl
   where
+    -- what is left to do where x of the empty squares is met
+    on : ℕ → ℕ
+    on x = cond (eqb x 0) (shifted d (2 ^ i)) (slideFrom n d e (shifted d (shifted d (2 ^ i))))
+
     go : (next d i < 54 → slideFrom n d e (shifted d (2 ^ next d i)) ≡ shifted d (2 ^ last (next d i) (ahead n e d (next d i))))
-        → (c : Bool) → has e (next d i) ≡ c → slideFrom (suc n) d e (shifted d (2 ^ i)) ≡ shifted d (2 ^ last i (ahead (suc n) e d i))
+        → (c : Bool) → has e (next d i) ≡ c → on (cond (has e (next d i)) (2 ^ next d i) 0) ≡ shifted d (2 ^ last i (ahead (suc n) e d i))
     go ih true q =
         let l = member-lt 54 e (next d i) s q in
-        ap (λ (x : ℕ). cond (eqb x 0) (shifted d (2 ^ i)) (slideFrom n d e (shifted d (shifted d (2 ^ i))))) (step-and d i h e s ∙ ap (λ (c : Bool). cond c (2 ^ next d i) 0) q)
+        ap (λ (c : Bool). on (cond c (2 ^ next d i) 0)) q
         ∙ ap (λ (c : Bool). cond c (shifted d (2 ^ i)) (slideFrom n d e (shifted d (shifted d (2 ^ i))))) (bit-some (next d i))
         ∙ ap (λ (x : ℕ). slideFrom n d e (shifted d x)) (step-bit d i h l) ∙ ih l
         ∙ ap (λ (l : List ℕ). shifted d (2 ^ last i l)) (sym (ahead-on e d n i q))
-    go ih false q =
-        ap (λ (x : ℕ). cond (eqb x 0) (shifted d (2 ^ i)) (slideFrom n d e (shifted d (shifted d (2 ^ i))))) (step-and d i h e s ∙ ap (λ (c : Bool). cond c (2 ^ next d i) 0) q)
-        ∙ ap (λ (l : List ℕ). shifted d (2 ^ last i l)) (sym (ahead-end e d (suc n) i q))
+    go ih false q = ap (λ (c : Bool). on (cond c (2 ^ next d i) 0)) q ∙ ap (λ (l : List ℕ). shifted d (2 ^ last i l)) (sym (ahead-end e d (suc n) i q))
 
 pub slide-law : (e : ℕ) (d : Direction) (i : ℕ) → e < 2 ^ 54 → i < 54 → slideOf d e (2 ^ i) ≡ shifted d (2 ^ last i (ray e d i))
 unfolding slideOf far ray
