@@ -7,8 +7,6 @@ pub mod Walks
 pub mod Men
 pub mod Kings
 pub mod Loops
-pub mod Whole
-pub mod Limit
 pub mod Rows
 pub mod Some
 pub mod Shut

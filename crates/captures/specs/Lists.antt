@@ -20,15 +20,6 @@ noMoves = record { moves = replicate 256 blank; len = 0 }
 abbrev pub entries : MoveList → List Move
 entries l = take (l .len) (l .moves)
 
--- the list of these moves, at most 256, and then blanks
-abbrev pub listOf : List Move → MoveList
-listOf xs = record { moves = xs ++ replicate (256 - length xs) blank; len = length xs }
-
--- the first 256 of these moves, then blanks; o says whether there are more
-pub record Filled (l : MoveList) (o : Bool) (xs : List Move) : Type 0 where
-  pub list : l ≡ listOf (take 256 xs)
-  pub more : o ≡ ltb 256 (length xs)
-
 -- whether m stands among some moves
 unfoldable pub listed : List Move → Move → Bool
 listed [] m = false

@@ -25,7 +25,7 @@ use Rattle.rules.proofs.Captures.{shut-law}
 use Rattle.rules.proofs.Jumps.{all-directions}
 use Rattle.rules.proofs.Ray.{last-ray, last-is, glide-in}
 use Rattle.quiets.specs.Tests.{anyIn, menJump, kingOpen, hasCaptureOf}
-use Rattle.quiets.specs.Tests as tests
+use Rattle.captures.specs.Open as tests
 use Rattle.quiet_laws.specs.Some.{some}
 use Rattle.quiet_laws.proofs.HasQuiet.{open-law}
 use Rattle.quiet_laws.proofs.More.{bit-some, at-opposite}
