@@ -28,7 +28,7 @@ use Rattle.rules.proofs.Ray.{ray-on, ray-end, of-ray, last-ray, glide-in, fligh
 use Rattle.rules.proofs.Shortcut.{back, aside, kingTried}
 use Rattle.rules.proofs.Tree.{tried, pruned}
 use Rattle.capture_laws.proofs.Four.{some, some-member, four}
-use Rattle.capture_laws.proofs.More.{bit-some, bits-apart}
+use Rattle.squares.proofs.OneBit.{bit-some, bits-apart}
 use Rattle.capture_laws.proofs.Rays.{slide-is, landings-are, landings-none, skips-back, skips-aside, skips-none}
 use Rattle.capture_laws.proofs.Steps.{ended, small, target-lt, over-is, land-is}
 

@@ -1,4 +1,3 @@
-pub mod More
 pub mod Four
 pub mod Stored
 pub mod Recorded

@@ -24,7 +24,7 @@ use Rattle.rules.proofs.Lists.{in-concatMap, concatMap-concatMap}
 use Rattle.rules.proofs.Paths.{starts, fuel}
 use Rattle.rules.proofs.Tree.{some-followed}
 use Rattle.capture_laws.proofs.Four.{some, some-member, four}
-use Rattle.capture_laws.proofs.More.{bit-some}
+use Rattle.squares.proofs.OneBit.{bit-some}
 use Rattle.capture_laws.proofs.Steps.{ended, small, over-is, land-is}
 
 landing-yes : (e l : ℕ) → has e l ≡ true → manLandings e l ≡ l ∷ []

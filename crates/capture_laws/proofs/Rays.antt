@@ -19,7 +19,7 @@ use Rattle.captures.specs.Rays.{far, slideFrom, slideOf, landings}
 use Rattle.rules.specs.Ordered.{ahead, ray, last}
 use Rattle.rules.proofs.Ray.{ahead-on, ahead-end}
 use Rattle.rules.proofs.Shortcut.{back, straight, aside}
-use Rattle.capture_laws.proofs.More.{step-is, bit-some}
+use Rattle.squares.proofs.OneBit.{step-bit, bit-some}
 
 -- ---- the squares of e along d
 module _ (e : ℕ) (small : e < 2 ^ 54) (d : Direction) where
@@ -28,7 +28,7 @@ module _ (e : ℕ) (small : e < 2 ^ 54) (d : Direction) where
   slide-on n i h q =
       ap (λ (c : Bool). cond c (shifted d (2 ^ i)) (slideFrom n d e (shifted d (shifted d (2 ^ i)))))
       (ap (λ (w : ℕ). eqb w 0) (step-and d i h e small ∙ ap (λ (c : Bool). bitIf c (next d i)) q) ∙ bit-some (next d i))
-      ∙ ap (λ (w : ℕ). slideFrom n d e (shifted d w)) (step-is d i h (member-lt 54 e (next d i) small q))
+      ∙ ap (λ (w : ℕ). slideFrom n d e (shifted d w)) (step-bit d i h (member-lt 54 e (next d i) small q))
 
   slide-end : (n i : ℕ) → i < 54 → has e (next d i) ≡ false → slideFrom n d e (shifted d (2 ^ i)) ≡ shifted d (2 ^ i)
   unfolding slideFrom

@@ -31,7 +31,7 @@ use Rattle.rules.proofs.Search.{path-on, of-kingTried, searched-is}
 use Rattle.rules.proofs.Shortcut.{kingTried, allTried}
 use Rattle.capture_laws.proofs.Kings.{king-endings}
 use Rattle.capture_laws.proofs.Men.{man-endings}
-use Rattle.capture_laws.proofs.More.{first-bit}
+use Rattle.squares.proofs.OneBit.{first-bit}
 use Rattle.capture_laws.proofs.Recorded.{Holds, moveTo, Searched, fold-holds, fold-bound}
 use Rattle.capture_laws.proofs.Steps.{ended}
 use Rattle.capture_laws.proofs.Stored.{none-listed}

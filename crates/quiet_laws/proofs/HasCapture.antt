@@ -28,7 +28,7 @@ use Rattle.quiets.specs.Tests.{anyIn, menJump, kingOpen, hasCaptureOf}
 use Rattle.captures.specs.Open as tests
 use Rattle.quiet_laws.specs.Some.{some}
 use Rattle.quiet_laws.proofs.HasQuiet.{open-law}
-use Rattle.quiet_laws.proofs.More.{bit-some, at-opposite}
+use Rattle.squares.proofs.OneBit.{bit-some, at-opposite}
 use Rattle.quiet_laws.proofs.Rays.{slide-law}
 use Rattle.quiet_laws.proofs.Some.{some-none, none-some, any-ext, any-found, found-any}
 use Rattle.quiet_laws.proofs.Walks.{any-four}

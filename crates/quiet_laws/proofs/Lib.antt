@@ -1,4 +1,3 @@
-pub mod More
 pub mod Some
 pub mod Walks
 pub mod Rays

@@ -1,5 +1,6 @@
 -- The quiet lists are those of the rules: the men's steps and the kings' flights, entry by entry in the same order.
 use mathlib.Core.Path.{_≡_, refl, sym, ap, ap₂, _∙_}
+use native.Mathlib.Omega.{arith}
 use Prim.Native.Nat.{ℕ, _+_, _-_, _^_, _<_}
 use mathlib.Core.List.{List, [], _∷_, _++_, map, flatMap, append-nil, map-map, map-append, List·Memᴰ as Member, List·Memᴰ·head as head, List·Memᴰ·tail as tail}
 use lib.Bits.{bitAnd}
@@ -25,7 +26,7 @@ use Rattle.rules.proofs.Boards.{empty-lt, piece-lt}
 use Rattle.rules.proofs.Ray.{of-ray, glide-in}
 use Rattle.rules.proofs.Steps.{man-steps-code}
 use Rattle.quiets.specs.Quiets.{quietMove, stepMove, menSteps, menQuiets, flightOf, flights, kingQuiets}
-use Rattle.quiet_laws.proofs.More.{first-bit, first-step, at-opposite}
+use Rattle.squares.proofs.OneBit.{first-bit, first-step, at-opposite}
 use Rattle.quiet_laws.proofs.Rays.{landings-ray}
 use Rattle.quiet_laws.proofs.Walks.{all-four}
 
@@ -53,7 +54,7 @@ module _ (b : Board) (fair : Fair b) where
 
       made : (z : ℕ) → z < 54 → stepMove (indexOf d) z ≡ numbered (bitMove (next (opposite d) z) z 0)
       made z h =
-          ap₂ (λ (f t : ℕ). move f t 0) (ap (λ (e : Direction). firstOf (shifted e (2 ^ z))) (at-opposite d) ∙ first-step (opposite d) z h) (first-bit z h)
+          ap₂ (λ (f t : ℕ). move f t 0) (ap (λ (e : Direction). firstOf (shifted e (2 ^ z))) (at-opposite d) ∙ first-step (opposite d) z h) (first-bit z (omega (arith, h)))
 
   pub men-law : (side : Color) → menQuiets (pieces b Man) (empty b) side ≡ map numbered (concatMap (manSteps b) (forward side))
   unfolding menQuiets upTo forward concatMap
@@ -68,7 +69,7 @@ module _ (b : Board) (fair : Fair b) where
       ∙ ap (map (quietMove (2 ^ i))) (landings-ray (empty b) d i (empty-lt b) h)
       ∙ map-map (quietMove (2 ^ i)) (λ (j : ℕ). 2 ^ j) (ray (empty b) d i)
       ∙ map-same (λ (j : ℕ). quietMove (2 ^ i) (2 ^ j)) (λ (j : ℕ). numbered (bitMove i j 0)) (ray (empty b) d i)
-      (λ j m. ap₂ (λ (f t : ℕ). move f t 0) (first-bit i h) (first-bit j (glide-in (empty b) d (empty-lt b) (of-ray (empty b) d i j m .far) (near j m))))
+      (λ j m. ap₂ (λ (f t : ℕ). move f t 0) (first-bit i (omega (arith, h))) (first-bit j (omega (arith, glide-in (empty b) d (empty-lt b) (of-ray (empty b) d i j m .far) (near j m)))))
       ∙ sym (map-map numbered (λ (j : ℕ). bitMove i j 0) (ray (empty b) d i))
     where
       near : (j : ℕ) → Member j (ray (empty b) d i) → next d i < 54

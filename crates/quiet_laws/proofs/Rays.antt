@@ -12,7 +12,7 @@ use Rattle.squares.proofs.Shifts.{step-and}
 use Rattle.captures.specs.Rays.{far, slideFrom, slideOf, landings}
 use Rattle.rules.specs.Ordered.{ahead, ray, last}
 use Rattle.rules.proofs.Ray.{ahead-on, ahead-end}
-use Rattle.quiet_laws.proofs.More.{bit-some, step-bit}
+use Rattle.squares.proofs.OneBit.{bit-some, step-bit}
 
 -- ---- landings
 landings-ahead : (n : ℕ) (e : ℕ) (d : Direction) (o : ℕ) → e < 2 ^ 54 → o < 54

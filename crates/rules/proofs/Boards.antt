@@ -21,7 +21,7 @@ use Rattle.squares.proofs.Numbers.{all-lt, all-lt64, on-lt, has-all}
 use Rattle.squares.proofs.Pointwise.{has-and, has-or}
 use Rattle.positions.specs.Boards.{Board, colored, ofKind, own, enemy, pieces, empty}
 use Rattle.rules.specs.Rules.{space, Fair}
-use Rattle.rules.proofs.More.{of-without, of-or, of-bit}
+use Rattle.squares.proofs.Cases.{of-without, of-or, of-bit}
 
 pub wide : (s : ℕ) → s < 2 ^ 54 → s < 2 ^ 64
 wide s h = omega arith

@@ -15,7 +15,7 @@ use Rattle.rules.specs.Ordered.{directions}
 use Rattle.rules.specs.Rules.{forward}
 use Rattle.rules.proofs.Held.{Distinct, nil, cons}
 use Rattle.rules.proofs.Lists.{of-concatMap, in-map, of-map, keep-yes, keep-no, of-keep}
-use Rattle.rules.proofs.More.{rising-least, rising-tail}
+use Rattle.squares.proofs.Rising.{rising-least, rising-tail}
 
 module _ {A : Type 0} where
   pub append-once : (xs ys : List A) → Distinct xs → Distinct ys → ((z : A) → Member z xs → Member z ys → ⊥) → Distinct (xs ++ ys)

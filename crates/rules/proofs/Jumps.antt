@@ -20,7 +20,7 @@ use Rattle.rules.proofs.Boards.{own-lt, wide, enemy-lt, space-lt, enemy
 use Rattle.rules.specs.Ordered.{directions, ray, last, blocker, target, hop, jumpsOver, manLandings, jumpsAlong, jumps, count}
 use Rattle.rules.specs.Rules.{BitMove, bitMove, space, Target, Jump, manJump, kingJump, Fair}
 use Rattle.rules.proofs.Lists.{in-concatMap, of-concatMap, in-map, of-map}
-use Rattle.rules.proofs.More.{size-falls}
+use Rattle.squares.proofs.Cases.{size-falls}
 use Rattle.rules.proofs.Ray.{of-ray, last-ray, in-ray, last-is}
 
 pub all-directions : (d : Direction) → Member d directions

@@ -21,7 +21,7 @@ use Rattle.positions.specs.Successor.{Playable}
 use Rattle.rules.specs.Rules.{BitMove, numbered, space, Glide, rest, step, Flight, Jump, manJump, kingJump, Capture, Quiet, manStep, kingFlight, BitLegal, capture, quiet, Fair}
 use Rattle.rules.proofs.Boards.{wide, enemy-lt, own-on, enemy-on, empty-on, empty-free, of-space, piece-own}
 use Rattle.rules.proofs.Jumps.{jump-target}
-use Rattle.rules.proofs.More.{of-or, of-bit}
+use Rattle.squares.proofs.Cases.{of-or, of-bit}
 use Rattle.rules.proofs.Paths.{Path, begin, onward, of-sequence}
 
 glide-end : {e i j : ℕ} {d : Direction} → Glide e d i j → has e i ≡ true → has e j ≡ true

@@ -18,7 +18,7 @@ use Rattle.rules.specs.Lists.{keep}
 use Rattle.rules.specs.Ordered.{manSteps}
 use Rattle.rules.specs.Rules.{BitMove, bitMove, Fair}
 use Rattle.rules.proofs.Lists.{in-map, of-map, keep-yes, keep-no, in-keep, of-keep}
-use Rattle.rules.proofs.More.{rising-head, rising-tail, rising-cons, rising-lower, rising-map, rising-ext}
+use Rattle.squares.proofs.Rising.{rising-head, rising-tail, rising-cons, rising-lower, rising-map, rising-ext}
 use Rattle.rules.proofs.Shortcut.{back}
 
 keep-rising : (p : ℕ → Bool) (n : ℕ) (l : List ℕ) → rising n l ≡ true → rising n (keep p l) ≡ true

@@ -6,8 +6,11 @@ pub mod Folds
 pub mod Unions
 pub mod Sizes
 pub mod Sums
+pub mod Cases
+pub mod Rising
 pub mod Numbers
 pub mod Shifts
+pub mod OneBit
 pub mod Keys
 pub mod Characters
 pub mod Product
