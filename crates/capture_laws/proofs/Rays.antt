@@ -73,6 +73,10 @@ module _ (e : ℕ) (small : e < 2 ^ 54) (d : Direction) where
   unfolding far ray
   landings-are o h = landings-from 64 o h
 
+  -- as the quiet lists write it
+  pub landings-ray : (o : ℕ) → o < 54 → landings far d e (bitAnd (shifted d (2 ^ o)) e) ≡ map (λ (j : ℕ). 2 ^ j) (ray e d o)
+  landings-ray o h = ap (landings far d e) (step-and d o h e small) ∙ landings-are o h
+
   pub landings-none : landings far d e 0 ≡ []
   unfolding far landings
   landings-none = refl

@@ -29,7 +29,7 @@ use Rattle.captures.specs.Open as tests
 use Rattle.quiet_laws.specs.Some.{some}
 use Rattle.quiet_laws.proofs.HasQuiet.{open-law}
 use Rattle.squares.proofs.OneBit.{bit-some, at-opposite}
-use Rattle.quiet_laws.proofs.Rays.{slide-law}
+use Rattle.capture_laws.proofs.Rays.{slide-is}
 use Rattle.quiet_laws.proofs.Some.{some-none, none-some, any-ext, any-found, found-any}
 use Rattle.quiet_laws.proofs.Walks.{any-four}
 
@@ -48,7 +48,7 @@ module _ (b : Board) (fair : Fair b) where
   king-may i h d =
       ap (λ (c : Direction). not (eqb (bitAnd (shifted c (bitAnd (slideOf c E (2 ^ i)) (enemy b))) E) 0)) (direction-index d)
       ∙ ap (λ (x : ℕ). not (eqb (bitAnd (shifted d x) E) 0))
-      (ap (λ (x : ℕ). bitAnd x (enemy b)) (slide-law E d i small h) ∙ step-and d p (glide-in E d small (last-ray E d i) h) (enemy b) (enemy-lt b fair))
+      (ap (λ (x : ℕ). bitAnd x (enemy b)) (slide-is E small d i h) ∙ step-and d p (glide-in E d small (last-ray E d i) h) (enemy b) (enemy-lt b fair))
       ∙ go (has (enemy b) (next d p)) refl
     where
       E : ℕ

@@ -1,6 +1,5 @@
 pub mod Some
 pub mod Walks
-pub mod Rays
 pub mod Filled
 pub mod Lists
 pub mod HasQuiet

@@ -27,7 +27,7 @@ use Rattle.rules.proofs.Ray.{of-ray, glide-in}
 use Rattle.rules.proofs.Steps.{man-steps-code}
 use Rattle.quiets.specs.Quiets.{quietMove, stepMove, menSteps, menQuiets, flightOf, flights, kingQuiets}
 use Rattle.squares.proofs.OneBit.{first-bit, first-step, at-opposite}
-use Rattle.quiet_laws.proofs.Rays.{landings-ray}
+use Rattle.capture_laws.proofs.Rays.{landings-ray}
 use Rattle.quiet_laws.proofs.Walks.{all-four}
 
 map-same : {A B : Type 0} (f g : A → B) (l : List A) → ((x : A) → Member x l → f x ≡ g x) → map f l ≡ map g l
@@ -66,7 +66,7 @@ module _ (b : Board) (fair : Fair b) where
   unfolding flightOf
   flight-law i h d =
       ap (λ (e : Direction). map (quietMove (2 ^ i)) (landings far e (empty b) (bitAnd (shifted e (2 ^ i)) (empty b)))) (direction-index d)
-      ∙ ap (map (quietMove (2 ^ i))) (landings-ray (empty b) d i (empty-lt b) h)
+      ∙ ap (map (quietMove (2 ^ i))) (landings-ray (empty b) (empty-lt b) d i h)
       ∙ map-map (quietMove (2 ^ i)) (λ (j : ℕ). 2 ^ j) (ray (empty b) d i)
       ∙ map-same (λ (j : ℕ). quietMove (2 ^ i) (2 ^ j)) (λ (j : ℕ). numbered (bitMove i j 0)) (ray (empty b) d i)
       (λ j m. ap₂ (λ (f t : ℕ). move f t 0) (first-bit i (omega (arith, h))) (first-bit j (omega (arith, glide-in (empty b) d (empty-lt b) (of-ray (empty b) d i j m .far) (near j m)))))
