@@ -13,7 +13,7 @@ use Rattle.positions.specs.declared.moves.Move.{Move}
 use Rattle.captures.specs.Lists.{noMoves, entries, Filled}
 use Rattle.captures.proofs.Whole.{Whole, none-whole, push-whole, push-entries, entries-length, whole-is}
 use Rattle.quiets.specs.declared.quiets.Listing.{Listing}
-use Rattle.quiets.specs.Quiets.{listing, addOf, menQuiets, kingQuiets, quietMovesOf}
+use Rattle.quiets.specs.Quiets.{listing, addOf, allQuiets, quietMovesOf}
 
 pub record Held (l : Listing) (xs : List Move) : Type 0 where
   pub whole : Whole (l .list)
@@ -60,10 +60,10 @@ held-fold [] l xs f = subst (λ (z : List Move). Held l z) (sym (append-nil xs))
 held-fold (y ∷ ys) l xs f =
     subst (λ (z : List Move). Held (foldl addOf (addOf l y) ys) z) (append-assoc xs (y ∷ []) ys) (held-fold ys (addOf l y) (xs ++ (y ∷ [])) (held-add l xs y f))
 
--- the quiet moves: the men's, then the kings'
-pub quiets-filled : (men kings empty : ℕ) (side : Color) → let r = quietMovesOf men kings empty side in Filled (r .list) (r .overflow) (menQuiets men empty side ++ kingQuiets kings empty)
+-- all quiet moves
+pub quiets-filled : (men kings empty : ℕ) (side : Color) → let r = quietMovesOf men kings empty side in Filled (r .list) (r .overflow) (allQuiets men kings empty side)
 unfolding quietMovesOf
 quiets-filled men kings empty side =
-    let xs = menQuiets men empty side ++ kingQuiets kings empty in
+    let xs = allQuiets men kings empty side in
     let f = held-fold xs (listing noMoves false) [] held-none in
     record { list = whole-is _ (take 256 xs) (f .whole) (f .first); more = f .more }

@@ -3,3 +3,5 @@ pub mod Added
 pub mod Forward
 pub mod Both
 pub mod Held
+pub mod More
+pub mod Counts
