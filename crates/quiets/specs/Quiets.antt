@@ -52,6 +52,10 @@ flights empty i = upTo (flightOf (2 ^ i) empty) 4
 unfoldable pub kingQuiets : ℕ → ℕ → List Move
 kingQuiets kings empty = flatMap (flights empty) (members kings)
 
+-- all of them
+unfoldable pub allQuiets : ℕ → ℕ → ℕ → Color → List Move
+allQuiets men kings empty side = menQuiets men empty side ++ kingQuiets kings empty
+
 unfoldable pub menMovesOf : ℕ → ℕ → Color → Listing
 menMovesOf men empty side = foldl addOf (listing noMoves false) (menQuiets men empty side)
 
@@ -59,4 +63,4 @@ unfoldable pub kingMovesOf : Listing → ℕ → ℕ → Listing
 kingMovesOf l kings empty = foldl addOf l (kingQuiets kings empty)
 
 unfoldable pub quietMovesOf : ℕ → ℕ → ℕ → Color → Listing
-quietMovesOf men kings empty side = foldl addOf (listing noMoves false) (menQuiets men empty side ++ kingQuiets kings empty)
+quietMovesOf men kings empty side = foldl addOf (listing noMoves false) (allQuiets men kings empty side)

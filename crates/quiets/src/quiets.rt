@@ -8,9 +8,10 @@ use squares::bitboard::Bitboard;
 use squares::piece::Color;
 ghost use mathlib.Core.Path.{_≡_};
 ghost use Prim.Native.Nat.{_<_};
+ghost use lib.ListN.{length};
 ghost use Rattle.squares.specs.Sets.{members};
 ghost use Rattle.quiets.specs.Tests.{forwardOf, stepsOpen, hasQuietOf, menJump, kingOpen, anyIn, hasCaptureOf};
-ghost use Rattle.quiets.specs.Quiets.{menMovesOf, kingMovesOf, quietMovesOf};
+ghost use Rattle.quiets.specs.Quiets.{menMovesOf, kingMovesOf, quietMovesOf, flightOf, flights, kingQuiets, allQuiets};
 
 // A list, and whether there were more moves than it holds.
 pub struct Listing {
@@ -163,4 +164,52 @@ pub fn quiet_moves(men: Bitboard, kings: Bitboard, empty: Bitboard, side: Color)
         return steps;
     }
     king_moves(steps, kings, empty)
+}
+
+// The number of squares that a king on `at` can fly to in direction `d`.
+fn flight_count(at: Bitboard, empty: Bitboard, d: usize) -> u32
+    ensures { λ r. ⌜ r ≡ length (flightOf at empty d) ⌝ }
+{
+    let mut n = 0u32;
+    let mut to = bitboard::shift(at, d) & empty;
+    while to != 0 {
+        n += 1;
+        to = bitboard::shift(to, d) & empty;
+    }
+    n
+}
+
+// The number of a king's quiet moves.
+fn king_count(bit: u32, empty: Bitboard) -> u32
+    requires { ⌜ bit < 64 ⌝ }
+    ensures { λ r. ⌜ r ≡ length (flights empty bit) ⌝ }
+{
+    let at = 1u64 << bit;
+    let a = flight_count(at, empty, 0) + flight_count(at, empty, 1);
+    let b = a + flight_count(at, empty, 2);
+    b + flight_count(at, empty, 3)
+}
+
+// The number of the kings' quiet moves.
+fn kings_count(kings: Bitboard, empty: Bitboard) -> u32
+    ensures { λ r. ⌜ r ≡ length (kingQuiets kings empty) ⌝ }
+{
+    let mut n = 0u32;
+    let mut left = kings;
+    while left != 0 {
+        n += king_count(u64::trailing_zeros(left), empty);
+        left = left & (left - 1);
+    }
+    n
+}
+
+// The number of quiet moves: no list is made.
+pub fn quiet_count(men: Bitboard, kings: Bitboard, empty: Bitboard, side: Color) -> u32
+    ensures { λ r. ⌜ r ≡ length (allQuiets men kings empty side) ⌝ }
+{
+    let first = forward(side);
+    let a = bitboard::count(bitboard::shift(men, first) & empty);
+    let b = bitboard::count(bitboard::shift(men, first + 1) & empty);
+    let steps = a + b;
+    steps + kings_count(kings, empty)
 }
