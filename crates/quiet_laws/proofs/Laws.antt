@@ -12,7 +12,7 @@ use Rattle.captures.specs.Lists.{listOf}
 use Rattle.rules.specs.Ordered.{captures, quiets, legal}
 use Rattle.rules.specs.Rules.{numbered, Open, NoJump, Fair}
 use Rattle.rules.proofs.Laws.{quiet-list}
-use Rattle.quiets.specs.Quiets.{listing, menQuiets, kingQuiets, quietMovesOf}
+use Rattle.quiets.specs.Quiets.{listing, menQuiets, kingQuiets, allQuiets, quietMovesOf}
 use Rattle.quiets.specs.Tests.{hasQuietOf, hasCaptureOf}
 use Rattle.quiet_laws.specs.Some.{some}
 use Rattle.quiet_laws.proofs.Filled.{filled, fill-law}
@@ -29,7 +29,7 @@ module _ (b : Board) (fair : Fair b) where
 
   -- all 256 entries and the mark: as many moves as there is room for, then blanks; whether there are more
   pub quiets-filled : quietMovesOf (pieces b Man) (pieces b King) (empty b) (b .side) ≡ listing (listOf (map numbered (quiets b))) (ltb 256 (length (quiets b)))
-  unfolding quietMovesOf
+  unfolding quietMovesOf allQuiets
   quiets-filled =
       fill-law (menQuiets (pieces b Man) (empty b) (b .side) ++ kingQuiets (pieces b King) (empty b)) ∙ ap filled quiet-moves
       ∙ ap (λ n. listing (listOf (map numbered (quiets b))) (ltb 256 n)) (length-map (quiets b) numbered)
@@ -55,9 +55,15 @@ module _ (b : Board) (fair : Fair b) where
   -- the quiet list is the list of legal moves
   pub legal-filled : hasCaptureOf (pieces b Man) (pieces b King) (enemy b) (empty b) ≡ false
       → quietMovesOf (pieces b Man) (pieces b King) (empty b) (b .side) ≡ listing (listOf (legal b)) (ltb 256 (length (legal b)))
-  unfolding quietMovesOf
+  unfolding quietMovesOf allQuiets
   legal-filled e =
       fill-law (menQuiets (pieces b Man) (empty b) (b .side) ++ kingQuiets (pieces b King) (empty b)) ∙ ap filled (quiet-moves ∙ sym (quiets-legal e))
+
+  -- and their number, for which no list is needed
+  pub legal-number : hasCaptureOf (pieces b Man) (pieces b King) (enemy b) (empty b) ≡ false
+      → length (allQuiets (pieces b Man) (pieces b King) (empty b) (b .side)) ≡ length (legal b)
+  unfolding allQuiets
+  legal-number e = ap length (quiet-moves ∙ sym (quiets-legal e))
 
   -- ---- whether a move is legal
   pub has-move-law : (hasCaptureOf (pieces b Man) (pieces b King) (enemy b) (empty b) || hasQuietOf (pieces b Man) (pieces b King) (empty b) (b .side)) ≡ some (legal b)

@@ -24,7 +24,7 @@ use Rattle.captures.proofs.Rays.{enough-far}
 use Rattle.quiets.specs.Tests.{forwardOf}
 use Rattle.quiets.specs.Quiets.{menSteps, menQuiets, flightOf, flights, kingQuiets, allQuiets}
 use Rattle.quiets.proofs.Forward.{plus-zero}
-use Rattle.quiets.proofs.More.{members-length}
+use Rattle.squares.proofs.Lengths.{members-length}
 
 -- ---- along a ray
 landings-most : (n : ℕ) (d : Direction) (empty to : ℕ) → length (landings n d empty to) ≤ n

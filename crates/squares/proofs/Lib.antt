@@ -8,6 +8,7 @@ pub mod Sizes
 pub mod Sums
 pub mod Cases
 pub mod Rising
+pub mod Lengths
 pub mod Numbers
 pub mod Shifts
 pub mod OneBit

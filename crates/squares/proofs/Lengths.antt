@@ -1,4 +1,4 @@
--- belongs to squares: a set has as many members as its list of members.
+-- A set has as many members as its list of members.
 use mathlib.Core.Path.{_≡_, refl, sym, ap, _∙_}
 use Prim.Native.Nat.{ℕ, zero, suc, _+_, _/_, _%_, _<_}
 use native.Mathlib.Nat.{mod-lt}
