@@ -125,15 +125,15 @@ impl Captures {
         let empty = self.empty;
         let mut s = self;
         let mut extended = false;
-        let mut d = 0;
-        while d < 4 {
-            let over = bitboard::shift(at, d) & untaken;
-            let land = bitboard::shift(over, d) & empty;
+        let mut dir = 0;
+        while dir < 4 {
+            let over = bitboard::shift(at, dir) & untaken;
+            let land = bitboard::shift(over, dir) & empty;
             if land != 0 {
                 extended = true;
                 s = s.man(land, captured | over);
             }
-            d += 1;
+            dir += 1;
         }
         if extended { s } else { s.record(at, captured) }
     }

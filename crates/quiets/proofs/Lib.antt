@@ -3,3 +3,4 @@ pub mod Added
 pub mod Forward
 pub mod Both
 pub mod Counts
+pub mod Rows

@@ -56,12 +56,12 @@ module _ (t : ℕ) where
       let a = start .args in
       let s = head .loop .s in
       let ht : a .self .them < 2 ^ 64 = search needs in
-      let j = jumped (a .self) (a .at) (a .captured) (head .loop .d) _ _ _ (head .before .difference .ensures) (c .before .before .shift .ensures) (c .before .shift2 .ensures) in
-      let less = jump-fewer (a .self) (a .at) (a .captured) (head .loop .d) _ _ j ht (start .fits .captured .fits) (c .if1 .taken) in
+      let j = jumped (a .self) (a .at) (a .captured) (head .loop .dir) _ _ _ (head .before .difference .ensures) (c .before .before .shift .ensures) (c .before .shift2 .ensures) in
+      let less = jump-fewer (a .self) (a .at) (a .captured) (head .loop .dir) _ _ j ht (start .fits .captured .fits) (c .if1 .taken) in
       (rw (head .loop .inv .kept .them, ← start .pre .0) less, tt)
 
-  add-d : man-lts.Need-add-d (calls t) (man-at t) man.Post Inv-loop μ-loop
-  add-d c = search needs
+  add-dir : man-lts.Need-add-dir (calls t) (man-at t) man.Post Inv-loop μ-loop
+  add-dir c = search needs
 
   loop-less : man-lts.Need-loop-less (calls t) (man-at t) man.Post Inv-loop μ-loop
   loop-less c = search needs
@@ -72,7 +72,7 @@ module _ (t : ℕ) where
       let head = sh .before .before .before in
       let start = head .before .before in
       let a = start .args in
-      let d = head .loop .d in
+      let d = head .loop .dir in
       let ht : a .self .them < 2 ^ 64 = search needs in
       let lt : d < 4 = sh .before .before .loop-test .taken in
       let j = jumped (a .self) (a .at) (a .captured) d _ _ _ (head .before .difference .ensures) (sh .before .shift .ensures) (sh .shift2 .ensures) in
@@ -87,12 +87,12 @@ module _ (t : ℕ) where
   returns : man-lts.Need-returns (calls t) (man-at t) man.Post Inv-loop μ-loop
   returns c =
       let head = c .before .before in
-      walked-out _ _ _ (head .loop .d) (head .loop .s) (rw (c .if2 .taken) at (head .loop .inv)) (c .before .loop-test .left)
+      walked-out _ _ _ (head .loop .dir) (head .loop .s) (rw (c .if2 .taken) at (head .loop .inv)) (c .before .loop-test .left)
 
   returns-2 : man-lts.Need-returns-2 (calls t) (man-at t) man.Post Inv-loop μ-loop
   returns-2 c =
       let head = c .before .before .before in
-      walked-end _ _ _ (head .loop .d) (head .loop .s) (c .«record» .result) (rw (c .before .if2 .left) at (head .loop .inv)) (c .before .before .loop-test .left) (c .«record» .ensures)
+      walked-end _ _ _ (head .loop .dir) (head .loop .s) (c .«record» .result) (rw (c .before .if2 .left) at (head .loop .inv)) (c .before .before .loop-test .left) (c .«record» .ensures)
 
 pub +man-spec : {M : Type 1} → statement M
-+man-spec = close μ-man (λ t. man-lts.spec (calls t) (man-at t) man.Post Inv-loop μ-loop (difference-requires t) (loop-holds t) (shift-requires t) (shift-requires-2 t) (man-requires t) (add-d t) (loop-less t) (loop-again t) (record-requires t) (returns t) (returns-2 t))
++man-spec = close μ-man (λ t. man-lts.spec (calls t) (man-at t) man.Post Inv-loop μ-loop (difference-requires t) (loop-holds t) (shift-requires t) (shift-requires-2 t) (man-requires t) (add-dir t) (loop-less t) (loop-again t) (record-requires t) (returns t) (returns-2 t))
