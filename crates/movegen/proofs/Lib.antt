@@ -1,0 +1,5 @@
+pub mod Assumed
+pub mod Generated
+pub mod Listed
+pub mod Counted
+pub mod Divided

@@ -1,0 +1,4 @@
+pub mod Some
+pub mod Generate
+pub mod Lists
+pub mod Counts
