@@ -49,7 +49,7 @@ map-length f [] = refl
 map-length f (x ∷ l) = ap suc (map-length f l)
 
 module _ (b : Board) (fair : Fair b) where
-  path-on : (k : PieceKind) (i : ℕ) (w : BitMove) → has (pieces b k) i ≡ true → (w .from ≡ i) × Path b k i (w .to) (w .taken) → OnBoard w
+  pub path-on : (k : PieceKind) (i : ℕ) (w : BitMove) → has (pieces b k) i ≡ true → (w .from ≡ i) × Path b k i (w .to) (w .taken) → OnBoard w
   path-on k i w h s =
       record { from = from-on b fair goes; to = to-on b fair goes }
     where
@@ -59,7 +59,7 @@ module _ (b : Board) (fair : Fair b) where
         stands = path-stands b fair (subst (λ f. Path b k f (w .to) (w .taken)) (sym (s .0)) (s .1));
       }
 
-  of-kingTried : (i : ℕ) (w : BitMove) → Member w (kingTried b i) → (w .from ≡ i) × Path b King i (w .to) (w .taken)
+  pub of-kingTried : (i : ℕ) (w : BitMove) → Member w (kingTried b i) → (w .from ≡ i) × Path b King i (w .to) (w .taken)
   unfolding kingTried jumps
   of-kingTried i w h = of-from b fair (pruned-sound directions (jumpsAlong b King) back aside enough (λ d. false) (bitMove i i 0) w h) i refl begin
 
@@ -76,7 +76,8 @@ module _ (b : Board) (fair : Fair b) where
           let r = of-concatMap (kingTried b) (members (pieces b King)) m in
           path-on King (r .0) w (of-members (pieces b King) (r .0) (r .1)) (of-kingTried (r .0) w (r .2))
 
-  searched-is : (room : ℕ) → 0 < room → (l : List BitMove) → longest sameBits count (captures b) ≡ l
+  -- what it ends with, for the list l of the longest captures
+  pub searched-is : (room : ℕ) → 0 < room → (l : List BitMove) → longest sameBits count (captures b) ≡ l
       → searched b room ≡ bounded (best count (captures b)) (take room (map numbered l)) (ltb room (length (map numbered l)))
   searched-is room some l e =
       fold-map numbered sameBits count same taking room OnBoard (λ v w p q. same-numbered v w p q) (λ w p. refl) (allTried b) (bounded 0 [] false)

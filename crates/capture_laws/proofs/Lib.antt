@@ -1,0 +1,10 @@
+pub mod More
+pub mod Four
+pub mod Stored
+pub mod Recorded
+pub mod Steps
+pub mod Men
+pub mod Rays
+pub mod Kings
+pub mod Search
+pub mod Laws
