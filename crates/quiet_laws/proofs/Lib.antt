@@ -1,0 +1,10 @@
+pub mod More
+pub mod Some
+pub mod Walks
+pub mod Rays
+pub mod Filled
+pub mod Lists
+pub mod HasQuiet
+pub mod HasCapture
+pub mod HasMove
+pub mod Laws
