@@ -27,7 +27,8 @@ use Rattle.movegen.specs.Generate.{viewOf, seen, generateOf, nextOf}
 use Rattle.movegen.specs.declared.movegen.View.{View}
 use Rattle.movegen.specs.declared.perft.Counted.{Counted}
 use Rattle.movegen.specs.declared.perft.Counted.the-variants.{Count, Refused}
-use Rattle.movegen.proofs.Assumed.{filled, few-len, few-entries}
+use Rattle.capture_laws.proofs.Stored.{few-len, few-entries}
+use Rattle.quiet_laws.proofs.Filled.{filled}
 use Rattle.movegen.proofs.Generated.{generated, view-seen, next-is}
 
 -- ---- sums

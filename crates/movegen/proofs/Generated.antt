@@ -26,7 +26,9 @@ use Rattle.quiets.specs.Tests.{hasCaptureOf}
 use Rattle.quiets.specs.declared.quiets.Listing.{Listing}
 use Rattle.movegen.specs.Generate.{viewOf, facing, seen, captureMovesOf, movesBySets, generateOf, nextOf}
 use Rattle.movegen.specs.declared.movegen.View.{View}
-use Rattle.movegen.proofs.Assumed.{filled, captures-open, capture-open, legal-filled}
+use Rattle.capture_laws.proofs.Laws.{captures-open}
+use Rattle.quiet_laws.proofs.Filled.{filled}
+use Rattle.quiet_laws.proofs.Laws.{capture-open, legal-filled}
 
 -- ---- a board and what its side sees of it
 pub view-seen : (v : View) → viewOf (seen v) ≡ v

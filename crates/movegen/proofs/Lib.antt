@@ -1,4 +1,3 @@
-pub mod Assumed
 pub mod Generated
 pub mod Listed
 pub mod Counted

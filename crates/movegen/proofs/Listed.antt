@@ -31,11 +31,13 @@ use Rattle.rules.specs.Rules.{Fair}
 use Rattle.rules.proofs.Laws.{fair-of-accepted, listed-legal, legal-playable}
 use Rattle.quiets.specs.Tests.{hasQuietOf, hasCaptureOf}
 use Rattle.quiets.specs.declared.quiets.Listing.{Listing}
-use Rattle.movegen.specs.Some.{some}
 use Rattle.movegen.specs.Lists.{refusedList, listedOf, withinOf, hasCapturesOf, hasQuietMovesOf, playedOf, afterOf}
 use Rattle.movegen.specs.declared.movegen.Listed.{Listed}
 use Rattle.movegen.specs.declared.movegen.Tested.the-variants as tested
-use Rattle.movegen.proofs.Assumed.{filled, few-len, few-entries, has-quiet-law, has-capture-law}
+use Rattle.capture_laws.proofs.Stored.{few-len, few-entries}
+use Rattle.quiet_laws.specs.Some.{some}
+use Rattle.quiet_laws.proofs.Filled.{filled}
+use Rattle.quiet_laws.proofs.Laws.{has-quiet-law, has-capture-law}
 
 -- a position that passes the test of refusal 12 stands on a fair board
 pub fair-of : (p : Position) → sound p ≡ true → Fair (boardOf p)

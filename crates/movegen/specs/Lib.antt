@@ -1,4 +1,3 @@
-pub mod Some
 pub mod Generate
 pub mod Lists
 pub mod Counts

@@ -74,8 +74,7 @@ count-count-requires t c κs =
     let lp = c .before .before .before in
     let g = lp .before .before .before in
     let s = g .before .before in
-    let a = s .args in
-    (
+    let a = s .args in (
       omega (arith, s .pre .0, g .before .if1 .left),
       (
         next-accepted (a .v) (s .pre .1 .0) _ (g .generate .ensures) (lp .before .before .if2 .left) (a .depth - 1) _ _ (lp .loop .inv .1) (c .before .before .loop-test .taken) _ (c .next .ensures),

@@ -27,8 +27,7 @@ below-requires c κs = search needs
 split-requires : tie.Need-split-requires
 split-requires c κs =
     let t = c .before .before in
-    let s = t .before .before in
-    (
+    let s = t .before .before in (
       seen-accepted (s .before .args .p) (sym (s .sound .ensures) ∙ t .before .if1 .taken) _ (c .before .of .ensures),
       omega (arith, c .below .ensures, t .if2 .taken),
     )

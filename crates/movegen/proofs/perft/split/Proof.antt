@@ -64,8 +64,7 @@ count-requires c κs =
     let g = lp .before .before .before in
     let s = g .before in
     let a = s .args in
-    let d = lp .loop .inv .1 in
-    (
+    let d = lp .loop .inv .1 in (
       next-accepted (a .v) (s .pre .0) _ (g .generate .ensures) (lp .before .before .if1 .left) (a .plies) _ _ (d .counting) (c .before .before .loop-test .taken) _ (c .next .ensures),
       omega (arith, s .pre .1),
     )
@@ -126,12 +125,11 @@ loop-again c =
     let k = c .before .before .before in
     let x = k .before in
     let h = x .before .before .loop-test .taken in
-    let w = listing-short (a .v) (s .pre .0) _ (g .generate .ensures) (lp .before .before .if1 .left) (a .plies) _ _ (d .counting) in
-    (
+    let w = listing-short (a .v) (s .pre .0) _ (g .generate .ensures) (lp .before .before .if1 .left) (a .plies) _ _ (d .counting) in (
       omega (arith, h),
       dividing-more (a .plies) (seen (a .v)) _ _ _ d (omega (arith, w .len, h)) (omega (arith, w .len, w .few, h))
-      (sum-below (a .v) (s .pre .0) _ (g .generate .ensures) (lp .before .before .if1 .left) (a .plies) _ _ (d .counting) h _ (x .next .ensures) _ _ (k .count .ensures) (c .before .n .given .1))
-      (sum-again (a .v) (s .pre .0) _ (g .generate .ensures) (lp .before .before .if1 .left) (a .plies) _ _ (d .counting) h _ (x .next .ensures) (s .pre .1) _ (k .count .ensures) _ (c .before .n .given .1)),
+          (sum-below (a .v) (s .pre .0) _ (g .generate .ensures) (lp .before .before .if1 .left) (a .plies) _ _ (d .counting) h _ (x .next .ensures) _ _ (k .count .ensures) (c .before .n .given .1))
+          (sum-again (a .v) (s .pre .0) _ (g .generate .ensures) (lp .before .before .if1 .left) (a .plies) _ _ (d .counting) h _ (x .next .ensures) (s .pre .1) _ (k .count .ensures) _ (c .before .n .given .1)),
     )
 
 returns-3 : tie.Need-returns-3 Inv-loop μ-loop
