@@ -141,19 +141,24 @@ fn show_list(list: MoveList) {
 
 fn list(p: Position, limit: u64) {
     let l = movegen::movegen::legal_moves(p, limit as usize);
-    show_answer(l.answer);
-    show_list(l.list);
+    let told = l.answer;
+    let list = l.list;
+    show_answer(told);
+    show_list(list);
 }
 
 fn divide(p: Position, depth: u64) {
     let d = perft::divide(p, number(depth));
-    show_answer(d.answer);
-    show_list(d.list);
+    let told = d.answer;
+    let list = d.list;
+    let counts = d.counts;
+    show_answer(told);
+    show_list(list);
     let mut i: usize = 0;
     while i < 256 {
-        if d.counts[i] != 0 {
+        if counts[i] != 0 {
             write(b" ");
-            show_number(d.counts[i]);
+            show_number(counts[i]);
         }
         i += 1;
     }
@@ -165,7 +170,8 @@ fn successors(p: Position) {
     let mut i: usize = 0;
     while i < 256 {
         if i < list.len {
-            show_placed(movegen::movegen::after(p, list.moves[i]));
+            let m = list.moves[i];
+            show_placed(movegen::movegen::after(p, m));
             write(b"; ");
         }
         i += 1;
