@@ -1,0 +1,4 @@
+pub mod Generated
+pub mod Listed
+pub mod Counted
+pub mod Divided

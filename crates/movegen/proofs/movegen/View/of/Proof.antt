@@ -1,0 +1,24 @@
+-- The fields are the sets of the two sides.
+use borrow.Author.Needs.{needs}
+use native.Mathlib.Omega.{arith}
+use Rattle.movegen.proofs.movegen.View.of.Statement.{statement}
+use Rattle.movegen.proofs.movegen.View.of.Tie as tie
+use Rattle.movegen.proofs.movegen.View.of.Reads as reads
+use Rattle.movegen.proofs.movegen.View.of.Lts as lts
+use Rattle.positions.proofs.position.Position.pieces.Reads as pieces-reads
+use Rattle.squares.proofs.piece.Color.not.Reads as not-reads
+
+pieces-requires : tie.Need-pieces-requires
+pieces-requires c κs = search needs
+
+not-requires : tie.Need-not-requires
+not-requires c κs = search needs
+
+pieces-requires-2 : tie.Need-pieces-requires-2
+pieces-requires-2 c κs = search needs
+
+returns : tie.Need-returns
+returns c = cc
+
+pub of-spec : {M : Type 1} → statement M
+of-spec = tie.close (tie.spec pieces-requires not-requires pieces-requires-2 returns)

@@ -1,0 +1,42 @@
+-- Field by field the formula.
+use Rattle.movegen.specs.Generate.{nextOf}
+use borrow.Author.Needs.{needs}
+use native.Mathlib.Omega.{arith}
+use Rattle.movegen.proofs.perft.next.Statement.{statement}
+use Rattle.movegen.proofs.perft.next.Tie as tie
+use Rattle.movegen.proofs.perft.next.Reads as reads
+use Rattle.movegen.proofs.perft.next.Lts as lts
+use Rattle.movegen.proofs.perft.kings_after.Reads as kings-after-reads
+use Rattle.movegen.proofs.perft.moved.Reads as moved-reads
+use Rattle.squares.proofs.bitboard.difference.Reads as difference-reads
+use Rattle.squares.proofs.piece.Color.not.Reads as not-reads
+
+difference-requires : tie.Need-difference-requires
+difference-requires c κs = search needs
+
+difference-requires-2 : tie.Need-difference-requires-2
+difference-requires-2 c κs = search needs
+
+moved-requires : tie.Need-moved-requires
+moved-requires c κs = search needs
+
+kings-after-requires : tie.Need-kings-after-requires
+kings-after-requires c κs = search needs
+
+not-requires : tie.Need-not-requires
+not-requires c κs = search needs
+
+returns : tie.Need-returns
+unfolding nextOf
+returns c = cc
+
+pub next-spec : {M : Type 1} → statement M
+next-spec =
+    tie.close
+    (tie.spec
+    difference-requires
+    difference-requires-2
+    moved-requires
+    kings-after-requires
+    not-requires
+    returns)

@@ -1,0 +1,62 @@
+-- The answers of the list call, of the two tests and of the successor, refused ones too, in the paper's order
+-- (document 01, "Turned back because of the input", "of the state"): lists 12, 10, 17; tests 12; a move record 12, 11, 17, 15.
+use Prim.Native.Nat.{ℕ}
+use mathlib.Core.Bool.{Bool, cond}
+use mathlib.Core.List.{List}
+use lib.Dec.{leb, ltb}
+use lib.ListN.{length}
+use Rattle.squares.specs.declared.refusal.Refusal.{Refusal}
+use Rattle.squares.specs.declared.refusal.Refusal.the-variants.{BeyondLimit, NoSuchSquare, BadPosition, NoMoveFits, TooManyMoves}
+use Rattle.squares.specs.declared.refusal.Answer.the-variants as answer
+use Rattle.positions.specs.Acceptance.{sound}
+use Rattle.positions.specs.Boards.{boardOf}
+use Rattle.positions.specs.Hash.{positionOf}
+use Rattle.positions.specs.Moves.{squaresOf}
+use Rattle.positions.specs.Successor.{successor}
+use Rattle.positions.specs.declared.moves.Move.{Move}
+use Rattle.positions.specs.declared.position.Position.{Position}
+use Rattle.positions.specs.declared.position.Placed.{Placed}
+use Rattle.positions.specs.declared.position.Placed.the-variants as placed
+use Rattle.captures.specs.Lists.{noMoves, listOf}
+use Rattle.rules.specs.Ordered.{captures, quiets, legal, listed}
+use Rattle.quiets.specs.declared.quiets.Listing.{Listing}
+use Rattle.quiet_laws.specs.Some.{some}
+use Rattle.movegen.specs.declared.movegen.Listed.{Listed}
+use Rattle.movegen.specs.declared.movegen.Tested.{Tested}
+use Rattle.movegen.specs.declared.movegen.Tested.the-variants as tested
+
+-- refused: no moves, every entry blank
+abbrev pub refusedList : Refusal → Listed
+refusedList e = record { answer = answer.Refused e; list = noMoves }
+
+-- at most that many moves, then blanks; else 17
+unfoldable pub listedOf : ℕ → List Move → Listed
+listedOf limit xs = cond (leb (length xs) limit) (record { answer = answer.Done; list = listOf xs }) (refusedList TooManyMoves)
+
+unfoldable pub legalMovesOf : Position → ℕ → Listed
+legalMovesOf p limit =
+    cond (sound p)
+    (cond (leb limit 256) (listedOf limit (legal (boardOf p))) (refusedList BeyondLimit))
+    (refusedList BadPosition)
+
+-- what the code looks at: the mark, and the length
+unfoldable pub withinOf : Listing → ℕ → Listed
+withinOf l limit =
+    cond (l .overflow) (refusedList TooManyMoves)
+    (cond (ltb limit (l .list .len)) (refusedList TooManyMoves) (record { answer = answer.Done; list = l .list }))
+
+unfoldable pub hasCapturesOf : Position → Tested
+hasCapturesOf p = cond (sound p) (tested.Is (some (captures (boardOf p)))) (tested.Refused BadPosition)
+
+-- also where a capture is due
+unfoldable pub hasQuietMovesOf : Position → Tested
+hasQuietMovesOf p = cond (sound p) (tested.Is (some (quiets (boardOf p)))) (tested.Refused BadPosition)
+
+-- the position after a move of the list, with its hash
+unfoldable pub playedOf : Position → Move → Placed
+playedOf p m =
+    cond (ltb 256 (length (legal (boardOf p)))) (placed.Refused TooManyMoves)
+    (cond (listed (legal (boardOf p)) m) (placed.Position (positionOf (successor (boardOf p) m))) (placed.Refused NoMoveFits))
+
+unfoldable pub afterOf : Position → Move → Placed
+afterOf p m = cond (sound p) (cond (squaresOf m) (playedOf p m) (placed.Refused NoSuchSquare)) (placed.Refused BadPosition)

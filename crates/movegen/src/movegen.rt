@@ -1,0 +1,164 @@
+// The legal moves of a position, after movegen.rs.
+use crate::moves::MAX_MOVES;
+use crate::moves::MoveList;
+use captures::movegen::Captures;
+use positions::moves::Move;
+use positions::position::Placed;
+use positions::position::Position;
+use quiets::quiets::Listing;
+use squares::bitboard;
+use squares::bitboard::Bitboard;
+use squares::piece::Color;
+use squares::refusal::Answer;
+use squares::refusal::Refusal;
+ghost use mathlib.Core.Path.{_≡_};
+ghost use Rattle.positions.specs.Boards.{boardOf};
+ghost use Rattle.movegen.specs.Generate.{viewOf, captureMovesOf, generateOf};
+ghost use Rattle.movegen.specs.Lists.{refusedList, withinOf, legalMovesOf, hasCapturesOf, hasQuietMovesOf, afterOf};
+
+// A list, with the answer beside it; refused, the list is empty.
+pub struct Listed {
+    pub answer: Answer,
+    pub list: MoveList,
+}
+
+// What a test says, or the refusal.
+pub enum Tested {
+    Is(bool),
+    Refused(Refusal),
+}
+
+// A board as the side to move sees it: its pieces, the other's, the kings of both. Depth counts go on with this alone.
+pub(crate) struct View {
+    pub(crate) us: Bitboard,
+    pub(crate) them: Bitboard,
+    pub(crate) kings: Bitboard,
+    pub(crate) side: Color,
+}
+
+impl View {
+    pub(crate) fn of(p: Position) -> View
+        ensures { λ r. ⌜ r ≡ viewOf (boardOf p) ⌝ }
+    {
+        let side = p.side;
+        View {
+            us: p.pieces(side),
+            them: p.pieces(side.not()),
+            kings: p.kings,
+            side: side,
+        }
+    }
+}
+
+// All longest captures: men by bit, then kings by bit.
+fn capture_moves(men: Bitboard, kings: Bitboard, them: Bitboard, empty: Bitboard) -> Listing
+    ensures { λ r. ⌜ r ≡ captureMovesOf men kings them empty ⌝ }
+{
+    let start = Captures::new(them, empty);
+    let steps = captures::movegen::men_captures(start, men, empty);
+    let found = captures::movegen::kings_captures(steps, kings, empty);
+    let list = found.list;
+    Listing {
+        list: list,
+        overflow: found.overflow,
+    }
+}
+
+// All moves of the side. A jump is looked for by sets before a list is made; where one is open only captures are listed.
+pub(crate) fn generate(v: View) -> Listing
+    ensures { λ r. ⌜ r ≡ generateOf v ⌝ }
+{
+    let empty = bitboard::not(v.us | v.them);
+    let men = bitboard::difference(v.us, v.kings);
+    let kings = v.us & v.kings;
+    let side = v.side;
+    if quiets::quiets::has_capture(men, kings, v.them, empty) {
+        capture_moves(men, kings, v.them, empty)
+    } else {
+        quiets::quiets::quiet_moves(men, kings, empty, side)
+    }
+}
+
+fn refused(e: Refusal) -> Listed
+    ensures { λ r. ⌜ r ≡ refusedList e ⌝ }
+{
+    let list = MoveList::new();
+    Listed {
+        answer: Answer::Refused(e),
+        list: list,
+    }
+}
+
+// The list where it has at most that many moves, else 17.
+fn within(l: Listing, limit: usize) -> Listed
+    ensures { λ r. ⌜ r ≡ withinOf l limit ⌝ }
+{
+    let list = l.list;
+    if l.overflow {
+        return refused(Refusal::TooManyMoves);
+    }
+    if limit < list.len {
+        return refused(Refusal::TooManyMoves);
+    }
+    Listed {
+        answer: Answer::Done,
+        list: list,
+    }
+}
+
+// All legal moves, at most `limit`; 12, 10, 17.
+pub fn legal_moves(p: Position, limit: usize) -> Listed
+    ensures { λ r. ⌜ r ≡ legalMovesOf p limit ⌝ }
+{
+    if p.sound() {
+        if limit <= MAX_MOVES {
+            return within(generate(View::of(p)), limit);
+        }
+        return refused(Refusal::BeyondLimit);
+    }
+    refused(Refusal::BadPosition)
+}
+
+// Whether the side to move has a capture; 12.
+pub fn has_captures(p: Position) -> Tested
+    ensures { λ r. ⌜ r ≡ hasCapturesOf p ⌝ }
+{
+    if p.sound() {
+        let side = p.side;
+        let them = p.pieces(side.not());
+        return Tested::Is(quiets::quiets::has_capture(p.men(side), p.kings(side), them, p.empty()));
+    }
+    Tested::Refused(Refusal::BadPosition)
+}
+
+// Whether the side to move has a move that is no capture, also where a capture is due; 12.
+pub fn has_quiet_moves(p: Position) -> Tested
+    ensures { λ r. ⌜ r ≡ hasQuietMovesOf p ⌝ }
+{
+    if p.sound() {
+        let side = p.side;
+        return Tested::Is(quiets::quiets::has_quiet(p.men(side), p.kings(side), p.empty(), side));
+    }
+    Tested::Refused(Refusal::BadPosition)
+}
+
+// The position after a legal move, with its hash; 12, 11, 17, 15.
+pub fn after(p: Position, m: Move) -> Placed
+    ensures { λ r. ⌜ r ≡ afterOf p m ⌝ }
+{
+    if p.sound() {
+        if m.on_board() {
+            let l = generate(View::of(p));
+            let list = l.list;
+            if l.overflow {
+                return Placed::Refused(Refusal::TooManyMoves);
+            }
+            if list.contains(m) {
+                return Placed::Position(p.play(m));
+            }
+            return Placed::Refused(Refusal::NoMoveFits);
+        }
+        return Placed::Refused(Refusal::NoSuchSquare);
+    }
+    Placed::Refused(Refusal::BadPosition)
+}
