@@ -4,6 +4,7 @@ use crate::movegen::View;
 use crate::moves::MoveList;
 use positions::moves::Move;
 use positions::position::Position;
+use quiets::quiets::Listing;
 use squares::bitboard;
 use squares::bitboard::Bitboard;
 use squares::piece::Color;
@@ -18,6 +19,7 @@ ghost use Rattle.squares.specs.Squares.{single};
 ghost use Rattle.positions.specs.Acceptance.{Accepted};
 ghost use Rattle.positions.specs.Successor.{kingsPlayed};
 ghost use Rattle.movegen.specs.Generate.{seen, nextOf};
+ghost use Rattle.movegen.specs.LastPly.{limitedCount, listedCount, lastPlyOf};
 ghost use Rattle.movegen.specs.Counts.{depthCount, perftOf, undivided, dividedOf, divideOf};
 
 // The largest depth.
@@ -70,6 +72,45 @@ fn next(v: View, mv: Move) -> View
     }
 }
 
+// A number of moves, or 17.
+fn limited(moves: u32) -> Counted
+    ensures { λ r. ⌜ r ≡ limitedCount moves ⌝ }
+{
+    if 256 < moves {
+        Counted::Refused(Refusal::TooManyMoves)
+    } else {
+        Counted::Count(moves as u64)
+    }
+}
+
+// The number of moves of a list, or 17.
+fn listed(l: Listing) -> Counted
+    ensures { λ r. ⌜ r ≡ listedCount l ⌝ }
+{
+    let list = l.list;
+    if l.overflow {
+        Counted::Refused(Refusal::TooManyMoves)
+    } else {
+        Counted::Count(list.len as u64)
+    }
+}
+
+// The number of moves of the side. At the last ply of a count nothing else is asked, and where no jump is open no list
+// is made.
+fn last_ply(v: View) -> Counted
+    ensures { λ r. ⌜ r ≡ lastPlyOf v ⌝ }
+{
+    let empty = bitboard::not(v.us | v.them);
+    let men = bitboard::difference(v.us, v.kings);
+    let kings = v.us & v.kings;
+    let side = v.side;
+    if quiets::quiets::has_capture(men, kings, v.them, empty) {
+        listed(movegen::capture_moves(men, kings, v.them, empty))
+    } else {
+        limited(quiets::quiets::quiet_count(men, kings, empty, side))
+    }
+}
+
 // How many ways there are to play that many plies.
 fn count(v: View, depth: u32) -> Counted
     requires { ⌜ Accepted (seen v) × (depth ≤ 7) ⌝ }
@@ -77,6 +118,9 @@ fn count(v: View, depth: u32) -> Counted
 {
     if depth == 0 {
         return Counted::Count(1);
+    }
+    if depth == 1 {
+        return last_ply(v);
     }
     let l = movegen::generate(v);
     if l.overflow {
