@@ -3,5 +3,4 @@ pub mod Listed
 pub mod Counted
 pub mod Divided
 pub mod LastPly
-pub mod Widths
 pub mod Rows
