@@ -1,0 +1,60 @@
+use borrow.Author.Needs.{needs}
+use native.Mathlib.Omega.{arith}
+use Rattle.texts.proofs.hub.hub_byte.Statement.{statement}
+use Rattle.texts.proofs.hub.hub_byte.Tie as tie
+use Rattle.texts.proofs.hub.hub_byte.Reads as reads
+use Rattle.texts.proofs.hub.hub_byte.Lts as lts
+use Rattle.squares.proofs.piece.Piece.from_char.Reads as from-char-reads
+use Rattle.squares.proofs.square.bitboard.Reads as bitboard-reads
+use Rattle.texts.proofs.hub.is_king.Reads as is-king-reads
+use Rattle.texts.proofs.parts.with_squares.Reads as with-squares-reads
+
+-- src/hub.rt:41:9
+returns : tie.Need-returns
+returns c = search needs
+
+-- src/hub.rt:43:11
+from-char-requires : tie.Need-from-char-requires
+from-char-requires c κs = search needs
+
+-- src/hub.rt:44:22
+enum-known-q : tie.Need-enum-known-q
+enum-known-q c = search needs
+
+-- src/hub.rt:50:17
+is-king-requires : tie.Need-is-king-requires
+is-king-requires c κs = search needs
+
+-- src/hub.rt:51:17
+bitboard-requires : tie.Need-bitboard-requires
+bitboard-requires c κs = search needs
+
+-- src/hub.rt:47:28
+with-squares-requires : tie.Need-with-squares-requires
+with-squares-requires c κs = search needs
+
+-- src/hub.rt:54:24
+enum-known-e : tie.Need-enum-known-e
+enum-known-e c = search needs
+
+-- src/hub.rt:37:1
+returns-2 : tie.Need-returns-2
+returns-2 c = search needs
+
+-- src/hub.rt:37:1
+returns-3 : tie.Need-returns-3
+returns-3 c = search needs
+
+pub hub-byte-spec : {M : Type 1} → statement M
+hub-byte-spec =
+    tie.close
+    (tie.spec
+    returns
+    from-char-requires
+    enum-known-q
+    is-king-requires
+    bitboard-requires
+    with-squares-requires
+    enum-known-e
+    returns-2
+    returns-3)

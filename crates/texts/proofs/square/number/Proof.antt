@@ -1,0 +1,94 @@
+use borrow.Author.Needs.{needs}
+use native.Mathlib.Omega.{arith}
+use Rattle.texts.proofs.square.number.Statement.{statement}
+use Rattle.texts.proofs.square.number.Tie as tie
+use Rattle.texts.proofs.square.number.Reads as reads
+use Rattle.texts.proofs.square.number.Lts as lts
+
+abbrev Inv-loop : tie.InvT-loop
+Inv-loop s v₀ i₀ v i = ?
+
+abbrev μ-loop : tie.MeasureT-loop
+μ-loop s v₀ i₀ v i = ?
+
+-- src/square.rt:13:9
+returns : tie.Need-returns Inv-loop μ-loop
+returns c = search needs
+
+-- src/square.rt:17:5
+loop-holds : tie.Need-loop-holds Inv-loop μ-loop
+loop-holds c = search needs
+
+-- src/square.rt:18:17
+shared-slice-read-b : tie.Need-shared-slice-read-b Inv-loop μ-loop
+shared-slice-read-b c = search needs
+
+-- src/square.rt:20:13
+returns-2 : tie.Need-returns-2 Inv-loop μ-loop
+returns-2 c = search needs
+
+-- src/square.rt:23:13
+returns-3 : tie.Need-returns-3 Inv-loop μ-loop
+returns-3 c = search needs
+
+-- src/square.rt:26:13
+returns-4 : tie.Need-returns-4 Inv-loop μ-loop
+returns-4 c = search needs
+
+-- src/square.rt:28:13
+mul-v : tie.Need-mul-v Inv-loop μ-loop
+mul-v c = search needs
+
+-- src/square.rt:28:22
+cast-v : tie.Need-cast-v Inv-loop μ-loop
+cast-v c = search needs
+
+-- src/square.rt:28:13
+add-v : tie.Need-add-v Inv-loop μ-loop
+add-v c = search needs
+
+-- src/square.rt:29:9
+add-i : tie.Need-add-i Inv-loop μ-loop
+add-i c = search needs
+
+-- src/square.rt:17:5
+loop-less : tie.Need-loop-less Inv-loop μ-loop
+loop-less c = search needs
+
+-- src/square.rt:17:5
+loop-again : tie.Need-loop-again Inv-loop μ-loop
+loop-again c = search needs
+
+-- src/square.rt:32:9
+returns-5 : tie.Need-returns-5 Inv-loop μ-loop
+returns-5 c = search needs
+
+-- src/square.rt:35:9
+returns-6 : tie.Need-returns-6 Inv-loop μ-loop
+returns-6 c = search needs
+
+-- src/square.rt:9:1
+returns-7 : tie.Need-returns-7 Inv-loop μ-loop
+returns-7 c = search needs
+
+pub number-spec : {M : Type 1} → statement M
+number-spec =
+    tie.close
+    (tie.spec
+    Inv-loop
+    μ-loop
+    returns
+    loop-holds
+    shared-slice-read-b
+    returns-2
+    returns-3
+    returns-4
+    mul-v
+    cast-v
+    add-v
+    add-i
+    loop-less
+    loop-again
+    returns-5
+    returns-6
+    returns-7)
