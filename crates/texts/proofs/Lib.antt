@@ -1,3 +1,4 @@
 pub mod Rows
 pub mod Cuts
 pub mod SquareTexts
+pub mod Readers

@@ -1,3 +1,18 @@
+-- The squares from lo to the one before n are in the set.
+use mathlib.Core.Path.{_≡_, refl, ap, ap₂, sym, _∙_}
+use mathlib.Core.List.{List, [], _∷_, _++_}
+use mathlib.Core.Bool.{Bool, true, false, cond, _&&_}
+use Prim.Native.Nat.{ℕ, _≤_, _<_, _-_, _+_, _^_}
+use lib.ListN.{length, take, drop, getD, set, length-drop, length-set}
+use lib.Seq.{length-take-le, take-length}
+use lib.Dec.{leb, eqb}
+use denote.Ref.{now}
+use borrow.Author.Tests.{lt-leb, le-leb, eq-eqb, ne-eqb}
+use Rattle.texts.proofs.Readers as laws
+use Rattle.texts.specs.declared.parts.Parts.{Parts}
+use Rattle.texts.specs.declared.parts.Reading.{Reading}
+use Rattle.texts.specs.declared.parts.Reading.the-variants as reading
+use Rattle.squares.specs.Squares.{run, single}
 use borrow.Author.Needs.{needs}
 use native.Mathlib.Omega.{arith}
 use Rattle.texts.proofs.fen.range.Statement.{statement}
@@ -7,10 +22,10 @@ use Rattle.texts.proofs.fen.range.Lts as lts
 use Rattle.squares.proofs.square.bitboard.Reads as bitboard-reads
 
 abbrev Inv-loop : tie.InvT-loop
-Inv-loop lo hi n₀ set₀ n set = ?
+Inv-loop lo hi n₀ set₀ n set = (lo ≤ n) × ((n ≡ lo) ⊎ (n ≤ hi + 1)) × (set ≡ run lo (n - lo))
 
 abbrev μ-loop : tie.MeasureT-loop
-μ-loop lo hi n₀ set₀ n set = ?
+μ-loop lo hi n₀ set₀ n set = hi + 1 - n
 
 -- src/fen.rt:55:5
 loop-holds : tie.Need-loop-holds Inv-loop μ-loop
