@@ -19,9 +19,9 @@ use Rattle.squares.specs.declared.square.Numbered.{Numbered}
 use Rattle.squares.proofs.Bools.{imp, imp-elim, and-both}
 use Rattle.squares.proofs.Below.{below, below-at}
 use Rattle.squares.proofs.Numbers.{range-square}
-use Rattle.texts.specs.Bytes.{blank, is, trim, splitOn, upTo, indexOf, partsFrom, readSquare}
+use Rattle.texts.specs.Bytes.{blank, is, trim, splitOn, upTo, startsWith, strip, indexOf, partsFrom, readSquare}
 use Rattle.texts.specs.Parts.{begun, andThen, OnSquare}
-use Rattle.texts.specs.Fen.{fenColorOf, onColor, endOf, itemOf, itemsOf, fieldOf, fieldsOf, sideOf, fenFields, body, fenParts}
+use Rattle.texts.specs.Fen.{fenColorOf, onColor, endOf, rangeOf, itemOf, itemsOf, fieldOf, fieldsOf, sideOf, fenFields, body, fenParts}
 use Rattle.texts.specs.Hub.{hubByteOf, hubFrom, hubParts}
 use Rattle.texts.specs.declared.parts.Parts.{Parts}
 use Rattle.texts.specs.declared.parts.Reading.{Reading}
@@ -93,16 +93,22 @@ unfolding fieldOf
 field-none p [] e = refl
 field-none p (b ∷ s) e = absurd (omega arith)
 
-pub field-some : (p : Parts) (s : List ℕ) (a : Sided) → (length s ≡ 0 → ⊥) → a ≡ fenColorOf (getD s 0 0)
-    → fieldOf p s ≡ onColor NoColor a (λ c. itemsOf c p (splitOn (is 44) (drop 1 s)))
+-- u is what stands behind the colour
+pub field-some : (p : Parts) (s u : List ℕ) (a : Sided) → (length s ≡ 0 → ⊥) → u ≡ drop 1 s → a ≡ fenColorOf (getD s 0 0)
+    → fieldOf p s ≡ onColor NoColor a (λ c. itemsOf c p (splitOn (is 44) u))
 unfolding fieldOf
-field-some p [] a h e = absurd (h refl)
-field-some p (b ∷ s) a h e = rw e
+field-some p [] u a h d e = absurd (h refl)
+field-some p (b ∷ s) u a h d e = rw (e, d)
 
 pub item-none : (c : Color) (p : Parts) (s : List ℕ) → length s ≡ 0 → itemOf c p s ≡ reading.Parts p
 unfolding itemOf
 item-none c p [] e = refl
 item-none c p (b ∷ s) e = absurd (omega arith)
+
+pub item-some : (c : Color) (p : Parts) (s u : List ℕ) (k : Bool) → (length s ≡ 0 → ⊥) → u ≡ strip 75 s → k ≡ startsWith 75 s → itemOf c p s ≡ rangeOf c k p u
+unfolding itemOf
+item-some c p [] u k h d e = absurd (h refl)
+item-some c p (b ∷ s) u k h d e = rw (e, d)
 
 pub side-one : (s : List ℕ) → length s ≡ 1 → sideOf s ≡ fenColorOf (getD s 0 0)
 unfolding sideOf

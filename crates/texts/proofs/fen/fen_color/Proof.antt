@@ -42,7 +42,7 @@ returns-4 c = rw (c .match .keys4)
 -- src/fen.rt:29:1
 returns-5 : tie.Need-returns-5
 unfolding fenColorOf
-returns-5 c = ?
+returns-5 c = rw (ne-eqb _ (code "W") (c .match .rest .0 .0 .0 .1), ne-eqb _ (code "w") (c .match .rest .0 .0 .1), ne-eqb _ (code "B") (c .match .rest .0 .1), ne-eqb _ (code "b") (c .match .rest .1))
 
 pub fen-color-spec : {M : Type 1} → statement M
 fen-color-spec = tie.close (tie.spec returns returns-2 returns-3 returns-4 returns-5)

@@ -22,14 +22,15 @@ use Rattle.texts.proofs.fen.range.Lts as lts
 use Rattle.squares.proofs.square.bitboard.Reads as bitboard-reads
 
 abbrev Inv-loop : tie.InvT-loop
-Inv-loop lo hi n₀ set₀ n set = (lo ≤ n) × ((n ≡ lo) ⊎ (n ≤ hi + 1)) × (set ≡ run lo (n - lo))
+Inv-loop lo hi n₀ set₀ n set = (lo ≤ n) × (n - lo ≤ hi + 1 - lo) × (set ≡ run lo (n - lo))
 
 abbrev μ-loop : tie.MeasureT-loop
 μ-loop lo hi n₀ set₀ n set = hi + 1 - n
 
 -- src/fen.rt:55:5
 loop-holds : tie.Need-loop-holds Inv-loop μ-loop
-loop-holds c = search needs
+unfolding run
+loop-holds c = let q : c .args .lo - c .args .lo ≡ 0 = omega arith in (omega arith, omega arith, rw q)
 
 -- src/fen.rt:56:16
 bitboard-requires : tie.Need-bitboard-requires Inv-loop μ-loop
@@ -45,11 +46,11 @@ loop-less c = search needs
 
 -- src/fen.rt:55:5
 loop-again : tie.Need-loop-again Inv-loop μ-loop
-loop-again c = search needs
+loop-again c = let a = c .before .before .before .args in let l = c .before .before .loop in (omega arith, omega arith, laws.run-turn (a .lo) (l .n) (l .set) _ (c .before .before .before .pre .0) (l .inv .0) (omega arith) (l .inv .2) (c .bitboard .ensures))
 
 -- src/fen.rt:49:1
 returns : tie.Need-returns Inv-loop μ-loop
-returns c = search needs
+returns c = let a = c .before .before .args in let l = c .before .loop in let q : l .n - a .lo ≡ a .hi + 1 - a .lo = omega (arith, l .inv .1) in l .inv .2 ∙ ap (run (a .lo)) q
 
 pub range-spec : {M : Type 1} → statement M
 range-spec =

@@ -1,3 +1,17 @@
+-- 1, then what was read, then acceptance.
+use mathlib.Core.Path.{_≡_, refl, ap, ap₂, sym, _∙_}
+use mathlib.Core.List.{List, [], _∷_, _++_}
+use mathlib.Core.Bool.{Bool, true, false, cond, _&&_}
+use Prim.Native.Nat.{ℕ, _≤_, _<_, _-_, _+_, _^_}
+use lib.ListN.{length, take, drop, getD, set, length-drop, length-set}
+use lib.Seq.{length-take-le, take-length}
+use lib.Dec.{leb, eqb}
+use denote.Ref.{now}
+use borrow.Author.Tests.{lt-leb, le-leb, eq-eqb, ne-eqb}
+use Rattle.texts.specs.Hub.{isKing, knownOn, hubByteOf, hubFrom, hubParts, fromHubOf}
+use Rattle.texts.specs.Parts.{withSquares, placing, andThen, begun}
+use Rattle.texts.specs.Fen.{onColor}
+use Prim.Native.Char.{code}
 use borrow.Author.Needs.{needs}
 use native.Mathlib.Omega.{arith}
 use Rattle.texts.proofs.hub.from_hub.Statement.{statement}
@@ -22,11 +36,13 @@ accept-requires c κs = search needs
 
 -- src/hub.rt:100:1
 returns : tie.Need-returns
-returns c = search needs
+unfolding fromHubOf
+returns c = rw (← c .before .before .before .is-readable .ensures, c .before .before .if1 .taken) (c .accept .ensures ∙ ap placing (c .before .hub-parts .ensures))
 
 -- src/hub.rt:100:1
 returns-2 : tie.Need-returns-2
-returns-2 c = search needs
+unfolding fromHubOf
+returns-2 c = rw (← c .before .is-readable .ensures, c .if1 .left)
 
 pub from-hub-spec : {M : Type 1} → statement M
 from-hub-spec =

@@ -1,3 +1,21 @@
+-- e is empty; a piece is put on its square; else 5.
+use mathlib.Core.Path.{_≡_, refl, ap, ap₂, sym, _∙_}
+use mathlib.Core.List.{List, [], _∷_, _++_}
+use mathlib.Core.Bool.{Bool, true, false, cond, _&&_}
+use Prim.Native.Nat.{ℕ, _≤_, _<_, _-_, _+_, _^_}
+use lib.ListN.{length, take, drop, getD, set, length-drop, length-set}
+use lib.Seq.{length-take-le, take-length}
+use lib.Dec.{leb, eqb}
+use denote.Ref.{now}
+use borrow.Author.Tests.{lt-leb, le-leb, eq-eqb, ne-eqb}
+use Rattle.texts.proofs.Readers as laws
+use Rattle.texts.specs.declared.parts.Parts.{Parts}
+use Rattle.texts.specs.declared.parts.Reading.{Reading}
+use Rattle.texts.specs.declared.parts.Reading.the-variants as reading
+use Rattle.texts.specs.Hub.{isKing, knownOn, hubByteOf, hubFrom, hubParts, fromHubOf}
+use Rattle.texts.specs.Parts.{withSquares, placing, andThen, begun}
+use Rattle.texts.specs.Fen.{onColor}
+use Prim.Native.Char.{code}
 use borrow.Author.Needs.{needs}
 use native.Mathlib.Omega.{arith}
 use Rattle.texts.proofs.hub.hub_byte.Statement.{statement}
@@ -11,7 +29,8 @@ use Rattle.texts.proofs.parts.with_squares.Reads as with-squares-reads
 
 -- src/hub.rt:41:9
 returns : tie.Need-returns
-returns c = search needs
+unfolding hubByteOf
+returns c = rw (eq-eqb _ (code "e") (c .if1 .taken))
 
 -- src/hub.rt:43:11
 from-char-requires : tie.Need-from-char-requires
@@ -39,11 +58,13 @@ enum-known-e c = search needs
 
 -- src/hub.rt:37:1
 returns-2 : tie.Need-returns-2
-returns-2 c = search needs
+unfolding hubByteOf
+returns-2 c = rw (ne-eqb _ (code "e") (c .before .before .before .before .before .before .before .if1 .left), ← c .before .before .before .before .before .before .from-char .ensures, c .before .before .before .before .q .given .1, ← c .before .before .is-king .ensures, ← c .before .bitboard .ensures) (ap reading.Parts (c .with-squares .ensures))
 
 -- src/hub.rt:37:1
 returns-3 : tie.Need-returns-3
-returns-3 c = search needs
+unfolding hubByteOf
+returns-3 c = rw (ne-eqb _ (code "e") (c .before .before .before .before .if1 .left), ← c .before .before .before .from-char .ensures, c .before .e .given .1)
 
 pub hub-byte-spec : {M : Type 1} → statement M
 hub-byte-spec =

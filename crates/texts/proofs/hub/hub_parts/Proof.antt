@@ -1,3 +1,21 @@
+-- The side, then the squares.
+use mathlib.Core.Path.{_≡_, refl, ap, ap₂, sym, _∙_}
+use mathlib.Core.List.{List, [], _∷_, _++_}
+use mathlib.Core.Bool.{Bool, true, false, cond, _&&_}
+use Prim.Native.Nat.{ℕ, _≤_, _<_, _-_, _+_, _^_}
+use lib.ListN.{length, take, drop, getD, set, length-drop, length-set}
+use lib.Seq.{length-take-le, take-length}
+use lib.Dec.{leb, eqb}
+use denote.Ref.{now}
+use borrow.Author.Tests.{lt-leb, le-leb, eq-eqb, ne-eqb}
+use Rattle.texts.proofs.Readers as laws
+use Rattle.texts.specs.declared.parts.Parts.{Parts}
+use Rattle.texts.specs.declared.parts.Reading.{Reading}
+use Rattle.texts.specs.declared.parts.Reading.the-variants as reading
+use Rattle.texts.specs.Hub.{isKing, knownOn, hubByteOf, hubFrom, hubParts, fromHubOf}
+use Rattle.texts.specs.Parts.{withSquares, placing, andThen, begun}
+use Rattle.texts.specs.Fen.{onColor}
+use Prim.Native.Char.{code}
 use borrow.Author.Needs.{needs}
 use native.Mathlib.Omega.{arith}
 use Rattle.texts.proofs.hub.hub_parts.Statement.{statement}
@@ -9,7 +27,7 @@ use Rattle.texts.proofs.hub.hub_squares.Reads as hub-squares-reads
 
 -- src/hub.rt:91:9
 returns : tie.Need-returns
-returns c = search needs
+returns c = sym (laws.hub-none (now (c .before .before .args .s)) (c .if1 .taken))
 
 -- src/hub.rt:93:28
 shared-slice-read-from-char : tie.Need-shared-slice-read-from-char
@@ -33,11 +51,11 @@ enum-told c = search needs
 
 -- src/hub.rt:87:1
 returns-2 : tie.Need-returns-2
-returns-2 c = search needs
+returns-2 c = let s = now (c .before .before .before .before .before .before .before .before .args .s) in c .hub-squares .ensures ∙ sym (laws.hub-some s (c .before .before .before .before .from-char .result) (c .before .before .before .before .before .before .if1 .left) (c .before .before .before .before .from-char .ensures) ∙ rw (c .before .before .c .given .1))
 
 -- src/hub.rt:87:1
 returns-3 : tie.Need-returns-3
-returns-3 c = search needs
+returns-3 c = let s = now (c .before .before .before .before .before .before .args .s) in sym (laws.hub-some s (c .before .before .from-char .result) (c .before .before .before .before .if1 .left) (c .before .before .from-char .ensures) ∙ rw (c .enum-told .given .1))
 
 pub hub-parts-spec : {M : Type 1} → statement M
 hub-parts-spec =

@@ -1,3 +1,21 @@
+-- One square a turn; what is left of the text, and what it should have, fall together.
+use mathlib.Core.Path.{_≡_, refl, ap, ap₂, sym, _∙_}
+use mathlib.Core.List.{List, [], _∷_, _++_}
+use mathlib.Core.Bool.{Bool, true, false, cond, _&&_}
+use Prim.Native.Nat.{ℕ, _≤_, _<_, _-_, _+_, _^_}
+use lib.ListN.{length, take, drop, getD, set, length-drop, length-set}
+use lib.Seq.{length-take-le, take-length}
+use lib.Dec.{leb, eqb}
+use denote.Ref.{now}
+use borrow.Author.Tests.{lt-leb, le-leb, eq-eqb, ne-eqb}
+use Rattle.texts.proofs.Readers as laws
+use Rattle.texts.specs.declared.parts.Parts.{Parts}
+use Rattle.texts.specs.declared.parts.Reading.{Reading}
+use Rattle.texts.specs.declared.parts.Reading.the-variants as reading
+use Rattle.texts.specs.Hub.{isKing, knownOn, hubByteOf, hubFrom, hubParts, fromHubOf}
+use Rattle.texts.specs.Parts.{withSquares, placing, andThen, begun}
+use Rattle.texts.specs.Fen.{onColor}
+use Prim.Native.Char.{code}
 use borrow.Author.Needs.{needs}
 use native.Mathlib.Omega.{arith}
 use Rattle.texts.proofs.hub.hub_squares.Statement.{statement}
@@ -8,10 +26,10 @@ use Rattle.texts.proofs.hub.hub_byte.Reads as hub-byte-reads
 use Rattle.texts.proofs.parts.begun.Reads as begun-reads
 
 abbrev Inv-loop : tie.InvT-loop
-Inv-loop s p₀ n₀ p n = ?
+Inv-loop s p₀ n₀ p n = (1 ≤ n) × (n ≤ 51) × (n ≤ length s) × (hubFrom (51 - n) n p (drop n s) ≡ hubFrom 50 1 p₀ (drop 1 s))
 
 abbrev μ-loop : tie.MeasureT-loop
-μ-loop s p₀ n₀ p n = ?
+μ-loop s p₀ n₀ p n = 51 - n
 
 -- src/hub.rt:63:9
 begun-requires : tie.Need-begun-requires Inv-loop μ-loop
@@ -19,7 +37,7 @@ begun-requires c κs = search needs
 
 -- src/hub.rt:65:5
 loop-holds : tie.Need-loop-holds Inv-loop μ-loop
-loop-holds c = search needs
+loop-holds c = (omega arith, omega arith, c .before .before .pre, refl)
 
 -- src/hub.rt:66:18
 cast-at : tie.Need-cast-at Inv-loop μ-loop
@@ -27,7 +45,7 @@ cast-at c = search needs
 
 -- src/hub.rt:68:13
 returns : tie.Need-returns Inv-loop μ-loop
-returns c = search needs
+returns c = let s = now (c .before .before .before .before .before .args .s) in let l = c .before .before .loop in sym (laws.hub-cut s (l .n) (l .p) (omega arith) (omega arith)) ∙ l .inv .3 ∙ ap (λ (x : Parts). hubFrom 50 1 x (drop 1 s)) (c .before .before .before .begun .ensures)
 
 -- src/hub.rt:70:30
 shared-slice-read-hub-byte : tie.Need-shared-slice-read-hub-byte Inv-loop μ-loop
@@ -47,7 +65,7 @@ enum-known-e c = search needs
 
 -- src/hub.rt:75:17
 returns-2 : tie.Need-returns-2 Inv-loop μ-loop
-returns-2 c = search needs
+returns-2 c = let s = now (c .before .before .before .before .before .before .before .before .before .before .args .s) in let l = c .before .before .before .before .before .before .before .loop in let h = c .before .before .before .hub-byte in sym (laws.hub-step s (l .n) (l .p) (h .result) (omega arith) (omega arith) (h .ensures) ∙ rw (c .before .e .given .1)) ∙ l .inv .3 ∙ ap (λ (x : Parts). hubFrom 50 1 x (drop 1 s)) (c .before .before .before .before .before .before .before .before .begun .ensures)
 
 -- src/hub.rt:78:9
 add-n : tie.Need-add-n Inv-loop μ-loop
@@ -55,19 +73,19 @@ add-n c = search needs
 
 -- src/hub.rt:65:5
 loop-less : tie.Need-loop-less Inv-loop μ-loop
-loop-less c = search needs
+loop-less c = omega arith
 
 -- src/hub.rt:65:5
 loop-again : tie.Need-loop-again Inv-loop μ-loop
-loop-again c = search needs
+loop-again c = let s = now (c .before .before .before .before .before .before .before .before .before .before .args .s) in let l = c .before .before .before .before .before .before .before .loop in let h = c .before .before .before .hub-byte in (omega arith, omega arith, omega arith, sym (laws.hub-step s (l .n) (l .p) (h .result) (omega arith) (omega arith) (h .ensures) ∙ rw (c .before .q .given .1)) ∙ l .inv .3)
 
 -- src/hub.rt:59:1
 returns-3 : tie.Need-returns-3 Inv-loop μ-loop
-returns-3 c = search needs
+returns-3 c = let s = now (c .before .before .before .before .before .args .s) in let l = c .before .before .loop in sym (laws.past-end s (l .n) (l .p) (omega arith) (c .if2 .taken)) ∙ l .inv .3 ∙ ap (λ (x : Parts). hubFrom 50 1 x (drop 1 s)) (c .before .before .before .begun .ensures)
 
 -- src/hub.rt:59:1
 returns-4 : tie.Need-returns-4 Inv-loop μ-loop
-returns-4 c = search needs
+returns-4 c = let s = now (c .before .before .before .before .before .args .s) in let l = c .before .before .loop in sym (laws.at-end s (l .n) (l .p) (omega arith) (c .if2 .left)) ∙ l .inv .3 ∙ ap (λ (x : Parts). hubFrom 50 1 x (drop 1 s)) (c .before .before .before .begun .ensures)
 
 pub hub-squares-spec : {M : Type 1} → statement M
 hub-squares-spec =
