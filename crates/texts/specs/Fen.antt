@@ -49,6 +49,13 @@ fenText b =
     ∷ (code "B" ∷ listText (b .kings) (b .black))
     ∷ [])
 
+-- a comma before each item but the first
+unfoldable pub separator : Bool → List ℕ
+separator first = cond first [] (code "," ∷ [])
+
+unfoldable pub fieldText : ℕ → ℕ → ℕ → List ℕ
+fieldText letter kings s = code ":" ∷ letter ∷ listText kings s
+
 -- the answer: 12, then 18 above 200 bytes, then 19
 unfoldable pub fenOf : Position → List ℕ → Wrote
 fenOf p out =

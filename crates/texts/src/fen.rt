@@ -23,7 +23,7 @@ ghost use Rattle.positions.specs.Boards.{boardOf};
 ghost use Rattle.texts.specs.Bytes.{is, splitOn, partsFrom};
 ghost use Rattle.texts.specs.Parts.{OnSquare};
 ghost use Rattle.texts.specs.Lent.{content, Whole, Room, Grew};
-ghost use Rattle.texts.specs.Fen.{fenColorOf, endOf, endsOf, rangeOf, itemOf, itemsOf, fieldOf, fieldsOf, sideOf, body, fenParts, fromFenOf, itemText, listText, fenText, fenOf, fenLent};
+ghost use Rattle.texts.specs.Fen.{fenColorOf, endOf, endsOf, rangeOf, itemOf, itemsOf, fieldOf, fieldsOf, sideOf, body, fenParts, fromFenOf, itemText, listText, separator, fieldText, fenText, fenOf, fenLent};
 
 // The letter of a colour: W, w, B or b.
 fn fen_color(c: u8) -> Sided
@@ -188,4 +188,77 @@ pub fn from_fen(text: &[u8]) -> Placed
     } else {
         Placed::Refused(Refusal::TextTooLong)
     }
+}
+
+// The number of a square, K before a king.
+fn put_item(t: Text, kings: Bitboard, n: Square) -> Text
+    requires { ⌜ Room t (itemText kings n) × (n < 100) ⌝ }
+    ensures { λ r. ⌜ Grew t r (itemText kings n) ⌝ }
+{
+    let number = n as u8;
+    if bitboard::contains(kings, n) {
+        let u = bytes::push(t, b'K');
+        bytes::push_number(u, number)
+    } else {
+        bytes::push_number(t, number)
+    }
+}
+
+fn put_separator(t: Text, first: bool) -> Text
+    requires { ⌜ Room t (separator first) ⌝ }
+    ensures { λ r. ⌜ Grew t r (separator first) ⌝ }
+{
+    if first { t } else { bytes::push(t, b',') }
+}
+
+// The squares of a set, rising.
+fn put_list(start: Text, kings: Bitboard, set: Bitboard) -> Text
+    requires { ⌜ Room start (listText kings set) ⌝ }
+    ensures { λ r. ⌜ Grew start r (listText kings set) ⌝ }
+{
+    let mut t = start;
+    let mut first = true;
+    let mut left = set;
+    while left != 0 {
+        let n = squares::square::from_bit(u64::trailing_zeros(left));
+        let u = put_separator(t, first);
+        t = put_item(u, kings, n);
+        first = false;
+        left &= left - 1;
+    }
+    t
+}
+
+fn put_field(t: Text, letter: u8, kings: Bitboard, set: Bitboard) -> Text
+    requires { ⌜ Room t (fieldText letter kings set) ⌝ }
+    ensures { λ r. ⌜ Grew t r (fieldText letter kings set) ⌝ }
+{
+    let u = bytes::push(t, b':');
+    let v = bytes::push(u, letter);
+    put_list(v, kings, set)
+}
+
+fn fen_text(p: Position) -> Text
+    requires { ⌜ length (fenText (boardOf p)) ≤ 200 ⌝ }
+    ensures { λ r. ⌜ (content r ≡ fenText (boardOf p)) × Whole r ⌝ }
+{
+    let side = p.side;
+    let t = bytes::push(bytes::no_text(), side.to_char());
+    let u = put_field(t, b'W', p.kings, p.white);
+    put_field(u, b'B', p.kings, p.black)
+}
+
+// The FEN text of a position: 12, 18, 19. A sound position takes at most 196 bytes (proofs/FenLength.antt), so that 18
+// needs no test.
+pub fn fen(p: Position, out: &mut [u8]) -> Wrote
+    ensures { λ r. ⌜ r ≡ fenOf p (now (out .entry)) ⌝ }
+    ensures { λ r. ⌜ now (out .exit) ≡ fenLent p (now (out .entry)) ⌝ }
+{
+    if p.sound() {
+        let t = fen_text(p);
+        let text = t.bytes;
+        let n = t.len;
+        return bytes::emit(&text[..n], out);
+    }
+    Wrote::Refused(Refusal::BadPosition)
 }

@@ -106,3 +106,41 @@ pub fn from_hub(text: &[u8]) -> Placed
         Placed::Refused(Refusal::TextTooLong)
     }
 }
+
+// The byte of a square: capital = king, e = empty.
+fn hub_char(p: Position, square: Square) -> u8
+    ensures { λ r. ⌜ r ≡ hubChar (boardOf p) square ⌝ }
+{
+    match p.piece_at(square) {
+        Standing::Piece(q) => q.to_char(),
+        Standing::Nothing => b'e',
+        Standing::Refused(_) => b'e',
+    }
+}
+
+fn hub_text(p: Position) -> Text
+    ensures { λ r. ⌜ (content r ≡ hubText (boardOf p)) × Whole r ⌝ }
+{
+    let side = p.side;
+    let mut t = bytes::push(bytes::no_text(), side.to_char());
+    let mut n: u32 = 1;
+    while n <= 50 {
+        t = bytes::push(t, hub_char(p, n));
+        n += 1;
+    }
+    t
+}
+
+// The Hub text of a position: 12, 19.
+pub fn hub(p: Position, out: &mut [u8]) -> Wrote
+    ensures { λ r. ⌜ r ≡ hubOf p (now (out .entry)) ⌝ }
+    ensures { λ r. ⌜ now (out .exit) ≡ hubLent p (now (out .entry)) ⌝ }
+{
+    if p.sound() {
+        let t = hub_text(p);
+        let text = t.bytes;
+        let n = t.len;
+        return bytes::emit(&text[..n], out);
+    }
+    Wrote::Refused(Refusal::BadPosition)
+}
