@@ -44,12 +44,7 @@ fn hub_byte(p: Parts, square: Square, x: u8) -> Reading
         Known::Piece(q) => {
             let color = q.color;
             let kind = q.kind;
-            Reading::Parts(parts::with_squares(
-                p,
-                color,
-                is_king(kind),
-                square::bitboard(square),
-            ))
+            Reading::Parts(parts::with_squares(p, color, is_king(kind), square::bitboard(square)))
         }
         Known::Refused(e) => Reading::Refused(e),
     }
