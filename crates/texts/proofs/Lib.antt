@@ -4,3 +4,9 @@ pub mod SquareTexts
 pub mod Readers
 pub mod FenLength
 pub mod Writers
+pub mod ListLaws
+pub mod Marks
+pub mod Clean
+pub mod FenTrip
+pub mod HubTrip
+pub mod ReadBack
