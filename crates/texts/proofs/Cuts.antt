@@ -1,17 +1,16 @@
 -- What the byte loops find, place by place: trimming, finding, splitting at a place, a square's digits.
-use Prim.Native.Nat.{ℕ, zero, suc, _+_, _-_, _*_, _≤_, _<_}
+use Prim.Native.Nat.{ℕ, suc, _+_, _-_, _≤_, _<_}
 use mathlib.Core.Path.{_≡_, refl, ap, sym, _∙_}
 use mathlib.Core.List.{List, [], _∷_, _++_}
-use mathlib.Core.Bool.{Bool, true, false, cond, _&&_, _||_, not}
+use mathlib.Core.Bool.{Bool, true, false, cond}
 use native.Mathlib.Omega.{arith}
 use native.Mathlib.Numerals.{add-one}
 use native.Mathlib.Nat.{add-assoc}
 use lib.ListN.{length, take, drop, getD, length-drop, drop-of-length-le}
 use lib.Seq.{drop-cons, take-suc, take-all, drop-drop}
-use lib.Dec.{ltb, leb, eqb, leb·suc-suc, leb·zero}
-use borrow.Author.Tests.{lt-ltb, le-ltb, le-leb, lt-leb, eq-eqb, ne-eqb, leb-true, leb-false}
-use Rattle.squares.proofs.Bools.{and-left, and-right}
-use Rattle.texts.specs.Bytes.{ascii, blank, is, trimStart, keepEnd, trimEnd, trim, consHead, splitOn, upTo, behindOr, behind, startsWith, strip, indexOf, partsFrom}
+use lib.Dec.{leb, eqb, leb·suc-suc}
+use borrow.Author.Tests.{le-leb, lt-leb, eq-eqb, ne-eqb, leb-true, leb-false}
+use Rattle.texts.specs.Bytes.{ascii, is, trimStart, keepEnd, trimEnd, consHead, splitOn, upTo, behindOr, behind, startsWith, strip, indexOf, partsFrom}
 
 -- one more element at i + 1
 pub drop-next : (s : List ℕ) (i : ℕ) → i < length s → drop i s ≡ getD s i 0 ∷ drop (i + 1) s

@@ -1,7 +1,7 @@
 -- A written board takes at most 196 bytes: each of the 50 squares pays for at most one item.
 use Prim.Native.Nat.{ℕ, zero, suc, _+_, _/_, _%_, _≤_, _<_}
-use mathlib.Core.Path.{_≡_, refl, sym, ap, ap₂, _∙_}
-use mathlib.Core.List.{List, [], _∷_, _++_, map}
+use mathlib.Core.Path.{_≡_, refl, sym, ap₂, _∙_}
+use mathlib.Core.List.{List, [], _∷_, map}
 use mathlib.Core.Bool.{Bool, true, false, cond, _&&_, true≢false}
 use native.Mathlib.Omega.{arith}
 use native.Mathlib.Nat.{zero-add}

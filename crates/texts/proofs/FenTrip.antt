@@ -1,18 +1,16 @@
 -- Reading a written board gives the board: side and lists come apart at the colons, items at the commas, and the
 -- members of each set, put one by one, give the set.
-use Prim.Native.Nat.{ℕ, zero, suc, _+_, _-_, _^_, _<_, _≤_}
+use Prim.Native.Nat.{ℕ, _+_, _-_, _^_}
 use mathlib.Core.Path.{_≡_, refl, sym, ap, ap₂, _∙_}
-use mathlib.Core.List.{List, [], _∷_, _++_, map}
-use mathlib.Core.Bool.{Bool, true, false, cond, _&&_, _||_, not}
+use mathlib.Core.List.{List, [], _∷_, map}
+use mathlib.Core.Bool.{Bool, true, false, cond, _&&_, not}
 use native.Mathlib.Omega.{arith}
 use native.Mathlib.Nat.{add-zero}
-use lib.Bits.{bitOr}
 use Rattle.squares.specs.Sets.{has, members}
-use Rattle.squares.specs.Squares.{isSquare, bitOf, onBoard, squareAtBit, containsOf, run}
+use Rattle.squares.specs.Squares.{bitOf, onBoard, squareAtBit, containsOf, run}
 use Rattle.squares.specs.Pieces.{colorChar}
 use Rattle.squares.specs.declared.piece.Color.{Color}
 use Rattle.squares.specs.declared.piece.Color.the-variants.{White, Black}
-use Rattle.squares.specs.declared.square.Numbered.{Numbered}
 use Rattle.squares.specs.declared.square.Numbered.the-variants as numbered
 use Rattle.squares.specs.declared.refusal.Refusal.the-variants.{BadSquare}
 use Rattle.squares.proofs.Bools.{and-left, and-right, and-both}
@@ -20,8 +18,8 @@ use Rattle.squares.proofs.Numbers.{bit-square, bit-back}
 use Rattle.positions.specs.Boards.{Board}
 use Rattle.positions.specs.Acceptance.{Accepted}
 use Rattle.texts.specs.Bytes.{blank, is, trimStart, keepEnd, trimEnd, trim, splitOn, joined, upTo, behind, startsWith, strip, number, readSquare, digits}
-use Rattle.texts.specs.Parts.{added, withSquares, begun, andThen}
-use Rattle.texts.specs.Fen.{itemText, listText, fenText, fenColorOf, onColor, endOf, endsOf, rangeOf, itemOf, itemsOf, fieldOf, fieldsOf, sideOf, fenFields, body, fenParts}
+use Rattle.texts.specs.Parts.{added, withSquares, begun}
+use Rattle.texts.specs.Fen.{itemText, listText, fenText, fenColorOf, endOf, rangeOf, itemOf, itemsOf, fieldOf, fieldsOf, sideOf, fenFields, body, fenParts}
 use Rattle.texts.specs.declared.parts.Parts.{Parts}
 use Rattle.texts.specs.declared.parts.Reading.{Reading}
 use Rattle.texts.specs.declared.parts.Reading.the-variants as reading

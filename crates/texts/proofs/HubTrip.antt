@@ -1,11 +1,10 @@
 -- Reading a Hub text gives the board: each letter puts its square's piece, and the 50 squares are the whole board.
 use Prim.Native.Nat.{ℕ, zero, suc, _+_, _^_, _<_, _≤_}
 use mathlib.Core.Path.{_≡_, refl, sym, ap, ap₂, _∙_}
-use mathlib.Core.List.{List, [], _∷_, map}
+use mathlib.Core.List.{List, _∷_, map}
 use mathlib.Core.Bool.{Bool, true, false, cond, _&&_, _||_, not}
 use native.Mathlib.Omega.{arith}
-use native.Mathlib.Numerals.{add-one}
-use lib.Dec.{eqb, ltb, leb}
+use lib.Dec.{ltb, leb}
 use lib.Bits.{bitOr}
 use lib.ListN.{length}
 use Rattle.squares.specs.Sets.{has}
@@ -21,7 +20,7 @@ use Rattle.squares.proofs.Numbers.{range-square, single-is}
 use Rattle.positions.specs.Boards.{Board, pieceAtOf}
 use Rattle.positions.specs.Acceptance.{Accepted}
 use Rattle.texts.specs.Bytes.{ascii}
-use Rattle.texts.specs.Parts.{added, withSquares, begun, andThen}
+use Rattle.texts.specs.Parts.{added, withSquares, begun}
 use Rattle.texts.specs.Hub.{squaresFrom, standingChar, hubChar, hubText, hubByteOf, hubFrom, hubParts}
 use Rattle.texts.specs.declared.parts.Parts.{Parts}
 use Rattle.texts.specs.declared.parts.Reading.{Reading}

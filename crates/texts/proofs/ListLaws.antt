@@ -2,7 +2,7 @@
 use Prim.Native.Nat.{ℕ}
 use mathlib.Core.Path.{_≡_, refl, sym, ap, _∙_}
 use mathlib.Core.List.{List, [], _∷_, _++_, map}
-use mathlib.Core.Bool.{Bool, true, false, cond, _&&_, not, true≢false, false≢true}
+use mathlib.Core.Bool.{Bool, true, false, _&&_, not, true≢false, false≢true}
 use Rattle.squares.proofs.Bools.{and-left, and-right, and-both}
 use Rattle.texts.specs.Bytes.{trimStart, keepEnd, trimEnd, trim, consHead, splitOn, joined}
 

@@ -1,39 +1,31 @@
 -- Every position read is sound; reading what `fen` or `hub` wrote of a sound position gives it back.
 use Prim.Native.Nat.{ℕ, _<_, _≤_, _^_}
-use mathlib.Core.Path.{_≡_, refl, sym, ap, ap₂, _∙_}
-use mathlib.Core.List.{List, [], _∷_, _++_, map}
-use mathlib.Core.Bool.{Bool, true, false, cond, _&&_, _||_, true≢false}
+use mathlib.Core.Path.{_≡_, refl, sym, ap, _∙_}
+use mathlib.Core.List.{List, _++_}
+use mathlib.Core.Bool.{Bool, true, false, cond, _&&_, _||_}
 use native.Mathlib.Omega.{arith}
 use lib.Bits.{bitAnd, bitOr}
 use lib.Dec.{eqb, leb}
 use lib.ListN.{length, take, drop}
 use lib.Seq.{take-append-le, take-length}
-use borrow.Author.Tests.{le-leb, eqb-true, leb-true}
+use borrow.Author.Tests.{le-leb}
 use Rattle.squares.specs.Sets.{has, without}
-use Rattle.squares.specs.Pieces.{colorChar}
-use Rattle.squares.specs.Squares.{onBoard}
-use Rattle.squares.specs.declared.piece.Color.{Color}
-use Rattle.squares.specs.declared.piece.Color.the-variants.{White, Black}
-use Rattle.squares.specs.declared.refusal.Refusal.{Refusal}
 use Rattle.squares.specs.declared.refusal.Refusal.the-variants.{TextTooLong, SpaceTooShort}
 use Rattle.squares.proofs.Bools.{and-left, and-right, and-both}
 use Rattle.squares.proofs.Pointwise.{ext, has-and, has-or, and-lt}
-use Rattle.positions.specs.Boards.{Board, board, boardOf}
+use Rattle.positions.specs.Boards.{Board, boardOf}
 use Rattle.positions.specs.Hash.{positionOf}
-use Rattle.positions.specs.Acceptance.{squaresOnly, misplaced, acceptedSets, accepted, sound, Accepted, Sound, placeOf, fromPartsOf}
+use Rattle.positions.specs.Acceptance.{squaresOnly, acceptedSets, accepted, sound, Accepted, Sound, placeOf, fromPartsOf}
 use Rattle.positions.specs.declared.position.Position.{Position}
-use Rattle.positions.specs.declared.position.Placed.{Placed}
 use Rattle.positions.specs.declared.position.Placed.the-variants as placed
 use Rattle.positions.proofs.Accepts.{from-parts-sound, says-accepted, says-sound, sound-position, say-squares}
-use Rattle.texts.specs.Bytes.{readable, ascii}
+use Rattle.texts.specs.Bytes.{readable}
 use Rattle.texts.specs.Parts.{placing}
 use Rattle.texts.specs.Lent.{emitOf, emitted}
 use Rattle.texts.specs.Fen.{fenText, fenOf, fenLent, fenParts, fromFenOf}
-use Rattle.texts.specs.Hub.{squaresFrom, hubChar, hubText, hubOf, hubLent, hubParts, fromHubOf}
-use Rattle.texts.specs.declared.parts.Parts.{Parts}
+use Rattle.texts.specs.Hub.{hubText, hubOf, hubLent, hubParts, fromHubOf}
 use Rattle.texts.specs.declared.parts.Reading.{Reading}
 use Rattle.texts.specs.declared.parts.Reading.the-variants as reading
-use Rattle.texts.specs.declared.bytes.Wrote.{Wrote}
 use Rattle.texts.specs.declared.bytes.Wrote.the-variants as wrote
 use Rattle.texts.proofs.Clean.{above, high, ascii-lacks}
 use Rattle.texts.proofs.FenLength.{fen-short}

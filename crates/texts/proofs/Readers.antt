@@ -1,8 +1,8 @@
 -- What the reading loops do in one turn: the definition at the whole is the definition at what is left.
-use Prim.Native.Nat.{ℕ, zero, suc, _+_, _-_, _≤_, _<_}
+use Prim.Native.Nat.{ℕ, suc, _+_, _-_, _≤_, _<_}
 use mathlib.Core.Path.{_≡_, refl, ap, sym, _∙_}
 use mathlib.Core.List.{List, [], _∷_}
-use mathlib.Core.Bool.{Bool, true, false, cond, _&&_}
+use mathlib.Core.Bool.{Bool, true, _&&_}
 use native.Mathlib.Omega.{arith}
 use native.Mathlib.Numerals.{add-one}
 use lib.ListN.{length, take, drop, getD, drop-of-length-le}
@@ -19,7 +19,7 @@ use Rattle.squares.specs.declared.square.Numbered.{Numbered}
 use Rattle.squares.proofs.Bools.{imp, imp-elim, and-both}
 use Rattle.squares.proofs.Below.{below, below-at}
 use Rattle.squares.proofs.Numbers.{range-square}
-use Rattle.texts.specs.Bytes.{blank, is, trim, splitOn, upTo, startsWith, strip, indexOf, partsFrom, readSquare}
+use Rattle.texts.specs.Bytes.{blank, is, trim, splitOn, startsWith, strip, indexOf, partsFrom}
 use Rattle.texts.specs.Parts.{begun, andThen, OnSquare}
 use Rattle.texts.specs.Fen.{fenColorOf, onColor, endOf, rangeOf, itemOf, itemsOf, fieldOf, fieldsOf, sideOf, fenFields, body, fenParts}
 use Rattle.texts.specs.Hub.{hubByteOf, hubFrom, hubParts}

@@ -5,13 +5,11 @@ use Prim.Native.String.{String, [] as []ˢ, _∷_ as _∷ˢ_}
 use mathlib.Core.Path.{_≡_, refl}
 use mathlib.Core.List.{List, [], _∷_}
 use Rattle.squares.specs.Squares.{single, run}
-use Rattle.squares.specs.declared.piece.Color.{Color}
 use Rattle.squares.specs.declared.piece.Color.the-variants.{White, Black}
 use Rattle.squares.specs.declared.refusal.Refusal.{Refusal}
 use Rattle.squares.specs.declared.refusal.Refusal.the-variants.{TextTooLong, NoSide, NoColor, BadSquare, BadHubByte, NotFifty, Overlap, ManOnPromotionRow}
-use Rattle.squares.specs.declared.square.Numbered.{Numbered}
 use Rattle.squares.specs.declared.square.Numbered.the-variants as numbered
-use Rattle.positions.specs.Boards.{Board, board}
+use Rattle.positions.specs.Boards.{board}
 use Rattle.positions.specs.Hash.{positionOf, initialOf}
 use Rattle.positions.specs.declared.position.Placed.{Placed}
 use Rattle.positions.specs.declared.position.Placed.the-variants as placed

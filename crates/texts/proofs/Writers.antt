@@ -1,6 +1,6 @@
 -- A text that grows by value: room, what was put on, and the loops over squares.
-use Prim.Native.Nat.{ℕ, zero, suc, _+_, _-_, _*_, _≤_, _<_, _^_, _/_, _%_}
-use mathlib.Core.Path.{_≡_, refl, ap, ap₂, sym, _∙_, subst}
+use Prim.Native.Nat.{ℕ, suc, _+_, _-_, _≤_, _<_, _^_, _/_, _%_}
+use mathlib.Core.Path.{_≡_, refl, ap, sym, _∙_, subst}
 use mathlib.Core.List.{List, [], _∷_, _++_, map, append-assoc, append-nil}
 use mathlib.Core.Bool.{Bool, true, false, cond}
 use native.Mathlib.Omega.{arith}
@@ -8,9 +8,8 @@ use native.Mathlib.Numerals.{add-one}
 use lib.ListN.{length, take, drop, getD, set, length-append}
 use lib.Seq.{drop-cons, take-suc, set-at, length-take-le, append-snoc, take-length}
 use lib.Bits.{bitAnd, and-comm, and-le-l}
-use lib.Dec.{ltb}
 use borrow.Author.Tests.{lt-ltb, le-ltb}
-use Rattle.squares.specs.Sets.{members, membersFrom, lowest}
+use Rattle.squares.specs.Sets.{members, lowest}
 use Rattle.squares.specs.Squares.{squareAtBit, containsOf, onBoard}
 use Rattle.squares.specs.Pieces.{colorChar}
 use Rattle.squares.proofs.Members.{members-cons, members-none}

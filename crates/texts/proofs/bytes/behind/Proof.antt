@@ -1,49 +1,40 @@
 -- Behind the place that `find` gives, where there is one.
-use mathlib.Core.Path.{_≡_, refl, ap, ap₂, sym, _∙_}
-use mathlib.Core.List.{List, [], _∷_, _++_}
-use mathlib.Core.Bool.{Bool, true, false, cond, _&&_}
-use Prim.Native.Nat.{ℕ, _≤_, _<_, _-_, _+_, _^_}
-use lib.ListN.{length, take, drop, getD, set, length-drop, length-set}
-use lib.Seq.{length-take-le, take-length}
-use lib.Dec.{leb, eqb}
+use mathlib.Core.Path.{ap, sym, _∙_}
+use Prim.Native.Nat.{ℕ, _-_, _+_}
+use lib.ListN.{drop}
 use denote.Ref.{now}
-use borrow.Author.Tests.{lt-leb, le-leb, eq-eqb, ne-eqb}
 use Rattle.texts.proofs.Cuts as laws
 use borrow.Author.Needs.{needs}
 use native.Mathlib.Omega.{arith}
 use Rattle.texts.proofs.bytes.behind.Statement.{statement}
 use Rattle.texts.proofs.bytes.behind.Tie as tie
-use Rattle.texts.proofs.bytes.behind.Reads as reads
-use Rattle.texts.proofs.bytes.behind.Lts as lts
-use Rattle.texts.proofs.bytes.find.Reads as find-reads
 
--- src/bytes.rt:139:9
 find-requires : tie.Need-find-requires
 find-requires c κs = search needs
 
--- src/bytes.rt:140:25
 add-result : tie.Need-add-result
 add-result c = search needs
 
--- src/bytes.rt:140:22
 sub-result : tie.Need-sub-result
 sub-result c = search needs
 
--- src/bytes.rt:140:22
 part-result-start : tie.Need-part-result-start
 part-result-start c = search needs
 
--- src/bytes.rt:140:22
 part-result-end : tie.Need-part-result-end
 part-result-end c = search needs
 
--- src/bytes.rt:136:1
 returns : tie.Need-returns
-returns c = let s = now (c .before .before .before .before .args .s) in let f = c .before .before .find in laws.rest s (f .result + 1) ∙ ap (λ (n : ℕ). drop (n + 1) s) (f .ensures .0) ∙ sym (laws.behind-hit (c .before .before .before .before .args .c) s (omega (arith, f .ensures .0, c .before .if1 .taken)))
+returns c =
+    let s = now (c .before .before .before .before .args .s) in
+    let f = c .before .before .find in
+    laws.rest s (f .result + 1) ∙ ap (λ (n : ℕ). drop (n + 1) s) (f .ensures .0) ∙ sym (laws.behind-hit (c .before .before .before .before .args .c) s (omega (arith, f .ensures .0, c .before .if1 .taken)))
 
--- src/bytes.rt:136:1
 returns-2 : tie.Need-returns-2
-returns-2 c = let s = now (c .before .before .before .args .s) in let f = c .before .find in sym (laws.behind-none (c .before .before .before .args .c) s (omega (arith, f .ensures .0, c .if1 .left)))
+returns-2 c =
+    let s = now (c .before .before .before .args .s) in
+    let f = c .before .find in
+    sym (laws.behind-none (c .before .before .before .args .c) s (omega (arith, f .ensures .0, c .if1 .left)))
 
 pub behind-spec : {M : Type 1} → statement M
 behind-spec =

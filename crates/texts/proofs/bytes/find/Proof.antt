@@ -1,21 +1,14 @@
 -- No byte before the place is c.
-use mathlib.Core.Path.{_≡_, refl, ap, ap₂, sym, _∙_}
-use mathlib.Core.List.{List, [], _∷_, _++_}
-use mathlib.Core.Bool.{Bool, true, false, cond, _&&_}
-use Prim.Native.Nat.{ℕ, _≤_, _<_, _-_, _+_, _^_}
-use lib.ListN.{length, take, drop, getD, set, length-drop, length-set}
-use lib.Seq.{length-take-le, take-length}
-use lib.Dec.{leb, eqb}
+use mathlib.Core.Path.{_≡_}
+use Prim.Native.Nat.{_≤_, _-_, _+_}
+use lib.ListN.{length, drop}
 use denote.Ref.{now}
-use borrow.Author.Tests.{lt-leb, le-leb, eq-eqb, ne-eqb}
 use Rattle.texts.proofs.Cuts as laws
 use Rattle.texts.specs.Bytes.{is, indexOf}
 use borrow.Author.Needs.{needs}
 use native.Mathlib.Omega.{arith}
 use Rattle.texts.proofs.bytes.find.Statement.{statement}
 use Rattle.texts.proofs.bytes.find.Tie as tie
-use Rattle.texts.proofs.bytes.find.Reads as reads
-use Rattle.texts.proofs.bytes.find.Lts as lts
 
 abbrev Inv-loop : tie.InvT-loop
 Inv-loop s c i₀ i = (i ≤ length s) × (indexOf (is c) s ≡ i + indexOf (is c) (drop i s))
@@ -23,33 +16,38 @@ Inv-loop s c i₀ i = (i ≤ length s) × (indexOf (is c) s ≡ i + indexOf (is 
 abbrev μ-loop : tie.MeasureT-loop
 μ-loop s c i₀ i = length s - i
 
--- src/bytes.rt:118:5
 loop-holds : tie.Need-loop-holds Inv-loop μ-loop
 loop-holds c = search needs
 
--- src/bytes.rt:119:12
 shared-slice-read-if1 : tie.Need-shared-slice-read-if1 Inv-loop μ-loop
 shared-slice-read-if1 c = search needs
 
--- src/bytes.rt:120:13
 returns : tie.Need-returns Inv-loop μ-loop
-returns c = let a = c .before .before .before .before .args in let l = c .before .before .before .loop in let h = laws.find-hit (a .c) (now (a .s)) (l .i) (omega arith) (c .if1 .taken) in (omega (arith, h, l .inv .1), omega arith)
+returns c =
+    let a = c .before .before .before .before .args in
+    let l = c .before .before .before .loop in
+    let h = laws.find-hit (a .c) (now (a .s)) (l .i) (omega arith) (c .if1 .taken) in
+    (omega (arith, h, l .inv .1), omega arith)
 
--- src/bytes.rt:122:9
 add-i : tie.Need-add-i Inv-loop μ-loop
 add-i c = search needs
 
--- src/bytes.rt:118:5
 loop-less : tie.Need-loop-less Inv-loop μ-loop
 loop-less c = search needs
 
--- src/bytes.rt:118:5
 loop-again : tie.Need-loop-again Inv-loop μ-loop
-loop-again c = let a = c .before .before .before .before .args in let l = c .before .before .before .loop in let h = laws.find-miss (a .c) (now (a .s)) (l .i) (omega arith) (c .if1 .left) in (omega arith, omega (arith, h, l .inv .1))
+loop-again c =
+    let a = c .before .before .before .before .args in
+    let l = c .before .before .before .loop in
+    let h = laws.find-miss (a .c) (now (a .s)) (l .i) (omega arith) (c .if1 .left) in
+    (omega arith, omega (arith, h, l .inv .1))
 
--- src/bytes.rt:114:1
 returns-2 : tie.Need-returns-2 Inv-loop μ-loop
-returns-2 c = let a = c .before .before .args in let l = c .before .loop in let h = laws.find-end (is (a .c)) (now (a .s)) (l .i) (omega arith) in (omega (arith, h, l .inv .1), omega arith)
+returns-2 c =
+    let a = c .before .before .args in
+    let l = c .before .loop in
+    let h = laws.find-end (is (a .c)) (now (a .s)) (l .i) (omega arith) in
+    (omega (arith, h, l .inv .1), omega arith)
 
 pub find-spec : {M : Type 1} → statement M
 find-spec =

@@ -1,37 +1,23 @@
 -- Each branch is one test of the definition.
-use mathlib.Core.Path.{_≡_, refl, ap, ap₂, sym, _∙_}
-use mathlib.Core.List.{List, [], _∷_, _++_}
-use mathlib.Core.Bool.{Bool, true, false, cond, _&&_}
-use Prim.Native.Nat.{ℕ, _≤_, _<_, _-_, _+_, _^_}
-use lib.ListN.{length, take, drop, getD, set, length-drop, length-set}
-use lib.Seq.{length-take-le, take-length}
-use lib.Dec.{leb, eqb}
-use denote.Ref.{now}
-use borrow.Author.Tests.{lt-leb, le-leb, eq-eqb, ne-eqb}
-use Rattle.texts.specs.Bytes.{blank, is, cuts}
-use borrow.Author.Needs.{needs}
+use Prim.Native.Nat.{_-_}
+use borrow.Author.Tests.{lt-leb, le-leb, ne-eqb}
+use Rattle.texts.specs.Bytes.{blank, is}
 use native.Mathlib.Omega.{arith}
 use Rattle.texts.proofs.bytes.is_cut.Statement.{statement}
 use Rattle.texts.proofs.bytes.is_cut.Tie as tie
-use Rattle.texts.proofs.bytes.is_cut.Reads as reads
-use Rattle.texts.proofs.bytes.is_cut.Lts as lts
 
--- src/bytes.rt:48:13
 returns : tie.Need-returns
 unfolding blank
 returns c = rw (c .before .if1 .taken) (simp (lt-leb 9 _ (c .if2 .taken), ne-eqb (c .before .before .args .b) 32 (λ e. omega arith)))
 
--- src/bytes.rt:51:13
 returns-2 : tie.Need-returns-2
 unfolding blank
 returns-2 c = rw (c .before .before .if1 .taken) (simp (le-leb 9 _ (c .before .if2 .left), le-leb _ 13 (c .if3 .taken)))
 
--- src/bytes.rt:43:1
 returns-3 : tie.Need-returns-3
 unfolding blank
 returns-3 c = rw (c .before .before .if1 .taken) (simp (le-leb 9 _ (c .before .if2 .left), lt-leb _ 13 (c .if3 .left)))
 
--- src/bytes.rt:43:1
 returns-4 : tie.Need-returns-4
 unfolding is
 returns-4 c = rw (c .if1 .left)

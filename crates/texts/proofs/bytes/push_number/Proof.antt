@@ -1,52 +1,32 @@
 -- One digit or two.
-use mathlib.Core.Path.{_≡_, refl, ap, ap₂, sym, _∙_}
-use mathlib.Core.List.{List, [], _∷_, _++_}
-use mathlib.Core.Bool.{Bool, true, false, cond, _&&_}
-use Prim.Native.Nat.{ℕ, _≤_, _<_, _-_, _+_, _^_}
-use lib.ListN.{length, take, drop, getD, set, length-drop, length-set}
-use lib.Seq.{length-take-le, take-length}
-use lib.Dec.{leb, eqb}
-use denote.Ref.{now}
-use borrow.Author.Tests.{lt-leb, le-leb, eq-eqb, ne-eqb}
+use mathlib.Core.Path.{sym}
+use Prim.Native.Nat.{_-_}
 use Rattle.texts.proofs.Writers as laws
-use Rattle.texts.specs.Lent.{emitOf, emitted, content, Whole, Room, Grew}
 use borrow.Author.Needs.{needs}
-use native.Mathlib.Omega.{arith}
 use Rattle.texts.proofs.bytes.push_number.Statement.{statement}
 use Rattle.texts.proofs.bytes.push_number.Tie as tie
-use Rattle.texts.proofs.bytes.push_number.Reads as reads
-use Rattle.texts.proofs.bytes.push_number.Lts as lts
-use Rattle.texts.proofs.bytes.push.Reads as push-reads
 
--- src/bytes.rt:202:17
 add-push : tie.Need-add-push
 add-push c = search needs
 
--- src/bytes.rt:202:9
 push-requires : tie.Need-push-requires
 push-requires c κs = laws.room-as (laws.digits-small (c .before .args .n) (c .if1 .taken)) (c .before .pre .0)
 
--- src/bytes.rt:204:25
 add-push-2 : tie.Need-add-push-2
 add-push-2 c = search needs
 
--- src/bytes.rt:204:13
 push-requires-2 : tie.Need-push-requires-2
 push-requires-2 c κs = laws.room-first _ _ (laws.room-as (laws.digits-large (c .before .args .n) (c .if1 .left)) (c .before .pre .0))
 
--- src/bytes.rt:205:17
 add-push-3 : tie.Need-add-push-3
 add-push-3 c = search needs
 
--- src/bytes.rt:205:9
 push-requires-3 : tie.Need-push-requires-3
 push-requires-3 c κs = laws.room-left _ (laws.room-as (laws.digits-large (c .before .before .args .n) (c .before .if1 .left)) (c .before .before .pre .0)) (c .push2 .ensures)
 
--- src/bytes.rt:197:1
 returns : tie.Need-returns
 returns c = laws.grew-as (sym (laws.digits-small (c .before .before .args .n) (c .before .if1 .taken))) (c .push .ensures)
 
--- src/bytes.rt:197:1
 returns-2 : tie.Need-returns-2
 returns-2 c = laws.grew-as (sym (laws.digits-large (c .before .before .before .args .n) (c .before .before .if1 .left))) (laws.grew-two (c .before .push2 .ensures) (c .push3 .ensures))
 

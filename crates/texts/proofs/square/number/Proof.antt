@@ -1,21 +1,14 @@
 -- Digit by digit; a value above 50 stays so.
-use mathlib.Core.Path.{_≡_, refl, ap, ap₂, sym, _∙_}
-use mathlib.Core.List.{List, [], _∷_, _++_}
-use mathlib.Core.Bool.{Bool, true, false, cond, _&&_}
-use Prim.Native.Nat.{ℕ, _≤_, _<_, _-_, _+_, _^_}
-use lib.ListN.{length, take, drop, getD, set, length-drop, length-set}
-use lib.Seq.{length-take-le, take-length}
-use lib.Dec.{leb, eqb}
+use mathlib.Core.Path.{_≡_, sym, _∙_}
+use Prim.Native.Nat.{_≤_, _-_}
+use lib.ListN.{length, drop}
 use denote.Ref.{now}
-use borrow.Author.Tests.{lt-leb, le-leb, eq-eqb, ne-eqb}
 use Rattle.texts.proofs.SquareTexts as laws
-use Rattle.texts.specs.Bytes.{number, digitsFrom, inRange}
+use Rattle.texts.specs.Bytes.{number, digitsFrom}
 use borrow.Author.Needs.{needs}
 use native.Mathlib.Omega.{arith}
 use Rattle.texts.proofs.square.number.Statement.{statement}
 use Rattle.texts.proofs.square.number.Tie as tie
-use Rattle.texts.proofs.square.number.Reads as reads
-use Rattle.texts.proofs.square.number.Lts as lts
 
 abbrev Inv-loop : tie.InvT-loop
 Inv-loop s v₀ i₀ v i = (i ≤ length s) × (v ≤ 59) × (number s ≡ digitsFrom v (drop i s))
@@ -23,65 +16,71 @@ Inv-loop s v₀ i₀ v i = (i ≤ length s) × (v ≤ 59) × (number s ≡ digit
 abbrev μ-loop : tie.MeasureT-loop
 μ-loop s v₀ i₀ v i = length s - i
 
--- src/square.rt:13:9
 returns : tie.Need-returns Inv-loop μ-loop
 returns c = sym (laws.number-none (now (c .before .args .s)) (c .if1 .taken))
 
--- src/square.rt:17:5
 loop-holds : tie.Need-loop-holds Inv-loop μ-loop
 loop-holds c = (search needs, omega arith, laws.number-some (now (c .before .args .s)) (c .if1 .left))
 
--- src/square.rt:18:17
 shared-slice-read-b : tie.Need-shared-slice-read-b Inv-loop μ-loop
 shared-slice-read-b c = search needs
 
--- src/square.rt:20:13
 returns-2 : tie.Need-returns-2 Inv-loop μ-loop
-returns-2 c = let s = now (c .before .before .before .before .before .args .s) in let l = c .before .before .before .loop in sym (l .inv .2 ∙ laws.digits-low (l .v) s (l .i) (omega arith) (c .if2 .taken))
+returns-2 c =
+    let s = now (c .before .before .before .before .before .args .s) in
+    let l = c .before .before .before .loop in
+    sym (l .inv .2 ∙ laws.digits-low (l .v) s (l .i) (omega arith) (c .if2 .taken))
 
--- src/square.rt:23:13
 returns-3 : tie.Need-returns-3 Inv-loop μ-loop
-returns-3 c = let s = now (c .before .before .before .before .before .before .args .s) in let l = c .before .before .before .before .loop in sym (l .inv .2 ∙ laws.digits-high (l .v) s (l .i) (omega arith) (c .if3 .taken))
+returns-3 c =
+    let s = now (c .before .before .before .before .before .before .args .s) in
+    let l = c .before .before .before .before .loop in
+    sym (l .inv .2 ∙ laws.digits-high (l .v) s (l .i) (omega arith) (c .if3 .taken))
 
--- src/square.rt:26:13
 returns-4 : tie.Need-returns-4 Inv-loop μ-loop
-returns-4 c = let s = now (c .before .before .before .before .before .before .before .args .s) in let l = c .before .before .before .before .before .loop in sym (l .inv .2 ∙ laws.digits-big (l .v) s (l .i) (omega arith) (c .before .before .if2 .left) (c .before .if3 .left) (c .if4 .taken))
+returns-4 c =
+    let s = now (c .before .before .before .before .before .before .before .args .s) in
+    let l = c .before .before .before .before .before .loop in
+    sym (l .inv .2 ∙ laws.digits-big (l .v) s (l .i) (omega arith) (c .before .before .if2 .left) (c .before .if3 .left) (c .if4 .taken))
 
--- src/square.rt:28:13
 mul-v : tie.Need-mul-v Inv-loop μ-loop
 mul-v c = search needs
 
--- src/square.rt:28:22
 cast-v : tie.Need-cast-v Inv-loop μ-loop
 cast-v c = search needs
 
--- src/square.rt:28:13
 add-v : tie.Need-add-v Inv-loop μ-loop
 add-v c = search needs
 
--- src/square.rt:29:9
 add-i : tie.Need-add-i Inv-loop μ-loop
 add-i c = search needs
 
--- src/square.rt:17:5
 loop-less : tie.Need-loop-less Inv-loop μ-loop
 loop-less c = search needs
 
--- src/square.rt:17:5
 loop-again : tie.Need-loop-again Inv-loop μ-loop
-loop-again c = let s = now (c .before .before .before .before .before .before .before .args .s) in let l = c .before .before .before .before .before .loop in (search needs, omega arith, l .inv .2 ∙ laws.digits-step (l .v) s (l .i) (omega arith) (c .before .before .if2 .left) (c .before .if3 .left))
+loop-again c =
+    let s = now (c .before .before .before .before .before .before .before .args .s) in
+    let l = c .before .before .before .before .before .loop in
+    (search needs, omega arith, l .inv .2 ∙ laws.digits-step (l .v) s (l .i) (omega arith) (c .before .before .if2 .left) (c .before .if3 .left))
 
--- src/square.rt:32:9
 returns-5 : tie.Need-returns-5 Inv-loop μ-loop
-returns-5 c = let s = now (c .before .before .before .before .args .s) in let l = c .before .before .loop in sym (l .inv .2 ∙ laws.digits-end (l .v) s (l .i) (omega arith) ∙ laws.range-low (l .v) (c .if5 .taken))
+returns-5 c =
+    let s = now (c .before .before .before .before .args .s) in
+    let l = c .before .before .loop in
+    sym (l .inv .2 ∙ laws.digits-end (l .v) s (l .i) (omega arith) ∙ laws.range-low (l .v) (c .if5 .taken))
 
--- src/square.rt:35:9
 returns-6 : tie.Need-returns-6 Inv-loop μ-loop
-returns-6 c = let s = now (c .before .before .before .before .before .args .s) in let l = c .before .before .before .loop in sym (l .inv .2 ∙ laws.digits-end (l .v) s (l .i) (omega arith) ∙ laws.range-high (l .v) (c .if6 .taken))
+returns-6 c =
+    let s = now (c .before .before .before .before .before .args .s) in
+    let l = c .before .before .before .loop in
+    sym (l .inv .2 ∙ laws.digits-end (l .v) s (l .i) (omega arith) ∙ laws.range-high (l .v) (c .if6 .taken))
 
--- src/square.rt:9:1
 returns-7 : tie.Need-returns-7 Inv-loop μ-loop
-returns-7 c = let s = now (c .before .before .before .before .before .args .s) in let l = c .before .before .before .loop in sym (l .inv .2 ∙ laws.digits-end (l .v) s (l .i) (omega arith) ∙ laws.range-in (l .v) (c .before .if5 .left) (c .if6 .left))
+returns-7 c =
+    let s = now (c .before .before .before .before .before .args .s) in
+    let l = c .before .before .before .loop in
+    sym (l .inv .2 ∙ laws.digits-end (l .v) s (l .i) (omega arith) ∙ laws.range-in (l .v) (c .before .if5 .left) (c .if6 .left))
 
 pub number-spec : {M : Type 1} → statement M
 number-spec =
