@@ -72,6 +72,13 @@ fenLent p out =
 
 -- ---- reading
 
+-- what separates items, and fields
+abbrev pub atComma : ℕ → Bool
+atComma = is (code ",")
+
+abbrev pub atColon : ℕ → Bool
+atColon = is (code ":")
+
 -- W, w, B or b
 unfoldable pub fenColorOf : ℕ → Sided
 fenColorOf c =
@@ -109,7 +116,7 @@ itemsOf c p (f ∷ fs) = andThen (itemOf c p (trim blank f)) (λ q. itemsOf c q 
 -- a trimmed field: its colour, then items split at commas
 unfoldable pub fieldOf : Parts → List ℕ → Reading
 fieldOf p [] = reading.Refused NoColor
-fieldOf p (x ∷ s) = onColor NoColor (fenColorOf x) (λ c. itemsOf c p (splitOn (is (code ",")) s))
+fieldOf p (x ∷ s) = onColor NoColor (fenColorOf x) (λ c. itemsOf c p (splitOn atComma s))
 
 unfoldable pub fieldsOf : Parts → List (List ℕ) → Reading
 fieldsOf p [] = reading.Parts p
@@ -130,7 +137,7 @@ unfoldable pub body : List ℕ → List ℕ
 body s = trimEnd (is (code ".")) (trim (is (code "\"")) (trim blank s))
 
 unfoldable pub fenParts : List ℕ → Reading
-fenParts s = fenFields (splitOn (is (code ":")) (body s))
+fenParts s = fenFields (splitOn atColon (body s))
 
 -- 1, then 2 to 4 in reading order, 7, 8
 unfoldable pub fromFenOf : List ℕ → Placed

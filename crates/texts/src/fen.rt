@@ -20,10 +20,10 @@ ghost use Prim.Native.Nat.{_≤_, _<_, _+_, _-_};
 ghost use lib.ListN.{length};
 ghost use Rattle.squares.specs.Squares.{run};
 ghost use Rattle.positions.specs.Boards.{boardOf};
-ghost use Rattle.texts.specs.Bytes.{is, splitOn, partsFrom};
+ghost use Rattle.texts.specs.Bytes.{splitOn, partsFrom};
 ghost use Rattle.texts.specs.Parts.{OnSquare};
 ghost use Rattle.texts.specs.Lent.{content, Whole, Room, Grew};
-ghost use Rattle.texts.specs.Fen.{fenColorOf, endOf, endsOf, rangeOf, itemOf, itemsOf, fieldOf, fieldsOf, sideOf, body, fenParts, fromFenOf, itemText, listText, separator, fieldText, fenText, fenOf, fenLent};
+ghost use Rattle.texts.specs.Fen.{atComma, atColon, fenColorOf, endOf, endsOf, rangeOf, itemOf, itemsOf, fieldOf, fieldsOf, sideOf, body, fenParts, fromFenOf, itemText, listText, separator, fieldText, fenText, fenOf, fenLent};
 
 // The letter of a colour: W, w, B or b.
 fn fen_color(c: u8) -> Sided
@@ -95,7 +95,7 @@ fn item(s: &[u8], color: Color, p: Parts) -> Reading
 
 // The items of a field behind its colour, split at commas.
 fn items(s: &[u8], color: Color, p: Parts) -> Reading
-    ensures { λ r. ⌜ r ≡ itemsOf color p (splitOn (is 44) (now (s .entry))) ⌝ }
+    ensures { λ r. ⌜ r ≡ itemsOf color p (splitOn atComma (now (s .entry))) ⌝ }
 {
     let mut read = p;
     let mut at = 0;
@@ -131,7 +131,7 @@ fn field(s: &[u8], p: Parts) -> Reading
 // The fields from a place on, split at colons.
 fn fields(s: &[u8], start: usize, p: Parts) -> Reading
     requires { ⌜ start ≤ length (now s) + 1 ⌝ }
-    ensures { λ r. ⌜ r ≡ fieldsOf p (partsFrom (is 58) (now (s .entry)) start) ⌝ }
+    ensures { λ r. ⌜ r ≡ fieldsOf p (partsFrom atColon (now (s .entry)) start) ⌝ }
 {
     let mut read = p;
     let mut at = start;
