@@ -1,0 +1,188 @@
+-- What the byte loops find, place by place: trimming, finding, splitting at a place, a square's digits.
+use Prim.Native.Nat.{ℕ, suc, _+_, _-_, _≤_, _<_}
+use mathlib.Core.Path.{_≡_, refl, ap, sym, _∙_}
+use mathlib.Core.List.{List, [], _∷_, _++_}
+use mathlib.Core.Bool.{Bool, true, false, cond}
+use native.Mathlib.Omega.{arith}
+use native.Mathlib.Numerals.{add-one}
+use native.Mathlib.Nat.{add-assoc}
+use lib.ListN.{length, take, drop, getD, length-drop, drop-of-length-le}
+use lib.Seq.{drop-cons, take-suc, take-all, drop-drop}
+use lib.Dec.{leb, eqb, leb·suc-suc}
+use borrow.Author.Tests.{le-leb, lt-leb, eq-eqb, ne-eqb, leb-true, leb-false}
+use Rattle.texts.specs.Bytes.{ascii, is, trimStart, keepEnd, trimEnd, consHead, splitOn, upTo, behindOr, behind, startsWith, strip, indexOf, partsFrom}
+
+-- one more element at i + 1
+pub drop-next : (s : List ℕ) (i : ℕ) → i < length s → drop i s ≡ getD s i 0 ∷ drop (i + 1) s
+drop-next s i h = rw (add-one, drop-cons s i 0)
+
+-- the part from i on
+pub rest : (s : List ℕ) (i : ℕ) → take (length s - i) (drop i s) ≡ drop i s
+rest s i = take-all (length s - i) (drop i s) (simp length-drop (omega arith))
+
+-- ---- ASCII
+pub ascii-high : (s : List ℕ) (i : ℕ) → i < length s → 127 < getD s i 0 → ascii (drop i s) ≡ false
+unfolding ascii
+ascii-high s i h e = rw (drop-next s i h, lt-leb (getD s i 0) 127 e)
+
+pub ascii-low : (s : List ℕ) (i : ℕ) → i < length s → getD s i 0 ≤ 127 → ascii (drop i s) ≡ ascii (drop (i + 1) s)
+unfolding ascii
+ascii-low s i h e = rw (drop-next s i h, le-leb (getD s i 0) 127 e)
+
+pub ascii-end : (s : List ℕ) (i : ℕ) → length s ≤ i → ascii (drop i s) ≡ true
+unfolding ascii
+ascii-end s i h = rw (drop-of-length-le s h)
+
+-- ---- trimming
+pub start-cut : (p : ℕ → Bool) (s : List ℕ) (i : ℕ) → i < length s → p (getD s i 0) ≡ true → trimStart p (drop i s) ≡ trimStart p (drop (i + 1) s)
+unfolding trimStart
+start-cut p s i h e = rw (drop-next s i h, e)
+
+pub start-keep : (p : ℕ → Bool) (s : List ℕ) (i : ℕ) → i < length s → p (getD s i 0) ≡ false → trimStart p (drop i s) ≡ drop i s
+unfolding trimStart
+start-keep p s i h e = rw (drop-next s i h, e)
+
+pub start-end : (p : ℕ → Bool) (s : List ℕ) (i : ℕ) → length s ≤ i → trimStart p (drop i s) ≡ drop i s
+unfolding trimStart
+start-end p s i h = rw (drop-of-length-le s h)
+
+keep-cond : (p : ℕ → Bool) (a : ℕ) (t : Bool) (x s : List ℕ) (b : ℕ) → keepEnd p a (cond t x (s ++ b ∷ [])) ≡ cond t (keepEnd p a x) (a ∷ (s ++ b ∷ []))
+unfolding keepEnd
+keep-cond p a true x s b = refl
+keep-cond p a false x [] b = refl
+keep-cond p a false x (y ∷ s) b = refl
+
+end-snoc : (p : ℕ → Bool) (s : List ℕ) (b : ℕ) → trimEnd p (s ++ b ∷ []) ≡ cond (p b) (trimEnd p s) (s ++ b ∷ [])
+unfolding trimEnd keepEnd
+end-snoc p [] b = refl
+end-snoc p (a ∷ s) b = ap (keepEnd p a) (end-snoc p s b) ∙ keep-cond p a (p b) (trimEnd p s) s b
+
+take-last : (s : List ℕ) (e : ℕ) → 0 < e → e ≤ length s → take e s ≡ take (e - 1) s ++ getD s (e - 1) 0 ∷ []
+take-last s e p h = let q : e ≡ suc (e - 1) = omega arith in rw (← take-suc s (e - 1) 0 (omega arith)) (ap (λ (n : ℕ). take n s) q)
+
+pub end-cut : (p : ℕ → Bool) (s : List ℕ) (e : ℕ) → 0 < e → e ≤ length s → p (getD s (e - 1) 0) ≡ true → trimEnd p (take e s) ≡ trimEnd p (take (e - 1) s)
+end-cut p s e q h t = rw (take-last s e q h, end-snoc, t)
+
+pub end-keep : (p : ℕ → Bool) (s : List ℕ) (e : ℕ) → 0 < e → e ≤ length s → p (getD s (e - 1) 0) ≡ false → trimEnd p (take e s) ≡ take e s
+end-keep p s e q h t = rw (take-last s e q h, end-snoc, t)
+
+pub end-none : (p : ℕ → Bool) (s : List ℕ) (e : ℕ) → e ≤ 0 → trimEnd p (take e s) ≡ take e s
+unfolding trimEnd
+end-none p s e h = let z : e ≡ 0 = omega arith in rw z
+
+-- ---- finding
+pub find-hit : (c : ℕ) (s : List ℕ) (i : ℕ) → i < length s → getD s i 0 ≡ c → indexOf (is c) (drop i s) ≡ 0
+unfolding indexOf is
+find-hit c s i h e = rw (drop-next s i h, eq-eqb _ _ e)
+
+pub find-miss : (c : ℕ) (s : List ℕ) (i : ℕ) → i < length s → (getD s i 0 ≡ c → ⊥) → indexOf (is c) (drop i s) ≡ suc (indexOf (is c) (drop (i + 1) s))
+unfolding indexOf is
+find-miss c s i h e = rw (drop-next s i h, ne-eqb _ _ e)
+
+pub find-end : (p : ℕ → Bool) (s : List ℕ) (i : ℕ) → length s ≤ i → indexOf p (drop i s) ≡ 0
+unfolding indexOf
+find-end p s i h = rw (drop-of-length-le s h)
+
+-- ---- before and behind
+pub up-to-is : (c : ℕ) (s : List ℕ) → upTo c s ≡ take (indexOf (is c) s) s
+unfolding upTo indexOf is
+up-to-is c [] = refl
+up-to-is c (b ∷ s) = go (eqb b c) (up-to-is c s)
+  where
+    go : (t : Bool) → upTo c s ≡ take (indexOf (is c) s) s → cond t [] (b ∷ upTo c s) ≡ take (cond t 0 (suc (indexOf (is c) s))) (b ∷ s)
+    go true e = refl
+    go false e = ap (λ (x : List ℕ). b ∷ x) e
+
+behind-in : (t : List ℕ) (c : ℕ) (s : List ℕ) → indexOf (is c) s < length s → behindOr t c s ≡ drop (suc (indexOf (is c) s)) s
+unfolding behindOr indexOf is
+behind-in t c [] h = absurd (omega arith)
+behind-in t c (b ∷ s) h = go (eqb b c) (behind-in t c s) h
+  where
+    go : (x : Bool) → (indexOf (is c) s < length s → behindOr t c s ≡ drop (suc (indexOf (is c) s)) s) → cond x 0 (suc (indexOf (is c) s)) < suc (length s)
+        → cond x s (behindOr t c s) ≡ drop (suc (cond x 0 (suc (indexOf (is c) s)))) (b ∷ s)
+    go true e l = refl
+    go false e l = e (omega arith)
+
+pub behind-hit : (c : ℕ) (s : List ℕ) → indexOf (is c) s < length s → behind c s ≡ drop (indexOf (is c) s + 1) s
+unfolding behind
+behind-hit c s h = behind-in s c s h ∙ ap (λ (n : ℕ). drop n s) (sym (add-one (indexOf (is c) s)))
+
+behind-out : (t : List ℕ) (c : ℕ) (s : List ℕ) → length s ≤ indexOf (is c) s → behindOr t c s ≡ t
+unfolding behindOr indexOf is
+behind-out t c [] h = refl
+behind-out t c (b ∷ s) h = go (eqb b c) (behind-out t c s) h
+  where
+    go : (x : Bool) → (length s ≤ indexOf (is c) s → behindOr t c s ≡ t) → suc (length s) ≤ cond x 0 (suc (indexOf (is c) s)) → cond x s (behindOr t c s) ≡ t
+    go true e l = absurd (omega arith)
+    go false e l = e (omega arith)
+
+pub behind-none : (c : ℕ) (s : List ℕ) → length s ≤ indexOf (is c) s → behind c s ≡ s
+unfolding behind
+behind-none c s h = behind-out s c s h
+
+-- ---- the first byte
+pub first-is : (c : ℕ) (s : List ℕ) → 0 < length s → startsWith c s ≡ eqb (getD s 0 0) c
+unfolding startsWith
+first-is c [] h = absurd (omega arith)
+first-is c (b ∷ s) h = refl
+
+pub first-none : (c : ℕ) (s : List ℕ) → length s ≤ 0 → startsWith c s ≡ false
+unfolding startsWith
+first-none c [] h = refl
+first-none c (b ∷ s) h = absurd (omega arith)
+
+pub strip-hit : (c : ℕ) (s : List ℕ) → 0 < length s → getD s 0 0 ≡ c → strip c s ≡ drop 1 s
+unfolding strip
+strip-hit c [] p e = absurd (omega arith)
+strip-hit c (b ∷ s) p e = rw (eq-eqb b c e)
+
+pub strip-miss : (c : ℕ) (s : List ℕ) → 0 < length s → (getD s 0 0 ≡ c → ⊥) → strip c s ≡ s
+unfolding strip
+strip-miss c [] p e = refl
+strip-miss c (b ∷ s) p e = rw (ne-eqb b c e)
+
+pub strip-none : (c : ℕ) (s : List ℕ) → length s ≤ 0 → strip c s ≡ s
+unfolding strip
+strip-none c [] p = refl
+strip-none c (b ∷ s) p = absurd (omega arith)
+
+-- ---- the parts from a place on
+parts-cons : (p : ℕ → Bool) (b : ℕ) (s : List ℕ) (m : ℕ) → partsFrom p (b ∷ s) (suc m + 1) ≡ partsFrom p s (m + 1)
+unfolding partsFrom
+parts-cons p b s m = simp (add-one, leb·suc-suc)
+
+leb-shift : (n at k : ℕ) (t : Bool) → at ≤ n → leb (at + k) n ≡ t → leb k (n - at) ≡ t
+leb-shift n at k true h e = le-leb k (n - at) (omega (arith, leb-true (at + k) n e))
+leb-shift n at k false h e = lt-leb k (n - at) (omega (arith, leb-false (at + k) n e))
+
+parts-drop : (p : ℕ → Bool) (s : List ℕ) (at k : ℕ) → at ≤ length s → partsFrom p (drop at s) k ≡ partsFrom p s (at + k)
+unfolding partsFrom
+parts-drop p s at k h = simp (length-drop, drop-drop, leb-shift (length s) at k (leb (at + k) (length s)) h refl)
+
+split-case : (p : ℕ → Bool) (b : ℕ) (s : List ℕ) (t : Bool) → splitOn p s ≡ take (indexOf p s) s ∷ partsFrom p s (indexOf p s + 1)
+    → cond t ([] ∷ splitOn p s) (consHead b (splitOn p s)) ≡ take (cond t 0 (suc (indexOf p s))) (b ∷ s) ∷ partsFrom p (b ∷ s) (cond t 0 (suc (indexOf p s)) + 1)
+unfolding consHead partsFrom
+split-case p b s true e = rw (le-leb 1 (suc (length s)) (omega arith))
+split-case p b s false e = rw (e, parts-cons p b s (indexOf p s))
+
+pub split-step : (p : ℕ → Bool) (s : List ℕ) → splitOn p s ≡ take (indexOf p s) s ∷ partsFrom p s (indexOf p s + 1)
+unfolding splitOn indexOf partsFrom
+split-step p [] = refl
+split-step p (b ∷ s) = split-case p b s (p b) (split-step p s)
+
+open-at : (p : ℕ → Bool) (s : List ℕ) (at : ℕ) → at ≤ length s → partsFrom p s at ≡ splitOn p (drop at s)
+unfolding partsFrom
+open-at p s at h = rw (le-leb at (length s) h)
+
+pub parts-start : (p : ℕ → Bool) (s : List ℕ) → partsFrom p s 0 ≡ splitOn p s
+parts-start p s = open-at p s 0 (omega arith)
+
+pub parts-step : (p : ℕ → Bool) (s : List ℕ) (at : ℕ) → at ≤ length s
+    → partsFrom p s at ≡ take (indexOf p (drop at s)) (drop at s) ∷ partsFrom p s (at + indexOf p (drop at s) + 1)
+parts-step p s at h =
+    let m = indexOf p (drop at s) in
+    open-at p s at h ∙ split-step p (drop at s) ∙ ap (λ (x : List (List ℕ)). take m (drop at s) ∷ x) (parts-drop p s at (m + 1) h ∙ ap (partsFrom p s) (sym (add-assoc at m 1)))
+
+pub parts-none : (p : ℕ → Bool) (s : List ℕ) (at : ℕ) → length s < at → partsFrom p s at ≡ []
+unfolding partsFrom
+parts-none p s at h = rw (lt-leb at (length s) h)

@@ -1,0 +1,12 @@
+pub mod Rows
+pub mod Cuts
+pub mod SquareTexts
+pub mod Readers
+pub mod FenLength
+pub mod Writers
+pub mod ListLaws
+pub mod Marks
+pub mod Clean
+pub mod FenTrip
+pub mod HubTrip
+pub mod ReadBack

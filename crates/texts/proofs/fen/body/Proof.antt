@@ -1,0 +1,25 @@
+-- Blanks, quotes, dots.
+use mathlib.Core.Path.{ap, _∙_}
+use Prim.Native.Nat.{_-_}
+use Rattle.texts.specs.Fen.{body}
+use Rattle.texts.specs.Bytes.{is, trim, trimEnd}
+use borrow.Author.Needs.{needs}
+use Rattle.texts.proofs.fen.body.Statement.{statement}
+use Rattle.texts.proofs.fen.body.Tie as tie
+
+trim-requires : tie.Need-trim-requires
+trim-requires c κs = search needs
+
+trim-matches-requires : tie.Need-trim-matches-requires
+trim-matches-requires c κs = search needs
+
+trim-end-matches-requires : tie.Need-trim-end-matches-requires
+trim-end-matches-requires c κs = search needs
+
+returns : tie.Need-returns
+unfolding body
+returns c = c .trim-end-matches .ensures ∙ ap (trimEnd (is 46)) (c .before .trim-matches .ensures ∙ ap (trim (is 34)) (c .before .before .trim .ensures))
+
+pub body-spec : {M : Type 1} → statement M
+body-spec =
+    tie.close (tie.spec trim-requires trim-matches-requires trim-end-matches-requires returns)

@@ -1,0 +1,124 @@
+-- Texts as lists of bytes: trimming, splitting, joining, the number of a square (document 01, "position.rs", "square.rs").
+use Prim.Native.Nat.{ℕ, zero, suc, _+_, _-_, _*_, _/_, _%_}
+use Prim.Native.Char.{code}
+use mathlib.Core.List.{List, [], _∷_, _++_}
+use mathlib.Core.Bool.{Bool, true, false, cond, _&&_, _||_}
+use lib.ListN.{length, drop}
+use lib.Dec.{ltb, leb, eqb}
+use Rattle.squares.specs.Squares.{isSquare}
+use Rattle.squares.specs.declared.square.Numbered.{Numbered}
+use Rattle.squares.specs.declared.square.Numbered.the-variants as numbered
+use Rattle.squares.specs.declared.refusal.Refusal.the-variants.{TextTooLong, BadSquare}
+
+unfoldable pub ascii : List ℕ → Bool
+ascii [] = true
+ascii (b ∷ s) = leb b 127 && ascii s
+
+-- what refusal 1 asks: at most 4,096 bytes, none above 127
+unfoldable pub readable : List ℕ → Bool
+readable s = leb (length s) 4096 && ascii s
+
+-- bytes 9 to 13 and 32
+unfoldable pub blank : ℕ → Bool
+blank b = (leb 9 b && leb b 13) || eqb b 32
+
+unfoldable pub is : ℕ → ℕ → Bool
+is c b = eqb b c
+
+-- s without what p takes at its start
+unfoldable pub trimStart : (ℕ → Bool) → List ℕ → List ℕ
+trimStart p [] = []
+trimStart p (b ∷ s) = cond (p b) (trimStart p s) (b ∷ s)
+
+-- b before what is left of the rest: nothing where the rest is nothing and p takes b
+unfoldable pub keepEnd : (ℕ → Bool) → ℕ → List ℕ → List ℕ
+keepEnd p b [] = cond (p b) [] (b ∷ [])
+keepEnd p b (x ∷ s) = b ∷ x ∷ s
+
+unfoldable pub trimEnd : (ℕ → Bool) → List ℕ → List ℕ
+trimEnd p [] = []
+trimEnd p (b ∷ s) = keepEnd p b (trimEnd p s)
+
+unfoldable pub trim : (ℕ → Bool) → List ℕ → List ℕ
+trim p s = trimEnd p (trimStart p s)
+
+unfoldable pub consHead : ℕ → List (List ℕ) → List (List ℕ)
+consHead b [] = (b ∷ []) ∷ []
+consHead b (f ∷ fs) = (b ∷ f) ∷ fs
+
+-- the parts of s between the bytes that p takes
+unfoldable pub splitOn : (ℕ → Bool) → List ℕ → List (List ℕ)
+splitOn p [] = [] ∷ []
+splitOn p (b ∷ s) = let rest = splitOn p s in cond (p b) ([] ∷ rest) (consHead b rest)
+
+-- the parts with c between them
+unfoldable pub joined : ℕ → List (List ℕ) → List ℕ
+joined c [] = []
+joined c (p ∷ []) = p
+joined c (p ∷ (q ∷ ps)) = p ++ c ∷ joined c (q ∷ ps)
+
+-- what stands before the first c, the whole where there is none
+unfoldable pub upTo : ℕ → List ℕ → List ℕ
+upTo c [] = []
+upTo c (b ∷ s) = cond (eqb b c) [] (b ∷ upTo c s)
+
+-- what stands behind the first c of s, t where there is none
+unfoldable pub behindOr : List ℕ → ℕ → List ℕ → List ℕ
+behindOr t c [] = t
+behindOr t c (b ∷ s) = cond (eqb b c) s (behindOr t c s)
+
+-- the same, the whole where there is none
+unfoldable pub behind : ℕ → List ℕ → List ℕ
+behind c s = behindOr s c s
+
+unfoldable pub startsWith : ℕ → List ℕ → Bool
+startsWith c [] = false
+startsWith c (b ∷ s) = eqb b c
+
+-- s without one c at its start
+unfoldable pub strip : ℕ → List ℕ → List ℕ
+strip c [] = []
+strip c (b ∷ s) = cond (eqb b c) s (b ∷ s)
+
+-- ---- the number of a square
+unfoldable pub inRange : ℕ → Numbered
+inRange v = cond (isSquare v) (numbered.Number v) (numbered.Refused BadSquare)
+
+-- the number v followed by digits
+unfoldable pub digitsFrom : ℕ → List ℕ → Numbered
+digitsFrom v [] = inRange v
+digitsFrom v (b ∷ s) =
+    cond (leb (code "0") b && leb b (code "9")) (digitsFrom (v * 10 + (b - code "0")) s) (numbered.Refused BadSquare)
+
+-- one digit or more, leading zeros allowed
+unfoldable pub number : List ℕ → Numbered
+number [] = numbered.Refused BadSquare
+number (b ∷ s) = digitsFrom 0 (b ∷ s)
+
+-- a square's text: an optional +, then digits, value 1 to 50
+unfoldable pub readSquare : List ℕ → Numbered
+readSquare s = number (strip (code "+") s)
+
+-- the same as an entry: 1, then 4
+unfoldable pub fromStrOf : List ℕ → Numbered
+fromStrOf s = cond (readable s) (readSquare s) (numbered.Refused TextTooLong)
+
+-- a number below 100 in decimal
+unfoldable pub digits : ℕ → List ℕ
+digits n = cond (ltb n 10) ((code "0" + n) ∷ []) ((code "0" + n / 10) ∷ (code "0" + n % 10) ∷ [])
+
+-- ---- what the code's helpers find
+
+-- what trimming takes: blanks, or one byte
+abbrev pub cuts : Bool → ℕ → ℕ → Bool
+cuts true c = blank
+cuts false c = is c
+
+-- where the first byte that p takes stands, the length where there is none
+unfoldable pub indexOf : (ℕ → Bool) → List ℕ → ℕ
+indexOf p [] = 0
+indexOf p (b ∷ s) = cond (p b) 0 (suc (indexOf p s))
+
+-- the parts of s from the place at on; none where that is past the end
+unfoldable pub partsFrom : (ℕ → Bool) → List ℕ → ℕ → List (List ℕ)
+partsFrom p s at = cond (leb at (length s)) (splitOn p (drop at s)) []

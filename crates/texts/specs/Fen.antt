@@ -1,0 +1,144 @@
+-- FEN (document 01, "position.rs"): the text of a board, and the position of a text.
+use Prim.Native.Nat.{ℕ, _+_, _-_}
+use Prim.Native.Char.{code}
+use mathlib.Core.List.{List, [], _∷_, _++_, map}
+use mathlib.Core.Bool.{Bool, true, false, cond, _&&_, _||_}
+use lib.Dec.{leb, eqb}
+use lib.ListN.{length}
+use Rattle.squares.specs.Sets.{members}
+use Rattle.squares.specs.Squares.{run, squareAtBit, containsOf}
+use Rattle.squares.specs.Pieces.{colorChar}
+use Rattle.squares.specs.declared.piece.Color.{Color}
+use Rattle.squares.specs.declared.piece.Color.the-variants.{White, Black}
+use Rattle.squares.specs.declared.piece.Sided.{Sided}
+use Rattle.squares.specs.declared.piece.Sided.the-variants as sided
+use Rattle.squares.specs.declared.square.Numbered.{Numbered}
+use Rattle.squares.specs.declared.square.Numbered.the-variants as numbered
+use Rattle.squares.specs.declared.refusal.Refusal.{Refusal}
+use Rattle.squares.specs.declared.refusal.Refusal.the-variants.{TextTooLong, NoSide, NoColor, BadPosition, FenTooLong}
+use Rattle.positions.specs.Boards.{Board, boardOf}
+use Rattle.positions.specs.Acceptance.{sound}
+use Rattle.positions.specs.declared.position.Position.{Position}
+use Rattle.positions.specs.declared.position.Placed.{Placed}
+use Rattle.positions.specs.declared.position.Placed.the-variants as placed
+use Rattle.texts.specs.Bytes.{readable, blank, is, trimStart, trimEnd, trim, splitOn, joined, upTo, behind, startsWith, strip, readSquare, digits}
+use Rattle.texts.specs.Parts.{withSquares, begun, andThen, placing}
+use Rattle.texts.specs.Lent.{emitOf, emitted}
+use Rattle.texts.specs.declared.parts.Parts.{Parts}
+use Rattle.texts.specs.declared.parts.Reading.{Reading}
+use Rattle.texts.specs.declared.parts.Reading.the-variants as reading
+use Rattle.texts.specs.declared.bytes.Wrote.{Wrote}
+use Rattle.texts.specs.declared.bytes.Wrote.the-variants as wrote
+
+-- ---- writing
+
+-- a square's number, K before a king
+unfoldable pub itemText : ℕ → ℕ → List ℕ
+itemText kings n = cond (containsOf kings n) (code "K" ∷ digits n) (digits n)
+
+-- the squares of s, rising
+unfoldable pub listText : ℕ → ℕ → List ℕ
+listText kings s = joined (code ",") (map (itemText kings) (map squareAtBit (members s)))
+
+-- the side, White's list, Black's list, empty ones too
+unfoldable pub fenText : Board → List ℕ
+fenText b =
+    joined (code ":")
+    ((colorChar (b .side) ∷ [])
+    ∷ (code "W" ∷ listText (b .kings) (b .white))
+    ∷ (code "B" ∷ listText (b .kings) (b .black))
+    ∷ [])
+
+-- a comma before each item but the first
+unfoldable pub separator : Bool → List ℕ
+separator first = cond first [] (code "," ∷ [])
+
+unfoldable pub fieldText : ℕ → ℕ → ℕ → List ℕ
+fieldText letter kings s = code ":" ∷ letter ∷ listText kings s
+
+-- the answer: 12, then 18 above 200 bytes, then 19
+unfoldable pub fenOf : Position → List ℕ → Wrote
+fenOf p out =
+    let t = fenText (boardOf p) in
+    cond (sound p)
+    (cond (leb (length t) 200) (emitOf t out) (wrote.Refused FenTooLong))
+    (wrote.Refused BadPosition)
+
+-- the lent bytes afterwards
+unfoldable pub fenLent : Position → List ℕ → List ℕ
+fenLent p out =
+    let t = fenText (boardOf p) in
+    cond (sound p && leb (length t) 200) (emitted t out) out
+
+-- ---- reading
+
+-- what separates items, and fields
+abbrev pub atComma : ℕ → Bool
+atComma = is (code ",")
+
+abbrev pub atColon : ℕ → Bool
+atColon = is (code ":")
+
+-- W, w, B or b
+unfoldable pub fenColorOf : ℕ → Sided
+fenColorOf c =
+    cond (eqb c (code "W") || eqb c (code "w")) (sided.Side White)
+    (cond (eqb c (code "B") || eqb c (code "b")) (sided.Side Black) (sided.Refused NoSide))
+
+-- goes on with the colour, or is refused e
+abbrev pub onColor : Refusal → Sided → (Color → Reading) → Reading
+onColor e (sided.Side c) k = k c
+onColor e (sided.Refused f) k = reading.Refused e
+
+-- an end of a range, or the whole of an item without one: trimmed, without leading Ks
+unfoldable pub endOf : List ℕ → Numbered
+endOf s = readSquare (trimStart (is (code "K")) (trim blank s))
+
+-- the squares lo to hi, none where lo is above hi
+abbrev pub endsOf : Color → Bool → Parts → Numbered → Numbered → Reading
+endsOf c king p (numbered.Number lo) (numbered.Number hi) = reading.Parts (withSquares c king (run lo (hi + 1 - lo)) p)
+endsOf c king p (numbered.Number lo) (numbered.Refused e) = reading.Refused e
+endsOf c king p (numbered.Refused e) q = reading.Refused e
+
+-- an item without its first K: a range cut at the first -, or one square
+unfoldable pub rangeOf : Color → Bool → Parts → List ℕ → Reading
+rangeOf c king p s = endsOf c king p (endOf (upTo (code "-") s)) (endOf (behind (code "-") s))
+
+-- a trimmed item, skipped where it is empty; one leading K makes it a king
+unfoldable pub itemOf : Color → Parts → List ℕ → Reading
+itemOf c p [] = reading.Parts p
+itemOf c p (x ∷ s) = rangeOf c (startsWith (code "K") (x ∷ s)) p (strip (code "K") (x ∷ s))
+
+unfoldable pub itemsOf : Color → Parts → List (List ℕ) → Reading
+itemsOf c p [] = reading.Parts p
+itemsOf c p (f ∷ fs) = andThen (itemOf c p (trim blank f)) (λ q. itemsOf c q fs)
+
+-- a trimmed field: its colour, then items split at commas
+unfoldable pub fieldOf : Parts → List ℕ → Reading
+fieldOf p [] = reading.Refused NoColor
+fieldOf p (x ∷ s) = onColor NoColor (fenColorOf x) (λ c. itemsOf c p (splitOn atComma s))
+
+unfoldable pub fieldsOf : Parts → List (List ℕ) → Reading
+fieldsOf p [] = reading.Parts p
+fieldsOf p (f ∷ fs) = andThen (fieldOf p (trim blank f)) (λ q. fieldsOf q fs)
+
+-- a trimmed first field: the side alone
+unfoldable pub sideOf : List ℕ → Sided
+sideOf [] = sided.Refused NoSide
+sideOf (x ∷ []) = fenColorOf x
+sideOf (x ∷ (y ∷ s)) = sided.Refused NoSide
+
+unfoldable pub fenFields : List (List ℕ) → Reading
+fenFields [] = reading.Refused NoSide
+fenFields (f ∷ fs) = onColor NoSide (sideOf (trim blank f)) (λ c. fieldsOf (begun c) fs)
+
+-- blanks are trimmed at both ends, then every quote at both ends, then every dot at the end
+unfoldable pub body : List ℕ → List ℕ
+body s = trimEnd (is (code ".")) (trim (is (code "\"")) (trim blank s))
+
+unfoldable pub fenParts : List ℕ → Reading
+fenParts s = fenFields (splitOn atColon (body s))
+
+-- 1, then 2 to 4 in reading order, 7, 8
+unfoldable pub fromFenOf : List ℕ → Placed
+fromFenOf s = cond (readable s) (placing (fenParts s)) (placed.Refused TextTooLong)

@@ -1,0 +1,84 @@
+-- Hub (document 01, "position.rs"): W or B, then 50 of w b W B e (capital = king, e = empty).
+use Prim.Native.Nat.{ℕ, zero, suc, _+_}
+use Prim.Native.Char.{code}
+use mathlib.Core.List.{List, [], _∷_, map}
+use mathlib.Core.Bool.{Bool, true, false, cond}
+use lib.Dec.{eqb}
+use Rattle.squares.specs.Squares.{single}
+use Rattle.squares.specs.Pieces.{colorChar, colorFromCharOf, pieceChar, pieceFromCharOf}
+use Rattle.squares.specs.declared.piece.PieceKind.{PieceKind}
+use Rattle.squares.specs.declared.piece.PieceKind.the-variants.{Man, King}
+use Rattle.squares.specs.declared.piece.Known.{Known}
+use Rattle.squares.specs.declared.piece.Known.the-variants as known
+use Rattle.squares.specs.declared.refusal.Refusal.the-variants.{TextTooLong, NoSide, NotFifty, BadPosition}
+use Rattle.positions.specs.Boards.{Board, boardOf, pieceAtOf}
+use Rattle.positions.specs.Acceptance.{sound}
+use Rattle.positions.specs.declared.position.Position.{Position}
+use Rattle.positions.specs.declared.position.Standing.{Standing}
+use Rattle.positions.specs.declared.position.Standing.the-variants as standing
+use Rattle.positions.specs.declared.position.Placed.{Placed}
+use Rattle.positions.specs.declared.position.Placed.the-variants as placed
+use Rattle.texts.specs.Bytes.{readable}
+use Rattle.texts.specs.Parts.{withSquares, begun, andThen, placing}
+use Rattle.texts.specs.Lent.{emitOf, emitted}
+use Rattle.texts.specs.Fen.{onColor}
+use Rattle.texts.specs.declared.parts.Parts.{Parts}
+use Rattle.texts.specs.declared.parts.Reading.{Reading}
+use Rattle.texts.specs.declared.parts.Reading.the-variants as reading
+use Rattle.texts.specs.declared.bytes.Wrote.{Wrote}
+use Rattle.texts.specs.declared.bytes.Wrote.the-variants as wrote
+
+-- ---- writing
+
+-- the squares n, n + 1, .., k of them
+unfoldable pub squaresFrom : ℕ → ℕ → List ℕ
+squaresFrom zero n = []
+squaresFrom (suc k) n = n ∷ squaresFrom k (n + 1)
+
+abbrev pub standingChar : Standing → ℕ
+standingChar (standing.Piece p) = pieceChar p
+standingChar standing.Nothing = code "e"
+standingChar (standing.Refused e) = code "e"
+
+unfoldable pub hubChar : Board → ℕ → ℕ
+hubChar b n = standingChar (pieceAtOf b n)
+
+unfoldable pub hubText : Board → List ℕ
+hubText b = colorChar (b .side) ∷ map (hubChar b) (squaresFrom 50 1)
+
+-- the answer: 12, then 19
+unfoldable pub hubOf : Position → List ℕ → Wrote
+hubOf p out = cond (sound p) (emitOf (hubText (boardOf p)) out) (wrote.Refused BadPosition)
+
+-- the lent bytes afterwards
+unfoldable pub hubLent : Position → List ℕ → List ℕ
+hubLent p out = cond (sound p) (emitted (hubText (boardOf p)) out) out
+
+-- ---- reading
+abbrev pub isKing : PieceKind → Bool
+isKing Man = false
+isKing King = true
+
+-- the piece on square n; 5 where the byte is none
+abbrev pub knownOn : ℕ → Parts → Known → Reading
+knownOn n p (known.Piece q) = reading.Parts (withSquares (q .color) (isKing (q .kind)) (single n) p)
+knownOn n p (known.Refused e) = reading.Refused e
+
+-- the byte x for square n
+unfoldable pub hubByteOf : ℕ → ℕ → Parts → Reading
+hubByteOf n x p = cond (eqb x (code "e")) (reading.Parts p) (knownOn n p (pieceFromCharOf x))
+
+-- k squares from n on, and nothing after them
+unfoldable pub hubFrom : ℕ → ℕ → Parts → List ℕ → Reading
+hubFrom zero n p [] = reading.Parts p
+hubFrom zero n p (x ∷ s) = reading.Refused NotFifty
+hubFrom (suc k) n p [] = reading.Refused NotFifty
+hubFrom (suc k) n p (x ∷ s) = andThen (hubByteOf n x p) (λ q. hubFrom k (n + 1) q s)
+
+unfoldable pub hubParts : List ℕ → Reading
+hubParts [] = reading.Refused NoSide
+hubParts (x ∷ s) = onColor NoSide (colorFromCharOf x) (λ c. hubFrom 50 1 (begun c) s)
+
+-- 1, 2, 5 (among the first 50 squares), 6, 7, 8
+unfoldable pub fromHubOf : List ℕ → Placed
+fromHubOf s = cond (readable s) (placing (hubParts s)) (placed.Refused TextTooLong)
