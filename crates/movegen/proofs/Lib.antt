@@ -2,3 +2,4 @@ pub mod Generated
 pub mod Listed
 pub mod Counted
 pub mod Divided
+pub mod Widths

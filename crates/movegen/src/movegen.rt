@@ -51,7 +51,12 @@ impl View {
 }
 
 // All longest captures: men by bit, then kings by bit.
-fn capture_moves(men: Bitboard, kings: Bitboard, them: Bitboard, empty: Bitboard) -> Listing
+pub(crate) fn capture_moves(
+    men: Bitboard,
+    kings: Bitboard,
+    them: Bitboard,
+    empty: Bitboard,
+) -> Listing
     ensures { λ r. ⌜ r ≡ captureMovesOf men kings them empty ⌝ }
 {
     let start = Captures::new(them, empty);

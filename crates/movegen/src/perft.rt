@@ -1,9 +1,11 @@
 // Depth counts, after perft.rs. They carry no hash.
 use crate::movegen;
 use crate::movegen::View;
+use crate::moves::MAX_MOVES;
 use crate::moves::MoveList;
 use positions::moves::Move;
 use positions::position::Position;
+use quiets::quiets::Listing;
 use squares::bitboard;
 use squares::bitboard::Bitboard;
 use squares::piece::Color;
@@ -18,7 +20,7 @@ ghost use Rattle.squares.specs.Squares.{single};
 ghost use Rattle.positions.specs.Acceptance.{Accepted};
 ghost use Rattle.positions.specs.Successor.{kingsPlayed};
 ghost use Rattle.movegen.specs.Generate.{seen, nextOf};
-ghost use Rattle.movegen.specs.Counts.{depthCount, perftOf, undivided, dividedOf, divideOf};
+ghost use Rattle.movegen.specs.Counts.{fewOf, listedCount, widthOf, depthCount, perftOf, undivided, dividedOf, divideOf};
 
 // The largest depth.
 pub const MAX_DEPTH: u32 = 7;
@@ -70,6 +72,42 @@ fn next(v: View, mv: Move) -> View
     }
 }
 
+// A number of moves, where a list holds as many.
+fn few(n: usize) -> Counted
+    ensures { λ r. ⌜ r ≡ fewOf n ⌝ }
+{
+    if MAX_MOVES < n {
+        return Counted::Refused(Refusal::TooManyMoves);
+    }
+    Counted::Count(n as u64)
+}
+
+// The number of moves of a list.
+fn listed(l: Listing) -> Counted
+    ensures { λ r. ⌜ r ≡ listedCount l ⌝ }
+{
+    if l.overflow {
+        return Counted::Refused(Refusal::TooManyMoves);
+    }
+    let list = l.list;
+    Counted::Count(list.len as u64)
+}
+
+// The number of moves of the side. Where no jump is open they are counted without a list.
+fn width(v: View) -> Counted
+    ensures { λ r. ⌜ r ≡ widthOf v ⌝ }
+{
+    let empty = bitboard::not(v.us | v.them);
+    let men = bitboard::difference(v.us, v.kings);
+    let kings = v.us & v.kings;
+    let side = v.side;
+    if quiets::quiets::has_capture(men, kings, v.them, empty) {
+        listed(movegen::capture_moves(men, kings, v.them, empty))
+    } else {
+        few(quiets::quiets::quiet_count(men, kings, empty, side) as usize)
+    }
+}
+
 // How many ways there are to play that many plies.
 fn count(v: View, depth: u32) -> Counted
     requires { ⌜ Accepted (seen v) × (depth ≤ 7) ⌝ }
@@ -77,6 +115,9 @@ fn count(v: View, depth: u32) -> Counted
 {
     if depth == 0 {
         return Counted::Count(1);
+    }
+    if depth == 1 {
+        return width(v);
     }
     let l = movegen::generate(v);
     if l.overflow {
