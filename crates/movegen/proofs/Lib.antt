@@ -3,3 +3,4 @@ pub mod Listed
 pub mod Counted
 pub mod Divided
 pub mod Widths
+pub mod Rows

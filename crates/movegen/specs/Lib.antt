@@ -1,3 +1,4 @@
 pub mod Generate
 pub mod Lists
 pub mod Counts
+pub mod Computed
