@@ -48,23 +48,22 @@ pub within-law : (xs : List Move) (limit : ℕ) → limit ≤ 256 → withinOf (
 unfolding withinOf listedOf
 within-law xs limit h = go (ltb 256 (length xs)) refl
   where
-    done : Listed
-    done = record { answer = answer.Done; list = listOf xs }
+    told : Bool → Listed
+    told t = cond t (refusedList TooManyMoves) (record { answer = answer.Done; list = listOf xs })
 
-    short : (t : Bool) → ltb limit (length xs) ≡ t → cond (ltb limit (length xs)) (refusedList TooManyMoves) done ≡ cond (leb (length xs) limit) done (refusedList TooManyMoves)
-    short true e = ap (λ (s : Bool). cond s (refusedList TooManyMoves) done) e ∙ sym (ap (λ (t : Bool). cond t done (refusedList TooManyMoves)) (lt-leb (length xs) limit (ltb-true limit (length xs) e)))
-    short false e = ap (λ (s : Bool). cond s (refusedList TooManyMoves) done) e ∙ sym (ap (λ (t : Bool). cond t done (refusedList TooManyMoves)) (le-leb (length xs) limit (ltb-false limit (length xs) e)))
+    done : Bool → Listed
+    done t = cond t (record { answer = answer.Done; list = listOf xs }) (refusedList TooManyMoves)
 
-    go : (t : Bool) → ltb 256 (length xs) ≡ t
-        → cond (ltb 256 (length xs)) (refusedList TooManyMoves) (cond (ltb limit (listOf xs .len)) (refusedList TooManyMoves) done)
-        ≡ cond (leb (length xs) limit) done (refusedList TooManyMoves)
+    short : (t : Bool) → ltb limit (length xs) ≡ t → told (ltb limit (length xs)) ≡ done (leb (length xs) limit)
+    short true e = ap told e ∙ sym (ap done (lt-leb (length xs) limit (ltb-true limit (length xs) e)))
+    short false e = ap told e ∙ sym (ap done (le-leb (length xs) limit (ltb-false limit (length xs) e)))
+
+    go : (t : Bool) → ltb 256 (length xs) ≡ t → told (ltb 256 (length xs) || ltb limit (listOf xs .len)) ≡ done (leb (length xs) limit)
     go true e =
         let k = ltb-true 256 (length xs) e in
-        ap (λ (t : Bool). cond t (refusedList TooManyMoves) (cond (ltb limit (listOf xs .len)) (refusedList TooManyMoves) done)) e
-        ∙ sym (ap (λ (t : Bool). cond t done (refusedList TooManyMoves)) (lt-leb (length xs) limit (omega arith)))
+        ap (λ (t : Bool). told (t || ltb limit (listOf xs .len))) e ∙ sym (ap done (lt-leb (length xs) limit (omega arith)))
     go false e =
-        ap₂ (λ (t : Bool) (n : ℕ). cond t (refusedList TooManyMoves) (cond (ltb limit n) (refusedList TooManyMoves) done)) e (few-len xs (ltb-false 256 (length xs) e))
-        ∙ short (ltb limit (length xs)) refl
+        ap₂ (λ (t : Bool) (n : ℕ). told (t || ltb limit n)) e (few-len xs (ltb-false 256 (length xs) e)) ∙ short (ltb limit (length xs)) refl
 
 -- ---- the search
 listed-is : (xs : List Move) (m : Move) → codes.listed xs m ≡ listed xs m

@@ -1,7 +1,7 @@
 -- The answers of the list call, of the two tests and of the successor, refused ones too, in the paper's order
 -- (document 01, "Turned back because of the input", "of the state"): lists 12, 10, 17; tests 12; a move record 12, 11, 17, 15.
 use Prim.Native.Nat.{ℕ}
-use mathlib.Core.Bool.{Bool, cond}
+use mathlib.Core.Bool.{cond, _||_}
 use mathlib.Core.List.{List}
 use lib.Dec.{leb, ltb}
 use lib.ListN.{length}
@@ -42,8 +42,7 @@ legalMovesOf p limit =
 -- what the code looks at: the mark, and the length
 unfoldable pub withinOf : Listing → ℕ → Listed
 withinOf l limit =
-    cond (l .overflow) (refusedList TooManyMoves)
-    (cond (ltb limit (l .list .len)) (refusedList TooManyMoves) (record { answer = answer.Done; list = l .list }))
+    cond (l .overflow || ltb limit (l .list .len)) (refusedList TooManyMoves) (record { answer = answer.Done; list = l .list })
 
 unfoldable pub hasCapturesOf : Position → Tested
 hasCapturesOf p = cond (sound p) (tested.Is (some (captures (boardOf p)))) (tested.Refused BadPosition)

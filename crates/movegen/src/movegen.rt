@@ -99,10 +99,7 @@ fn within(l: Listing, limit: usize) -> Listed
     ensures { λ r. ⌜ r ≡ withinOf l limit ⌝ }
 {
     let list = l.list;
-    if l.overflow {
-        return refused(Refusal::TooManyMoves);
-    }
-    if limit < list.len {
+    if l.overflow | (limit < list.len) {
         return refused(Refusal::TooManyMoves);
     }
     Listed {
