@@ -13,7 +13,7 @@ use Rattle.captures.specs.declared.movegen.Captures.{Captures}
 use Rattle.captures.specs.Kings.{kingsCapturesOf}
 use Rattle.captures.specs.Lists.{listOf}
 use Rattle.captures.specs.Men.{menCapturesOf}
-use Rattle.captures.specs.Record.{startOf}
+use Rattle.captures.specs.Record.{listIn, startOf}
 use Rattle.captures.specs.Limit.{Found, found, noteIn}
 use Rattle.rules.specs.Lists.{keep, distinct, best, longest}
 use Rattle.rules.specs.Ordered.{count, captures, sameBits, legal}
@@ -27,7 +27,7 @@ use Rattle.capture_laws.proofs.Stored.{cut-listed}
 
 -- the list of a search is these moves, then blanks, and its mark says whether there are more than 256
 abbrev pub Filled : Captures → List Move → Type 0
-Filled s ms = (s .list ≡ listOf ms) × (s .overflow ≡ ltb 256 (length ms))
+Filled s ms = (listIn s ≡ listOf ms) × (s .overflow ≡ ltb 256 (length ms))
 
 module _ (b : Board) (fair : Fair b) where
   holds : Holds (searchOf b) (foldl (noteIn 256) (found 0 [] false) (map numbered (allTried b)))
@@ -39,7 +39,7 @@ module _ (b : Board) (fair : Fair b) where
 
   -- the longest captures, each once, in the order of the rules
   pub captures-filled : let s = kingsCapturesOf (menCapturesOf (startOf (enemy b) (empty b)) (pieces b Man) (empty b)) (pieces b King) (empty b) in
-      (s .list ≡ listOf (map numbered (longest sameBits count (captures b))))
+      (listIn s ≡ listOf (map numbered (longest sameBits count (captures b))))
       × (s .overflow ≡ ltb 256 (length (longest sameBits count (captures b))))
   captures-filled = (
     holds .list ∙ ap (λ (x : Found). listOf (x .moves)) ends-with ∙ cut-listed (map numbered (longest sameBits count (captures b))),

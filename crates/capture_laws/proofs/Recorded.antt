@@ -14,7 +14,7 @@ use Rattle.positions.specs.Moves.{move, same}
 use Rattle.captures.specs.declared.moves.MoveList.{MoveList}
 use Rattle.captures.specs.declared.movegen.Captures.{Captures}
 use Rattle.captures.specs.Lists.{entries, listed, pushOf, listOf}
-use Rattle.captures.specs.Record.{Ending, moveOf, anewOf, moreOf, recordOf, noteOf, Kept}
+use Rattle.captures.specs.Record.{listIn, Ending, moveOf, anewOf, moreOf, recordOf, noteOf, Kept}
 use Rattle.captures.specs.Limit.{Found, found, addIn, noteIn, seen}
 use Rattle.captures.proofs.Recorded.{kept-refl, kept-trans, record-kept}
 use Rattle.rules.specs.Lists.{contains}
@@ -26,7 +26,7 @@ use Rattle.capture_laws.proofs.Stored.{none-listed, few-len, few-entrie
 
 -- the search has found what x says: its list is those moves and then blanks
 pub record Holds (s : Captures) (x : Found) : Type 0 where
-  pub list : s .list ≡ listOf (x .moves)
+  pub list : listIn s ≡ listOf (x .moves)
   pub few : length (x .moves) ≤ 256
   pub best : s .best ≡ x .most
   pub overflow : s .overflow ≡ x .overflow

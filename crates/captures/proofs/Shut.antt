@@ -36,7 +36,7 @@ module _ (them empty at : ℕ) where
 
 -- the search set onto a piece
 abbrev pub set-onto : ℕ → Captures → ℕ → Captures
-set-onto empty s at = record { list = s .list; them = s .them; empty = bitOr empty at; from = at; best = s .best; overflow = s .overflow }
+set-onto empty s at = record { moves = s .moves; len = s .len; them = s .them; empty = bitOr empty at; from = at; best = s .best; overflow = s .overflow }
 
 pub man-shut : (empty : ℕ) (s : Captures) (at i : ℕ) → at ≡ 2 ^ i → anyUpTo (manJump at (s .them) (bitOr empty at)) 4 ≡ false → set-onto empty s at ≡ manCaptures empty s i
 unfolding manCaptures manEndings

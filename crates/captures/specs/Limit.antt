@@ -10,7 +10,7 @@ use Rattle.positions.specs.declared.moves.Move.{Move}
 use Rattle.positions.specs.Moves.{move}
 use Rattle.captures.specs.declared.movegen.Captures.{Captures}
 use Rattle.captures.specs.Lists.{entries, listed}
-use Rattle.captures.specs.Record.{Ending}
+use Rattle.captures.specs.Record.{Ending, listIn}
 
 -- the largest number, the moves that take as many, each once, and whether there were more of them than the list holds
 pub record Found : Type 0 where
@@ -49,7 +49,7 @@ view limit s = found (s .most) (take limit (s .moves)) (ltb limit (length (s .mo
 
 -- what the code's search has found
 abbrev pub seen : Captures → Found
-seen s = found (s .best) (entries (s .list)) (s .overflow)
+seen s = found (s .best) (entries (listIn s)) (s .overflow)
 
 -- the move of a sequence that began on the set `from`
 abbrev pub endingMove : ℕ → Ending → Move

@@ -38,7 +38,7 @@ pub record Man (s : Captures) (at c : ℕ) (r : Captures) : Type 0 where
 
 -- the search set onto the piece at bit i, whose square counts as empty
 abbrev pub onto : ℕ → Captures → ℕ → Captures
-onto empty s i = record { list = s .list; them = s .them; empty = bitOr empty (2 ^ i); from = 2 ^ i; best = s .best; overflow = s .overflow }
+onto empty s i = record { moves = s .moves; len = s .len; them = s .them; empty = bitOr empty (2 ^ i); from = 2 ^ i; best = s .best; overflow = s .overflow }
 
 -- the captures of the man at bit i; there are at most 64 enemies
 unfoldable pub manCaptures : ℕ → Captures → ℕ → Captures

@@ -1,12 +1,13 @@
 -- A finished sequence is kept by the rule of the largest number, and once (document 01, "movegen.rs").
 use mathlib.Core.Path.{_≡_}
 use Prim.Native.Nat.{ℕ}
-use mathlib.Core.Bool.{false, cond, _||_}
+use mathlib.Core.Bool.{Bool, false, cond, _||_}
 use lib.Dec.{eqb, ltb, leb}
 use Rattle.squares.specs.Sets.{size}
 use Rattle.squares.specs.Squares.{firstOf}
 use Rattle.positions.specs.declared.moves.Move.{Move}
 use Rattle.positions.specs.Moves.{move}
+use Rattle.captures.specs.declared.moves.MoveList.{MoveList}
 use Rattle.captures.specs.declared.movegen.Captures.{Captures}
 use Rattle.captures.specs.Lists.{noMoves, entries, listed, pushOf}
 
@@ -18,34 +19,35 @@ pub record Ending : Type 0 where
 abbrev pub ending : ℕ → ℕ → Ending
 ending at c = record { to = at; taken = c }
 
+-- the list that a search holds
+abbrev pub listIn : Captures → MoveList
+listIn s = record { moves = s .moves; len = s .len }
+
 -- nothing found yet
 abbrev pub startOf : ℕ → ℕ → Captures
-startOf them empty = record { list = noMoves; them = them; empty = empty; from = 0; best = 0; overflow = false }
+startOf them empty = record { moves = noMoves .moves; len = 0; them = them; empty = empty; from = 0; best = 0; overflow = false }
 
 -- the move of a search that ends on `to`, having taken c
 abbrev pub moveOf : Captures → ℕ → ℕ → Move
 moveOf s to c = move (firstOf (s .from)) (firstOf to) c
 
+-- the search with another list
+abbrev pub holding : Captures → MoveList → ℕ → Bool → Captures
+holding s l best overflow = record { moves = l .moves; len = l .len; them = s .them; empty = s .empty; from = s .from; best = best; overflow = overflow }
+
 -- a longer capture clears what was found, and the mark
 abbrev pub anewOf : Captures → ℕ → ℕ → Captures
-anewOf s to c = record { list = pushOf noMoves (moveOf s to c); them = s .them; empty = s .empty; from = s .from; best = size c; overflow = false }
+anewOf s to c = holding s (pushOf noMoves (moveOf s to c)) (size c) false
 
 -- one more of the largest number; a full list is marked
 abbrev pub moreOf : Captures → ℕ → ℕ → Captures
-moreOf s to c = record {
-  list = pushOf (s .list) (moveOf s to c);
-  them = s .them;
-  empty = s .empty;
-  from = s .from;
-  best = s .best;
-  overflow = s .overflow || leb 256 (s .list .len);
-}
+moreOf s to c = holding s (pushOf (listIn s) (moveOf s to c)) (s .best) (s .overflow || leb 256 (s .len))
 
 unfoldable pub recordOf : Captures → ℕ → ℕ → Captures
 recordOf s to c =
     cond (eqb (size c) 0 || ltb (size c) (s .best)) s
     (cond (ltb (s .best) (size c)) (anewOf s to c)
-    (cond (listed (entries (s .list)) (moveOf s to c)) s (moreOf s to c)))
+    (cond (listed (entries (listIn s)) (moveOf s to c)) s (moreOf s to c)))
 
 abbrev pub noteOf : Captures → Ending → Captures
 noteOf s e = recordOf s (e .to) (e .taken)

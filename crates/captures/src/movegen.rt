@@ -12,7 +12,7 @@ ghost use mathlib.Core.Bool.{true};
 ghost use Prim.Native.Nat.{_<_, _≤_};
 ghost use Rattle.squares.specs.Directions.{directionAt};
 ghost use Rattle.captures.specs.Rays.{slideOf};
-ghost use Rattle.captures.specs.Record.{startOf, recordOf};
+ghost use Rattle.captures.specs.Record.{listIn, startOf, recordOf};
 ghost use Rattle.captures.specs.Walks.{anyUpTo};
 ghost use Rattle.captures.specs.Open.{manJump, kingJump};
 ghost use Rattle.captures.specs.Men.{Man, menCapturesOf};
@@ -87,8 +87,10 @@ fn skips(first: bool, came: usize, d: usize) -> bool
 
 // Depth-first enumeration of capture sequences for one moving piece.
 pub struct Captures {
-    // The longest captures so far.
-    pub list: MoveList,
+    // The longest captures so far: moves, then blanks. They stand here and not in a MoveList inside, whose 4,104 bytes
+    // are slow to copy.
+    pub moves: [Move; 256],
+    pub len: usize,
     // Enemy pieces, including those already taken in this sequence.
     pub them: Bitboard,
     // Empty squares, including the moving piece's first square.
@@ -107,8 +109,10 @@ impl Captures {
         ensures { λ r. ⌜ r ≡ startOf them empty ⌝ }
     {
         let list = MoveList::new();
+        let moves = list.moves;
         Captures {
-            list: list,
+            moves: moves,
+            len: 0,
             them: them,
             empty: empty,
             from: 0,
@@ -218,19 +222,38 @@ impl Captures {
             to: bitboard::first(to),
         };
         let mut s = self;
-        let list = s.list;
         if best < count {
-            s.list = list.clear().push(mv);
+            let list = MoveList::new().push(mv);
+            let moves = list.moves;
+            s.moves = moves;
+            s.len = list.len;
             s.best = count;
             s.overflow = false;
             return s;
         }
+        let list = s.list();
         if list.contains(mv) {
             return s;
         }
-        s.list = list.push(mv);
-        s.overflow = s.overflow | (MAX_MOVES <= list.len);
+        let len = s.len;
+        if len < MAX_MOVES {
+            s.moves[len] = mv;
+            s.len = len + 1;
+            return s;
+        }
+        s.overflow = true;
         s
+    }
+
+    // The list of the longest captures.
+    pub fn list(self) -> MoveList
+        ensures { λ r. ⌜ r ≡ listIn self ⌝ }
+    {
+        let moves = self.moves;
+        MoveList {
+            moves: moves,
+            len: self.len,
+        }
     }
 }
 

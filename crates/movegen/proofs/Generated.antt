@@ -46,36 +46,30 @@ seen-view b = go (b .side) (b .white) (b .black) (b .kings)
     go Black w l kings = refl
 
 -- ---- the list
-pub occupied-is : (b : Board) → bitOr (own b) (enemy b) ≡ bitOr (b .white) (b .black)
-occupied-is b = both (b .side)
+-- the sets that the code makes are those of the board
+sets-are : (b : Board) → generateOf (viewOf b) ≡ movesBySets (pieces b Man) (pieces b King) (enemy b) (empty b) (b .side)
+unfolding generateOf pieces ofKind empty
+sets-are b = ap (λ (s : ℕ). movesBySets (without (own b) (b .kings)) (bitAnd (own b) (b .kings)) (enemy b) (without all s) (b .side)) (both (b .side))
   where
     both : (s : Color) → bitOr (colored s b) (colored (other s) b) ≡ bitOr (b .white) (b .black)
     both White = refl
     both Black = or-comm (b .black) (b .white)
 
--- the sets that the code makes are those of the board
-sets-are : (b : Board) → generateOf (viewOf b) ≡ movesBySets (pieces b Man) (pieces b King) (enemy b) (empty b) (b .side)
-unfolding generateOf pieces ofKind empty
-sets-are b = ap (λ (s : ℕ). movesBySets (without (own b) (b .kings)) (bitAnd (own b) (b .kings)) (enemy b) (without all s) (b .side)) (occupied-is b)
-
--- where a jump is open the search ends with the legal moves
-pub captures-listed : (b : Board) → Fair b → hasCaptureOf (pieces b Man) (pieces b King) (enemy b) (empty b) ≡ true
-    → captureMovesOf (pieces b Man) (pieces b King) (enemy b) (empty b) ≡ filled (legal b)
-unfolding captureMovesOf
-captures-listed b fair e = let f = captures-open b fair (capture-open b fair .0 e) in ap₂ listing (f .0) (f .1)
-
 -- the legal moves, as many as there is room for, then blanks; and whether there are more
 pub generated : (b : Board) → Fair b → generateOf (viewOf b) ≡ filled (legal b)
-unfolding movesBySets
+unfolding movesBySets captureMovesOf
 generated b fair = sets-are b ∙ go (hasCaptureOf (pieces b Man) (pieces b King) (enemy b) (empty b)) refl
   where
-    chosen : Bool → Listing
-    chosen t = cond t (captureMovesOf (pieces b Man) (pieces b King) (enemy b) (empty b)) (quietMovesOf (pieces b Man) (pieces b King) (empty b) (b .side))
-
     go : (t : Bool) → hasCaptureOf (pieces b Man) (pieces b King) (enemy b) (empty b) ≡ t
-        → chosen (hasCaptureOf (pieces b Man) (pieces b King) (enemy b) (empty b)) ≡ filled (legal b)
-    go true e = ap chosen e ∙ captures-listed b fair e
-    go false e = ap chosen e ∙ legal-filled b fair e
+        → cond (hasCaptureOf (pieces b Man) (pieces b King) (enemy b) (empty b)) (captureMovesOf (pieces b Man) (pieces b King) (enemy b) (empty b)) (quietMovesOf (pieces b Man) (pieces b King) (empty b) (b .side))
+        ≡ filled (legal b)
+    go true e =
+        let f = captures-open b fair (capture-open b fair .0 e) in
+        ap (λ (t : Bool). cond t (captureMovesOf (pieces b Man) (pieces b King) (enemy b) (empty b)) (quietMovesOf (pieces b Man) (pieces b King) (empty b) (b .side))) e
+        ∙ ap₂ listing (f .0) (f .1)
+    go false e =
+        ap (λ (t : Bool). cond t (captureMovesOf (pieces b Man) (pieces b King) (enemy b) (empty b)) (quietMovesOf (pieces b Man) (pieces b King) (empty b) (b .side))) e
+        ∙ legal-filled b fair e
 
 -- which of the two lists the formula takes
 module _ (men kings them empty : ℕ) (side : Color) where

@@ -2,5 +2,5 @@ pub mod Generated
 pub mod Listed
 pub mod Counted
 pub mod Divided
-pub mod Widths
+pub mod LastPly
 pub mod Rows

@@ -5,10 +5,6 @@ use mathlib.Core.Bool.{true, false, cond}
 use mathlib.Core.List.{List, [], _∷_, _++_, map}
 use lib.Dec.{leb, ltb}
 use lib.ListN.{length, take, replicate}
-use lib.Bits.{bitAnd, bitOr}
-use Rattle.squares.specs.Sets.{without}
-use Rattle.squares.specs.Squares.{all}
-use Rattle.squares.specs.declared.piece.Color.{Color}
 use Rattle.squares.specs.declared.refusal.Refusal.{Refusal}
 use Rattle.squares.specs.declared.refusal.Refusal.the-variants.{BeyondLimit, BadPosition, TooManyMoves}
 use Rattle.squares.specs.declared.refusal.Answer.the-variants as answer
@@ -19,11 +15,6 @@ use Rattle.positions.specs.declared.moves.Move.{Move}
 use Rattle.positions.specs.declared.position.Position.{Position}
 use Rattle.captures.specs.Lists.{noMoves, listOf}
 use Rattle.rules.specs.Ordered.{legal}
-use Rattle.quiets.specs.Quiets.{allQuiets}
-use Rattle.quiets.specs.Tests.{hasCaptureOf}
-use Rattle.quiets.specs.declared.quiets.Listing.{Listing}
-use Rattle.movegen.specs.Generate.{captureMovesOf}
-use Rattle.movegen.specs.declared.movegen.View.{View}
 use Rattle.movegen.specs.declared.perft.Counted.{Counted}
 use Rattle.movegen.specs.declared.perft.Counted.the-variants.{Count, Refused}
 use Rattle.movegen.specs.declared.perft.Divided.{Divided}
@@ -74,20 +65,3 @@ dividedOf n b = dividedBy (depthCount (suc n) b) (record { answer = answer.Done;
 -- depth 0 is read as 1
 unfoldable pub divideOf : Position → ℕ → Divided
 divideOf p depth = cond (sound p) (cond (leb depth 7) (dividedOf (depth - 1) (boardOf p)) (undivided BeyondLimit)) (undivided BadPosition)
-
--- ---- the number of moves by formula on sets, on every input
-
--- a number of moves, where a list holds as many
-unfoldable pub fewOf : ℕ → Counted
-fewOf n = cond (ltb 256 n) (Refused TooManyMoves) (Count n)
-
-unfoldable pub listedCount : Listing → Counted
-listedCount l = cond (l .overflow) (Refused TooManyMoves) (Count (l .list .len))
-
--- of a list of captures where a jump is open, else of the quiet moves, without a list
-unfoldable pub widthBySets : ℕ → ℕ → ℕ → ℕ → Color → Counted
-widthBySets men kings them empty side =
-    cond (hasCaptureOf men kings them empty) (listedCount (captureMovesOf men kings them empty)) (fewOf (length (allQuiets men kings empty side)))
-
-unfoldable pub widthOf : View → Counted
-widthOf v = widthBySets (without (v .us) (v .kings)) (bitAnd (v .us) (v .kings)) (v .them) (without all (bitOr (v .us) (v .them))) (v .side)

@@ -11,7 +11,7 @@ use Rattle.squares.specs.declared.piece.Color.the-variants.{White, Black}
 use Rattle.positions.specs.Boards.{Board, board, own, enemy}
 use Rattle.positions.specs.Successor.{kingsPlayed}
 use Rattle.positions.specs.declared.moves.Move.{Move}
-use Rattle.captures.specs.Record.{startOf}
+use Rattle.captures.specs.Record.{listIn, startOf}
 use Rattle.captures.specs.Men.{menCapturesOf}
 use Rattle.captures.specs.Kings.{kingsCapturesOf}
 use Rattle.captures.specs.declared.movegen.Captures.{Captures}
@@ -33,7 +33,7 @@ seen v = facing (v .side) (v .us) (v .them) (v .kings)
 
 -- what a search hands on
 abbrev pub listingOf : Captures → Listing
-listingOf s = listing (s .list) (s .overflow)
+listingOf s = listing (listIn s) (s .overflow)
 
 unfoldable pub captureMovesOf : ℕ → ℕ → ℕ → ℕ → Listing
 captureMovesOf men kings them empty = listingOf (kingsCapturesOf (menCapturesOf (startOf them empty) men empty) kings empty)

@@ -1,4 +1,5 @@
 pub mod Generate
 pub mod Lists
 pub mod Counts
+pub mod LastPly
 pub mod Computed

@@ -62,7 +62,7 @@ pub(crate) fn capture_moves(
     let start = Captures::new(them, empty);
     let steps = captures::movegen::men_captures(start, men, empty);
     let found = captures::movegen::kings_captures(steps, kings, empty);
-    let list = found.list;
+    let list = found.list();
     Listing {
         list: list,
         overflow: found.overflow,

@@ -1,7 +1,6 @@
 // Depth counts, after perft.rs. They carry no hash.
 use crate::movegen;
 use crate::movegen::View;
-use crate::moves::MAX_MOVES;
 use crate::moves::MoveList;
 use positions::moves::Move;
 use positions::position::Position;
@@ -20,7 +19,8 @@ ghost use Rattle.squares.specs.Squares.{single};
 ghost use Rattle.positions.specs.Acceptance.{Accepted};
 ghost use Rattle.positions.specs.Successor.{kingsPlayed};
 ghost use Rattle.movegen.specs.Generate.{seen, nextOf};
-ghost use Rattle.movegen.specs.Counts.{fewOf, listedCount, widthOf, depthCount, perftOf, undivided, dividedOf, divideOf};
+ghost use Rattle.movegen.specs.LastPly.{limitedCount, listedCount, lastPlyOf};
+ghost use Rattle.movegen.specs.Counts.{depthCount, perftOf, undivided, dividedOf, divideOf};
 
 // The largest depth.
 pub const MAX_DEPTH: u32 = 7;
@@ -72,30 +72,33 @@ fn next(v: View, mv: Move) -> View
     }
 }
 
-// A number of moves, where a list holds as many.
-fn few(n: usize) -> Counted
-    ensures { λ r. ⌜ r ≡ fewOf n ⌝ }
+// A number of moves, or 17.
+fn limited(moves: u32) -> Counted
+    ensures { λ r. ⌜ r ≡ limitedCount moves ⌝ }
 {
-    if MAX_MOVES < n {
-        return Counted::Refused(Refusal::TooManyMoves);
+    if 256 < moves {
+        Counted::Refused(Refusal::TooManyMoves)
+    } else {
+        Counted::Count(moves as u64)
     }
-    Counted::Count(n as u64)
 }
 
-// The number of moves of a list.
+// The number of moves of a list, or 17.
 fn listed(l: Listing) -> Counted
     ensures { λ r. ⌜ r ≡ listedCount l ⌝ }
 {
-    if l.overflow {
-        return Counted::Refused(Refusal::TooManyMoves);
-    }
     let list = l.list;
-    Counted::Count(list.len as u64)
+    if l.overflow {
+        Counted::Refused(Refusal::TooManyMoves)
+    } else {
+        Counted::Count(list.len as u64)
+    }
 }
 
-// The number of moves of the side. Where no jump is open they are counted without a list.
-fn width(v: View) -> Counted
-    ensures { λ r. ⌜ r ≡ widthOf v ⌝ }
+// The number of moves of the side. At the last ply of a count nothing else is asked, and where no jump is open no list
+// is made.
+fn last_ply(v: View) -> Counted
+    ensures { λ r. ⌜ r ≡ lastPlyOf v ⌝ }
 {
     let empty = bitboard::not(v.us | v.them);
     let men = bitboard::difference(v.us, v.kings);
@@ -104,7 +107,7 @@ fn width(v: View) -> Counted
     if quiets::quiets::has_capture(men, kings, v.them, empty) {
         listed(movegen::capture_moves(men, kings, v.them, empty))
     } else {
-        few(quiets::quiets::quiet_count(men, kings, empty, side) as usize)
+        limited(quiets::quiets::quiet_count(men, kings, empty, side))
     }
 }
 
@@ -117,7 +120,7 @@ fn count(v: View, depth: u32) -> Counted
         return Counted::Count(1);
     }
     if depth == 1 {
-        return width(v);
+        return last_ply(v);
     }
     let l = movegen::generate(v);
     if l.overflow {

@@ -19,10 +19,13 @@ men-captures-requires c κs = search needs
 kings-captures-requires : tie.Need-kings-captures-requires
 kings-captures-requires c κs = search needs
 
+list-requires : tie.Need-list-requires
+list-requires c κs = search needs
+
 returns : tie.Need-returns
 unfolding captureMovesOf
 returns c = cc
 
 pub capture-moves-spec : {M : Type 1} → statement M
 capture-moves-spec =
-    tie.close (tie.spec new-requires men-captures-requires kings-captures-requires returns)
+    tie.close (tie.spec new-requires men-captures-requires kings-captures-requires list-requires returns)

@@ -1,20 +1,20 @@
 -- Each turn adds the count below one move of the list of the rules; the depth falls.
 use borrow.Author.Needs.{needs}
 use native.Mathlib.Omega.{arith}
-use mathlib.Core.Path.{sym, ap, _∙_}
+use mathlib.Core.Path.{_≡_, sym, ap, _∙_}
 use Prim.Native.Nat.{ℕ, _-_, _≤_, _<_}
-use Rattle.movegen.specs.Generate.{seen}
-use Rattle.movegen.proofs.Counted.{Counting, counting-none, depth-none, depth-many, one-more, many, in-array, sum-done, next-accepted, sum-fits, sum-again, sum-refused}
 use Rattle.movegen.specs.Counts.{depthCount}
-use Rattle.movegen.proofs.Widths.{width-law}
+use Rattle.movegen.specs.Generate.{seen}
+use Rattle.movegen.proofs.LastPly.{last-ply}
+use Rattle.movegen.proofs.Counted.{Counting, counting-none, depth-none, depth-many, one-more, many, in-array, sum-done, next-accepted, sum-fits, sum-again, sum-refused}
 use borrow.Fn.Kinds.{In}
 use borrow.Fn.PlainCycle.{Measures, is, falls, and}
 use Rattle.movegen.proofs.perft.count.Reads as count
 use Rattle.movegen.proofs.perft.count.Kinds as count-kinds
 use Rattle.movegen.proofs.perft.+count.Lts-count as count-lts
+use Rattle.movegen.proofs.perft.last_ply.Reads as last-ply-reads
 use Rattle.movegen.proofs.movegen.generate.Reads as generate-reads
 use Rattle.movegen.proofs.perft.next.Reads as next-reads
-use Rattle.movegen.proofs.perft.width.Reads as width-reads
 use Rattle.movegen.proofs.perft.+count.{statement}
 use Rattle.movegen.proofs.perft.+count.Tie.{close}
 
@@ -34,19 +34,19 @@ abbrev count-μ-loop : count-lts.MeasureT-loop
 count-μ-loop v depth list len sum₀ i₀ sum i = len - i
 
 abbrev calls : ℕ → count-lts.Claims
-calls t = (width-reads.Asked, width-reads.Learnt, generate-reads.Asked, generate-reads.Learnt, next-reads.Asked, next-reads.Learnt, count-below t, count.Post)
+calls t = (last-ply-reads.Asked, last-ply-reads.Learnt, generate-reads.Asked, generate-reads.Learnt, next-reads.Asked, next-reads.Learnt, count-below t, count.Post)
 
 count-returns : (t : ℕ) → count-lts.Need-returns (calls t) (count-at t) count.Post count-Inv-loop count-μ-loop
 count-returns t c = depth-none _ _ (c .if1 .taken)
 
-count-width-requires : (t : ℕ) → count-lts.Need-width-requires (calls t) (count-at t) count.Post count-Inv-loop count-μ-loop
-count-width-requires t c κs = search needs
+count-last-ply-requires : (t : ℕ) → count-lts.Need-last-ply-requires (calls t) (count-at t) count.Post count-Inv-loop count-μ-loop
+count-last-ply-requires t c κs = search needs
 
 count-returns-2 : (t : ℕ) → count-lts.Need-returns-2 (calls t) (count-at t) count.Post count-Inv-loop count-μ-loop
 count-returns-2 t c =
     let s = c .before .before .before in
     let a = s .args in
-    c .width .ensures ∙ width-law (a .v) (s .pre .1 .0) ∙ ap (λ (n : ℕ). depthCount n (seen (a .v))) (sym (c .before .if2 .taken))
+    c .last-ply .ensures ∙ last-ply (a .v) (s .pre .1 .0) ∙ ap (λ (d : ℕ). depthCount d (seen (a .v))) (sym (c .before .if2 .taken))
 
 count-generate-requires : (t : ℕ) → count-lts.Need-generate-requires (calls t) (count-at t) count.Post count-Inv-loop count-μ-loop
 count-generate-requires t c κs = search needs
@@ -151,7 +151,7 @@ pub +count-spec : {M : Type 1} → statement M
     count-Inv-loop
     count-μ-loop
     (count-returns t)
-    (count-width-requires t)
+    (count-last-ply-requires t)
     (count-returns-2 t)
     (count-generate-requires t)
     (count-returns-3 t)

@@ -1,11 +1,11 @@
--- Each return is one case of the definition: too few, more than before, found already, one more.
+-- Each return is one case of the definition: too few, more than before, found already, one more, no room for one more.
 use borrow.Author.Needs.{needs}
-use borrow.Author.Tests.{le-ltb, lt-ltb}
 use mathlib.Core.Path.{_≡_, sym, _∙_}
 use mathlib.Core.Bool.{true, false}
-use Rattle.captures.specs.Lists.{entries, listed, pushOf}
-use Rattle.captures.specs.Record.{recordOf, moveOf}
-use Rattle.captures.proofs.Recorded.{recorded-more}
+use Rattle.positions.specs.Moves.{move}
+use Rattle.captures.specs.Lists.{noMoves, entries, listed, pushOf}
+use Rattle.captures.specs.Record.{listIn, recordOf, moveOf}
+use Rattle.captures.proofs.Recorded.{recorded-anew, recorded-there, recorded-stored, recorded-marked}
 use Rattle.captures.proofs.movegen.Captures.record.Statement.{statement}
 use Rattle.captures.proofs.movegen.Captures.record.Tie as tie
 
@@ -22,42 +22,59 @@ first-requires c κs = search needs
 first-requires-2 : tie.Need-first-requires-2
 first-requires-2 c κs = search needs
 
-clear-requires : tie.Need-clear-requires
-clear-requires c κs = search needs
+new-requires : tie.Need-new-requires
+new-requires c κs = search needs
 
 push-requires : tie.Need-push-requires
 push-requires c κs = search needs
 
 returns-2 : tie.Need-returns-2
-unfolding recordOf
 returns-2 c =
-    let two = c .before .before in
-    let one = two .before .before .before .before in
-    simp (← one .before .count .ensures, one .if1 .left, lt-ltb _ _ (two .if2 .taken)) cc
+    let two = c .before .before .before in
+    let one = two .before .before .before in
+    let a = one .before .before .args in
+    let anew : c .before .push .result ≡ pushOf noMoves (moveOf (a .self) (a .to) (a .captured)) = cc in
+    recorded-anew (a .self) (a .to) (a .captured) (one .before .count .result) (one .before .count .ensures) (one .if1 .left) (c .before .push .result) (two .if2 .taken) anew
+
+list-requires : tie.Need-list-requires
+list-requires c κs = search needs
 
 contains-requires : tie.Need-contains-requires
 contains-requires c κs = search needs
 
 returns-3 : tie.Need-returns-3
-unfolding recordOf
 returns-3 c =
-    let two = c .before .before in
-    let one = two .before .before .before .before in
+    let two = c .before .before .before in
+    let one = two .before .before .before in
     let a = one .before .before .args in
-    let there : listed (entries (a .self .list)) (moveOf (a .self) (a .to) (a .captured)) ≡ true = cc in
-    simp (← one .before .count .ensures, one .if1 .left, le-ltb _ _ (two .if2 .left), there)
+    let there : listed (entries (listIn (a .self))) (moveOf (a .self) (a .to) (a .captured)) ≡ true = cc in
+    recorded-there (a .self) (a .to) (a .captured) (one .before .count .result) (one .before .count .ensures) (one .if1 .left) (two .if2 .left) there
 
-push-requires-2 : tie.Need-push-requires-2
-push-requires-2 c κs = search needs
+mul-mv : tie.Need-mul-mv
+mul-mv c = search needs
+
+element-set-from-mv : tie.Need-element-set-from-mv
+element-set-from-mv c = search needs
+
+add-s : tie.Need-add-s
+add-s c = search needs
 
 returns-4 : tie.Need-returns-4
 returns-4 c =
-    let two = c .before .before .before .before .before in
-    let one = two .before .before .before .before in
+    let two = c .before .before .before .before in
+    let one = two .before .before .before in
     let a = one .before .before .args in
-    let new : listed (entries (a .self .list)) (moveOf (a .self) (a .to) (a .captured)) ≡ false = cc in
-    let longer : c .before .before .push2 .result ≡ pushOf (a .self .list) (moveOf (a .self) (a .to) (a .captured)) = cc in
-    recorded-more (a .self) (a .to) (a .captured) (one .before .count .result) (c .before .before .push2 .result) (one .before .count .ensures) (one .if1 .left) (two .if2 .left) new longer
+    let new : listed (entries (listIn (a .self))) (moveOf (a .self) (a .to) (a .captured)) ≡ false = cc in
+    let made : move (two .before .before .first .result) (two .before .first2 .result) (a .captured) ≡ moveOf (a .self) (a .to) (a .captured) = cc in
+    recorded-stored (a .self) (a .to) (a .captured) (one .before .count .result) (one .before .count .ensures) (one .if1 .left) _ made (two .if2 .left) new (c .if4 .taken)
+
+returns-5 : tie.Need-returns-5
+returns-5 c =
+    let two = c .before .before .before .before in
+    let one = two .before .before .before in
+    let a = one .before .before .args in
+    let new : listed (entries (listIn (a .self))) (moveOf (a .self) (a .to) (a .captured)) ≡ false = cc in
+    recorded-marked (a .self) (a .to) (a .captured) (one .before .count .result) (one .before .count .ensures) (one .if1 .left) (two .if2 .left) new (c .if4 .left)
 
 pub record-spec : {M : Type 1} → statement M
 record-spec =
@@ -67,10 +84,14 @@ record-spec =
     returns
     first-requires
     first-requires-2
-    clear-requires
+    new-requires
     push-requires
     returns-2
+    list-requires
     contains-requires
     returns-3
-    push-requires-2
-    returns-4)
+    mul-mv
+    element-set-from-mv
+    add-s
+    returns-4
+    returns-5)
