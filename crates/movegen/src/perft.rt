@@ -3,6 +3,7 @@ use crate::movegen;
 use crate::movegen::View;
 use crate::moves::MoveList;
 use positions::moves::Move;
+use positions::playing;
 use positions::position::Position;
 use quiets::quiets::Listing;
 use squares::bitboard;
@@ -17,7 +18,6 @@ ghost use Prim.Native.Nat.{_-_, _≤_};
 ghost use lib.Bits.{bitXor};
 ghost use Rattle.squares.specs.Squares.{single};
 ghost use Rattle.positions.specs.Acceptance.{Accepted};
-ghost use Rattle.positions.specs.Successor.{kingsPlayed};
 ghost use Rattle.movegen.specs.Generate.{seen, nextOf};
 ghost use Rattle.movegen.specs.LastPly.{limitedCount, listedCount, lastPlyOf};
 ghost use Rattle.movegen.specs.Counts.{depthCount, perftOf, undivided, dividedOf, divideOf};
@@ -45,19 +45,6 @@ fn moved(set: Bitboard, from: Square, to: Square) -> Bitboard
     set ^ (square::bitboard(from) ^ square::bitboard(to))
 }
 
-// The kings after a move, from those that were not taken: a king is moved, a man that promotes is marked.
-fn kings_after(side: Color, kept: Bitboard, from: Square, to: Square) -> Bitboard
-    ensures { λ r. ⌜ r ≡ kingsPlayed side kept from to ⌝ }
-{
-    if bitboard::contains(kept, from) {
-        return moved(kept, from, to);
-    }
-    if bitboard::contains(bitboard::promotion_row(side), to) {
-        return kept | square::bitboard(to);
-    }
-    kept
-}
-
 // The board after a move, seen by the other side.
 fn next(v: View, mv: Move) -> View
     ensures { λ r. ⌜ r ≡ nextOf v mv ⌝ }
@@ -67,7 +54,7 @@ fn next(v: View, mv: Move) -> View
     View {
         us: bitboard::difference(v.them, mv.captured),
         them: moved(v.us, mv.from, mv.to),
-        kings: kings_after(side, kept, mv.from, mv.to),
+        kings: playing::kings_played(side, kept, mv.from, mv.to),
         side: side.not(),
     }
 }

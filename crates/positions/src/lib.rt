@@ -1,5 +1,5 @@
 // Positions: acceptance, hash, successor, flip; the move record; the score.
 pub mod eval;
 pub mod moves;
-mod playing;
+pub mod playing;
 pub mod position;

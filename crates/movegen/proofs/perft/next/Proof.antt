@@ -6,7 +6,6 @@ use Rattle.movegen.proofs.perft.next.Statement.{statement}
 use Rattle.movegen.proofs.perft.next.Tie as tie
 use Rattle.movegen.proofs.perft.next.Reads as reads
 use Rattle.movegen.proofs.perft.next.Lts as lts
-use Rattle.movegen.proofs.perft.kings_after.Reads as kings-after-reads
 use Rattle.movegen.proofs.perft.moved.Reads as moved-reads
 use Rattle.squares.proofs.bitboard.difference.Reads as difference-reads
 use Rattle.squares.proofs.piece.Color.not.Reads as not-reads
@@ -20,8 +19,8 @@ difference-requires-2 c κs = search needs
 moved-requires : tie.Need-moved-requires
 moved-requires c κs = search needs
 
-kings-after-requires : tie.Need-kings-after-requires
-kings-after-requires c κs = search needs
+kings-played-requires : tie.Need-kings-played-requires
+kings-played-requires c κs = search needs
 
 not-requires : tie.Need-not-requires
 not-requires c κs = search needs
@@ -37,6 +36,6 @@ next-spec =
     difference-requires
     difference-requires-2
     moved-requires
-    kings-after-requires
+    kings-played-requires
     not-requires
     returns)
