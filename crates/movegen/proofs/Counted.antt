@@ -17,13 +17,13 @@ use Rattle.positions.specs.Boards.{Board}
 use Rattle.positions.specs.Successor.{successor, Playable}
 use Rattle.positions.specs.declared.moves.Move.{Move}
 use Rattle.positions.proofs.Kept.{successor-accepted}
-use Rattle.captures.specs.Lists.{blank, listOf, entries}
+use Rattle.captures.specs.Lists.{blank, entries}
 use Rattle.rules.specs.Ordered.{legal}
 use Rattle.rules.proofs.Laws.{fair-of-accepted, legal-playable}
 use Rattle.rules.proofs.Numbered.{member-sound}
 use Rattle.quiets.specs.declared.quiets.Listing.{Listing}
 use Rattle.movegen.specs.Counts.{thenCount, sumFrom, depthCount}
-use Rattle.movegen.specs.Generate.{viewOf, seen, generateOf, nextOf}
+use Rattle.movegen.specs.Generate.{seen, generateOf, nextOf}
 use Rattle.movegen.specs.declared.movegen.View.{View}
 use Rattle.movegen.specs.declared.perft.Counted.{Counted}
 use Rattle.movegen.specs.declared.perft.Counted.the-variants.{Count, Refused}
@@ -160,9 +160,6 @@ module _ (v : View) (a : Accepted (seen v)) (l : Listing) (e : l ≡ generateOf 
   at-member (x ∷ xs) (suc i) h = tail (at-member xs i (omega arith))
 
   module _ (w : Short (seen v) l) (i : ℕ) (h : i < l .list .len) where
-    entry : Move
-    entry = getD (legal (seen v)) i blank
-
     playable : Playable (seen v) (getD (legal (seen v)) i blank)
     playable =
         let fair = fair-of-accepted (seen v) a in

@@ -4,7 +4,7 @@ use Prim.Native.Nat.{ℕ, zero, suc, _+_, _-_, _≤_, _<_}
 use native.Mathlib.Omega.{arith}
 use native.Mathlib.Numerals.{add-one}
 use mathlib.Core.List.{List, [], _∷_, _++_, map}
-use lib.ListN.{length, take, set, getD, replicate, length-map, length-replicate, List·getD-map}
+use lib.ListN.{length, take, set, getD, replicate, length-map, List·getD-map}
 use lib.Seq.{length-take-le, take-all, take-suc, append-snoc, set-at, take-append-add}
 use Rattle.squares.specs.declared.refusal.Refusal.{Refusal}
 use Rattle.squares.specs.declared.refusal.Answer.the-variants as answer
@@ -17,7 +17,6 @@ use Rattle.rules.specs.Ordered.{legal}
 use Rattle.movegen.specs.Counts.{depthCount, undivided, numberIn, countsBelow, dividedBy, dividedOf}
 use Rattle.movegen.specs.declared.perft.Counted.{Counted}
 use Rattle.movegen.specs.declared.perft.Counted.the-variants.{Count, Refused}
-use Rattle.movegen.specs.declared.perft.Divided.{Divided}
 use Rattle.movegen.proofs.Counted.{Counting, counting-none, below}
 
 abbrev number : ℕ → Board → Move → ℕ

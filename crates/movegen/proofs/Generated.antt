@@ -3,9 +3,9 @@
 use mathlib.Core.Path.{_≡_, refl, sym, ap, ap₂, _∙_}
 use Prim.Native.Nat.{ℕ}
 use mathlib.Core.Bool.{Bool, true, false, cond}
-use lib.Bits.{bitAnd, bitOr, bitXor, or-comm}
+use lib.Bits.{bitAnd, bitOr, or-comm}
 use Rattle.squares.specs.Sets.{without}
-use Rattle.squares.specs.Squares.{all, single}
+use Rattle.squares.specs.Squares.{all}
 use Rattle.squares.specs.Pieces.{other}
 use Rattle.squares.specs.declared.piece.Color.{Color}
 use Rattle.squares.specs.declared.piece.Color.the-variants.{White, Black}

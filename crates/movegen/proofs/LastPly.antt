@@ -1,6 +1,6 @@
 -- On a fair board the last ply's number is the depth count 1: the number of legal moves, or 17.
-use mathlib.Core.Path.{_≡_, refl, sym, ap, ap₂, _∙_}
-use Prim.Native.Nat.{ℕ, suc, _+_, min}
+use mathlib.Core.Path.{_≡_, refl, sym, ap, _∙_}
+use Prim.Native.Nat.{ℕ, _+_, min}
 use native.Mathlib.Omega.{arith}
 use mathlib.Core.Bool.{Bool, true, false, cond}
 use mathlib.Core.List.{List, [], _∷_}
@@ -17,7 +17,6 @@ use Rattle.squares.specs.declared.piece.PieceKind.the-variants.{Man, King}
 use Rattle.squares.specs.declared.refusal.Refusal.the-variants.{TooManyMoves}
 use Rattle.positions.specs.Acceptance.{Accepted}
 use Rattle.positions.specs.Boards.{Board, colored, own, enemy, empty, ofKind, pieces}
-use Rattle.positions.specs.Successor.{successor}
 use Rattle.positions.specs.declared.moves.Move.{Move}
 use Rattle.captures.specs.Lists.{listOf}
 use Rattle.quiets.specs.Tests.{hasCaptureOf}
@@ -31,7 +30,6 @@ use Rattle.movegen.specs.Counts.{thenCount, sumFrom, depthCount}
 use Rattle.movegen.specs.Generate.{viewOf, seen, captureMovesOf}
 use Rattle.movegen.specs.LastPly.{limitedCount, listedCount, countBySets, lastPlyOf}
 use Rattle.movegen.specs.declared.movegen.View.{View}
-use Rattle.movegen.specs.declared.perft.Counted.{Counted}
 use Rattle.movegen.specs.declared.perft.Counted.the-variants.{Count, Refused}
 use Rattle.movegen.proofs.Generated.{view-seen}
 

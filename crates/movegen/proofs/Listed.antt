@@ -1,13 +1,12 @@
 -- The list within a limit, the search in it, the position after a move of it.
 use mathlib.Core.Path.{_≡_, refl, sym, ap, ap₂, _∙_}
-use Prim.Native.Nat.{ℕ, _≤_, _<_}
+use Prim.Native.Nat.{ℕ, _≤_}
 use native.Mathlib.Omega.{arith}
-use mathlib.Core.Bool.{Bool, true, false, cond, _||_, true≢false, false≢true}
+use mathlib.Core.Bool.{Bool, true, false, cond, _||_}
 use mathlib.Core.List.{List, [], _∷_}
-use lib.ListN.{length, getD, take}
-use lib.Seq.{getD-take}
+use lib.ListN.{length}
 use lib.Dec.{leb, ltb}
-use borrow.Author.Tests.{ltb-true, ltb-false, lt-leb, le-leb, lt-ltb, le-ltb}
+use borrow.Author.Tests.{ltb-true, ltb-false, lt-leb, le-leb}
 use Rattle.squares.specs.declared.refusal.Refusal.the-variants.{TooManyMoves, NoMoveFits, NoSuchSquare, BadPosition}
 use Rattle.squares.specs.declared.refusal.Answer.the-variants as answer
 use Rattle.positions.specs.Acceptance.{sound, Sound}
@@ -17,14 +16,12 @@ use Rattle.positions.specs.Moves.{same, squaresOf}
 use Rattle.positions.specs.Successor.{successor, Playable, playOf}
 use Rattle.positions.specs.declared.moves.Move.{Move}
 use Rattle.positions.specs.declared.position.Position.{Position}
-use Rattle.positions.specs.declared.position.Placed.{Placed}
 use Rattle.positions.specs.declared.position.Placed.the-variants as placed
 use Rattle.positions.proofs.Accepts.{sound-says, position-sound}
 use Rattle.positions.proofs.Hashes.{play-is}
 use Rattle.positions.proofs.Kept.{successor-accepted}
 use Rattle.captures.specs.Lists as codes
 use Rattle.captures.specs.Lists.{listOf, entries}
-use Rattle.captures.specs.declared.moves.MoveList.{MoveList}
 use Rattle.rules.specs.Lists.{contains}
 use Rattle.rules.specs.Ordered.{captures, quiets, legal, listed}
 use Rattle.rules.specs.Rules.{Fair}

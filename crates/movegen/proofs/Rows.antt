@@ -2,7 +2,7 @@
 use mathlib.Core.Path.{_≡_, refl}
 use Prim.Native.Nat.{ℕ}
 use mathlib.Core.List.{List, [], _∷_}
-use Rattle.squares.specs.Squares.{run, single}
+use Rattle.squares.specs.Squares.{single}
 use Rattle.squares.specs.declared.piece.Color.the-variants.{White}
 use Rattle.squares.specs.declared.refusal.Refusal.the-variants.{BeyondLimit, TooManyMoves}
 use Rattle.squares.specs.declared.refusal.Answer.the-variants as answer

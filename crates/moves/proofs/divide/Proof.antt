@@ -1,17 +1,8 @@
 -- The index stays below 256, the length of the array; nothing else is asked.
 use borrow.Author.Needs.{needs}
-use native.Mathlib.Omega.{arith}
 use Prim.Native.Nat.{_-_, _≤_}
 use Rattle.moves.proofs.divide.Statement.{statement}
 use Rattle.moves.proofs.divide.Tie as tie
-use Rattle.moves.proofs.divide.Reads as reads
-use Rattle.moves.proofs.divide.Lts as lts
-use Rattle.movegen.proofs.perft.divide.Reads as divide-reads
-use Rattle.moves.proofs.number.Reads as number-reads
-use Rattle.moves.proofs.show_answer.Reads as show-answer-reads
-use Rattle.moves.proofs.show_list.Reads as show-list-reads
-use Rattle.moves.proofs.show_number.Reads as show-number-reads
-use Rattle.moves.proofs.write.Reads as write-reads
 
 abbrev Inv-loop : tie.InvT-loop
 Inv-loop depth counts i₀ t8 i = i ≤ 256

@@ -1,14 +1,8 @@
 -- The index stays below 256, the length of the array; nothing else is asked.
 use borrow.Author.Needs.{needs}
-use native.Mathlib.Omega.{arith}
 use Prim.Native.Nat.{_-_, _≤_}
 use Rattle.moves.proofs.show_list.Statement.{statement}
 use Rattle.moves.proofs.show_list.Tie as tie
-use Rattle.moves.proofs.show_list.Reads as reads
-use Rattle.moves.proofs.show_list.Lts as lts
-use Rattle.moves.proofs.show_move.Reads as show-move-reads
-use Rattle.moves.proofs.show_number.Reads as show-number-reads
-use Rattle.moves.proofs.write.Reads as write-reads
 
 abbrev Inv-loop : tie.InvT-loop
 Inv-loop list i₀ t6 i = i ≤ 256

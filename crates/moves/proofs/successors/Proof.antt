@@ -1,15 +1,8 @@
 -- The index stays below 256, the length of the array; nothing else is asked.
 use borrow.Author.Needs.{needs}
-use native.Mathlib.Omega.{arith}
 use Prim.Native.Nat.{_-_, _≤_}
 use Rattle.moves.proofs.successors.Statement.{statement}
 use Rattle.moves.proofs.successors.Tie as tie
-use Rattle.moves.proofs.successors.Reads as reads
-use Rattle.moves.proofs.successors.Lts as lts
-use Rattle.movegen.proofs.movegen.after.Reads as after-reads
-use Rattle.movegen.proofs.movegen.legal_moves.Reads as legal-moves-reads
-use Rattle.moves.proofs.show_placed.Reads as show-placed-reads
-use Rattle.moves.proofs.write.Reads as write-reads
 
 abbrev Inv-loop : tie.InvT-loop
 Inv-loop p list i₀ t6 i = i ≤ 256

@@ -1,12 +1,8 @@
 -- The counter rises to 16, and a place past the line is not read.
 use borrow.Author.Needs.{needs}
-use native.Mathlib.Omega.{arith}
 use Prim.Native.Nat.{_-_, _≤_}
 use Rattle.moves.proofs.word.Statement.{statement}
 use Rattle.moves.proofs.word.Tie as tie
-use Rattle.moves.proofs.word.Reads as reads
-use Rattle.moves.proofs.word.Lts as lts
-use Rattle.moves.proofs.digit.Reads as digit-reads
 
 abbrev Inv-loop : tie.InvT-loop
 Inv-loop line at n₀ i₀ n i = i ≤ 16

@@ -1,22 +1,13 @@
 -- Refusals in the paper's order; a move of the list can be played, and what is played is the successor with its hash.
-use mathlib.Core.Path.{_≡_, refl, sym, ap, ap₂, _∙_}
+use mathlib.Core.Path.{refl, sym, ap, _∙_}
 use Rattle.positions.specs.declared.position.Placed.the-variants as placed
 use Rattle.quiets.specs.declared.quiets.Listing.{Listing}
 use Rattle.movegen.specs.Lists.{afterOf}
 use Rattle.movegen.proofs.Generated.{generated-is}
 use Rattle.movegen.proofs.Listed.{found-law, played-many, played-none, played-one, after-at}
 use borrow.Author.Needs.{needs}
-use native.Mathlib.Omega.{arith}
 use Rattle.movegen.proofs.movegen.after.Statement.{statement}
 use Rattle.movegen.proofs.movegen.after.Tie as tie
-use Rattle.movegen.proofs.movegen.after.Reads as reads
-use Rattle.movegen.proofs.movegen.after.Lts as lts
-use Rattle.captures.proofs.moves.MoveList.contains.Reads as contains-reads
-use Rattle.movegen.proofs.movegen.View.of.Reads as of-reads
-use Rattle.movegen.proofs.movegen.generate.Reads as generate-reads
-use Rattle.positions.proofs.moves.Move.on_board.Reads as on-board-reads
-use Rattle.positions.proofs.position.Position.play.Reads as play-reads
-use Rattle.positions.proofs.position.Position.sound.Reads as sound-reads
 
 sound-requires : tie.Need-sound-requires
 sound-requires c κs = search needs

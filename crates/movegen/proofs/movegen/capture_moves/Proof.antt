@@ -1,14 +1,8 @@
 -- The two loops one after the other, from nothing found.
 use Rattle.movegen.specs.Generate.{captureMovesOf}
 use borrow.Author.Needs.{needs}
-use native.Mathlib.Omega.{arith}
 use Rattle.movegen.proofs.movegen.capture_moves.Statement.{statement}
 use Rattle.movegen.proofs.movegen.capture_moves.Tie as tie
-use Rattle.movegen.proofs.movegen.capture_moves.Reads as reads
-use Rattle.movegen.proofs.movegen.capture_moves.Lts as lts
-use Rattle.captures.proofs.movegen.Captures.new.Reads as new-reads
-use Rattle.captures.proofs.movegen.kings_captures.Reads as kings-captures-reads
-use Rattle.captures.proofs.movegen.men_captures.Reads as men-captures-reads
 
 new-requires : tie.Need-new-requires
 new-requires c κs = search needs

@@ -1,20 +1,12 @@
 -- The test by sets chooses between the two lists, as the formula does.
-use mathlib.Core.Path.{_≡_, refl, sym, ap, ap₂, _∙_}
+use mathlib.Core.Path.{sym, ap₂, _∙_}
 use Prim.Native.Nat.{ℕ}
 use lib.Bits.{bitAnd}
 use Rattle.movegen.proofs.Generated.{takes-captures, takes-quiets}
 use Rattle.movegen.specs.Generate.{generateOf, movesBySets}
 use borrow.Author.Needs.{needs}
-use native.Mathlib.Omega.{arith}
 use Rattle.movegen.proofs.movegen.generate.Statement.{statement}
 use Rattle.movegen.proofs.movegen.generate.Tie as tie
-use Rattle.movegen.proofs.movegen.generate.Reads as reads
-use Rattle.movegen.proofs.movegen.generate.Lts as lts
-use Rattle.movegen.proofs.movegen.capture_moves.Reads as capture-moves-reads
-use Rattle.quiets.proofs.quiets.has_capture.Reads as has-capture-reads
-use Rattle.quiets.proofs.quiets.quiet_moves.Reads as quiet-moves-reads
-use Rattle.squares.proofs.bitboard.difference.Reads as difference-reads
-use Rattle.squares.proofs.bitboard.not.Reads as not-reads
 
 not-requires : tie.Need-not-requires
 not-requires c κs = search needs

@@ -1,22 +1,12 @@
 -- The test by sets is that of the rules on the board of a sound position.
-use mathlib.Core.Path.{_≡_, refl, sym, ap, ap₂, _∙_}
+use mathlib.Core.Path.{refl, sym, ap, _∙_}
 use Rattle.squares.specs.declared.piece.Color.{Color}
 use Rattle.positions.specs.Boards.{boardOf, colored}
 use Rattle.movegen.specs.Lists.{hasCapturesOf}
 use Rattle.movegen.proofs.Listed.{captures-tested}
 use borrow.Author.Needs.{needs}
-use native.Mathlib.Omega.{arith}
 use Rattle.movegen.proofs.movegen.has_captures.Statement.{statement}
 use Rattle.movegen.proofs.movegen.has_captures.Tie as tie
-use Rattle.movegen.proofs.movegen.has_captures.Reads as reads
-use Rattle.movegen.proofs.movegen.has_captures.Lts as lts
-use Rattle.positions.proofs.position.Position.empty.Reads as empty-reads
-use Rattle.positions.proofs.position.Position.kings.Reads as kings-reads
-use Rattle.positions.proofs.position.Position.men.Reads as men-reads
-use Rattle.positions.proofs.position.Position.pieces.Reads as pieces-reads
-use Rattle.positions.proofs.position.Position.sound.Reads as sound-reads
-use Rattle.quiets.proofs.quiets.has_capture.Reads as has-capture-reads
-use Rattle.squares.proofs.piece.Color.not.Reads as not-reads
 
 sound-requires : tie.Need-sound-requires
 sound-requires c κs = search needs

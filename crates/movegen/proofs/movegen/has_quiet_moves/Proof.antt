@@ -1,18 +1,10 @@
 -- The test by sets is that of the rules on the board of a sound position.
-use mathlib.Core.Path.{_≡_, refl, sym, ap, ap₂, _∙_}
+use mathlib.Core.Path.{refl, sym, _∙_}
 use Rattle.movegen.specs.Lists.{hasQuietMovesOf}
 use Rattle.movegen.proofs.Listed.{quiets-tested}
 use borrow.Author.Needs.{needs}
-use native.Mathlib.Omega.{arith}
 use Rattle.movegen.proofs.movegen.has_quiet_moves.Statement.{statement}
 use Rattle.movegen.proofs.movegen.has_quiet_moves.Tie as tie
-use Rattle.movegen.proofs.movegen.has_quiet_moves.Reads as reads
-use Rattle.movegen.proofs.movegen.has_quiet_moves.Lts as lts
-use Rattle.positions.proofs.position.Position.empty.Reads as empty-reads
-use Rattle.positions.proofs.position.Position.kings.Reads as kings-reads
-use Rattle.positions.proofs.position.Position.men.Reads as men-reads
-use Rattle.positions.proofs.position.Position.sound.Reads as sound-reads
-use Rattle.quiets.proofs.quiets.has_quiet.Reads as has-quiet-reads
 
 sound-requires : tie.Need-sound-requires
 sound-requires c κs = search needs

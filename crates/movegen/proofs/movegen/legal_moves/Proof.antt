@@ -1,25 +1,15 @@
 -- Refusals in the paper's order; the generator's list is that of the rules, and the limit is tested on it.
-use mathlib.Core.Path.{_≡_, refl, sym, ap, ap₂, _∙_}
+use mathlib.Core.Path.{sym, ap, _∙_}
 use Rattle.positions.specs.Boards.{boardOf}
 use Rattle.rules.specs.Ordered.{legal}
 use Rattle.quiets.specs.declared.quiets.Listing.{Listing}
-use Rattle.movegen.specs.Lists.{withinOf}
+use Rattle.movegen.specs.Lists.{withinOf, legalMovesOf}
 use Rattle.movegen.proofs.Generated.{generated-is}
 use Rattle.movegen.proofs.Listed.{within-law}
-use mathlib.Core.Path.{_≡_, refl, sym, ap, ap₂, _∙_, subst}
 use borrow.Author.Tests.{lt-leb, le-leb}
-use Rattle.movegen.specs.Lists.{legalMovesOf}
 use borrow.Author.Needs.{needs}
-use native.Mathlib.Omega.{arith}
 use Rattle.movegen.proofs.movegen.legal_moves.Statement.{statement}
 use Rattle.movegen.proofs.movegen.legal_moves.Tie as tie
-use Rattle.movegen.proofs.movegen.legal_moves.Reads as reads
-use Rattle.movegen.proofs.movegen.legal_moves.Lts as lts
-use Rattle.movegen.proofs.movegen.View.of.Reads as of-reads
-use Rattle.movegen.proofs.movegen.generate.Reads as generate-reads
-use Rattle.movegen.proofs.movegen.refused.Reads as refused-reads
-use Rattle.movegen.proofs.movegen.within.Reads as within-reads
-use Rattle.positions.proofs.position.Position.sound.Reads as sound-reads
 
 sound-requires : tie.Need-sound-requires
 sound-requires c κs = search needs

@@ -2,12 +2,8 @@
 use mathlib.Core.Path.{refl}
 use Rattle.movegen.specs.Lists.{withinOf}
 use borrow.Author.Needs.{needs}
-use native.Mathlib.Omega.{arith}
 use Rattle.movegen.proofs.movegen.within.Statement.{statement}
 use Rattle.movegen.proofs.movegen.within.Tie as tie
-use Rattle.movegen.proofs.movegen.within.Reads as reads
-use Rattle.movegen.proofs.movegen.within.Lts as lts
-use Rattle.movegen.proofs.movegen.refused.Reads as refused-reads
 
 refused-requires : tie.Need-refused-requires
 refused-requires c κs = search needs

@@ -1,7 +1,7 @@
 -- Each turn adds the count below one move of the list of the rules; the depth falls.
 use borrow.Author.Needs.{needs}
 use native.Mathlib.Omega.{arith}
-use mathlib.Core.Path.{_≡_, sym, ap, _∙_}
+use mathlib.Core.Path.{sym, ap, _∙_}
 use Prim.Native.Nat.{ℕ, _-_, _≤_, _<_}
 use Rattle.movegen.specs.Counts.{depthCount}
 use Rattle.movegen.specs.Generate.{seen}

@@ -7,13 +7,6 @@ use borrow.Author.Needs.{needs}
 use native.Mathlib.Omega.{arith}
 use Rattle.movegen.proofs.perft.divide.Statement.{statement}
 use Rattle.movegen.proofs.perft.divide.Tie as tie
-use Rattle.movegen.proofs.perft.divide.Reads as reads
-use Rattle.movegen.proofs.perft.divide.Lts as lts
-use Rattle.movegen.proofs.movegen.View.of.Reads as of-reads
-use Rattle.movegen.proofs.perft.below.Reads as below-reads
-use Rattle.movegen.proofs.perft.refused.Reads as refused-reads
-use Rattle.movegen.proofs.perft.split.Reads as split-reads
-use Rattle.positions.proofs.position.Position.sound.Reads as sound-reads
 
 sound-requires : tie.Need-sound-requires
 sound-requires c κs = search needs

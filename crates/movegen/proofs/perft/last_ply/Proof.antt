@@ -1,5 +1,5 @@
 -- The test by sets chooses between the two numbers, as the formula does.
-use mathlib.Core.Path.{_≡_, sym, ap, ap₂, _∙_}
+use mathlib.Core.Path.{sym, ap, ap₂, _∙_}
 use Prim.Native.Nat.{ℕ}
 use lib.Bits.{bitAnd}
 use Rattle.movegen.proofs.LastPly.{counts-captures, counts-quiets}

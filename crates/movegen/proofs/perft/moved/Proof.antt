@@ -1,11 +1,7 @@
 -- The two squares as sets.
 use borrow.Author.Needs.{needs}
-use native.Mathlib.Omega.{arith}
 use Rattle.movegen.proofs.perft.moved.Statement.{statement}
 use Rattle.movegen.proofs.perft.moved.Tie as tie
-use Rattle.movegen.proofs.perft.moved.Reads as reads
-use Rattle.movegen.proofs.perft.moved.Lts as lts
-use Rattle.squares.proofs.square.bitboard.Reads as bitboard-reads
 
 bitboard-requires : tie.Need-bitboard-requires
 bitboard-requires c κs = search needs

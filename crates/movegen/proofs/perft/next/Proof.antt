@@ -1,14 +1,8 @@
 -- Field by field the formula.
 use Rattle.movegen.specs.Generate.{nextOf}
 use borrow.Author.Needs.{needs}
-use native.Mathlib.Omega.{arith}
 use Rattle.movegen.proofs.perft.next.Statement.{statement}
 use Rattle.movegen.proofs.perft.next.Tie as tie
-use Rattle.movegen.proofs.perft.next.Reads as reads
-use Rattle.movegen.proofs.perft.next.Lts as lts
-use Rattle.movegen.proofs.perft.moved.Reads as moved-reads
-use Rattle.squares.proofs.bitboard.difference.Reads as difference-reads
-use Rattle.squares.proofs.piece.Color.not.Reads as not-reads
 
 difference-requires : tie.Need-difference-requires
 difference-requires c κs = search needs

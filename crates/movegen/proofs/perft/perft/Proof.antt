@@ -4,14 +4,8 @@ use borrow.Author.Tests.{lt-leb, le-leb}
 use Rattle.movegen.specs.Counts.{depthCount, perftOf}
 use Rattle.movegen.proofs.Generated.{seen-is, seen-accepted}
 use borrow.Author.Needs.{needs}
-use native.Mathlib.Omega.{arith}
 use Rattle.movegen.proofs.perft.perft.Statement.{statement}
 use Rattle.movegen.proofs.perft.perft.Tie as tie
-use Rattle.movegen.proofs.perft.perft.Reads as reads
-use Rattle.movegen.proofs.perft.perft.Lts as lts
-use Rattle.movegen.proofs.movegen.View.of.Reads as of-reads
-use Rattle.movegen.proofs.perft.count.Reads as count-reads
-use Rattle.positions.proofs.position.Position.sound.Reads as sound-reads
 
 sound-requires : tie.Need-sound-requires
 sound-requires c κs = search needs

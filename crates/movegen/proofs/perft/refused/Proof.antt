@@ -1,11 +1,7 @@
 -- The list is the one without moves, and all counts are 0.
 use borrow.Author.Needs.{needs}
-use native.Mathlib.Omega.{arith}
 use Rattle.movegen.proofs.perft.refused.Statement.{statement}
 use Rattle.movegen.proofs.perft.refused.Tie as tie
-use Rattle.movegen.proofs.perft.refused.Reads as reads
-use Rattle.movegen.proofs.perft.refused.Lts as lts
-use Rattle.captures.proofs.moves.MoveList.new.Reads as new-reads
 
 new-requires : tie.Need-new-requires
 new-requires c κs = search needs

@@ -9,12 +9,6 @@ use borrow.Author.Needs.{needs}
 use native.Mathlib.Omega.{arith}
 use Rattle.movegen.proofs.perft.split.Statement.{statement}
 use Rattle.movegen.proofs.perft.split.Tie as tie
-use Rattle.movegen.proofs.perft.split.Reads as reads
-use Rattle.movegen.proofs.perft.split.Lts as lts
-use Rattle.movegen.proofs.movegen.generate.Reads as generate-reads
-use Rattle.movegen.proofs.perft.count.Reads as count-reads
-use Rattle.movegen.proofs.perft.next.Reads as next-reads
-use Rattle.movegen.proofs.perft.refused.Reads as refused-reads
 
 abbrev Inv-loop : tie.InvT-loop
 Inv-loop v plies list len counts₀ i₀ counts i = (i ≤ len) × Dividing plies (seen v) counts i

@@ -1,12 +1,7 @@
 -- The fields are the sets of the two sides.
 use borrow.Author.Needs.{needs}
-use native.Mathlib.Omega.{arith}
 use Rattle.movegen.proofs.movegen.View.of.Statement.{statement}
 use Rattle.movegen.proofs.movegen.View.of.Tie as tie
-use Rattle.movegen.proofs.movegen.View.of.Reads as reads
-use Rattle.movegen.proofs.movegen.View.of.Lts as lts
-use Rattle.positions.proofs.position.Position.pieces.Reads as pieces-reads
-use Rattle.squares.proofs.piece.Color.not.Reads as not-reads
 
 pieces-requires : tie.Need-pieces-requires
 pieces-requires c κs = search needs
