@@ -3,10 +3,10 @@ use mathlib.Core.Path.{_≡_, refl, sym, ap, _∙_}
 use mathlib.Core.Bool.{Bool, true, false, not, cond, _&&_, _||_}
 use mathlib.Core.List.{List, [], _∷_, foldl}
 use Prim.Native.Nat.{ℕ, zero, suc, _-_, _^_}
-use native.Mathlib.Nat.{sub-zero}
-use lib.Bits.{bitAnd, bitOr, and-zero-r}
+use lib.Bits.{bitAnd, bitOr}
 use lib.Dec.{eqb, ltb}
 use Rattle.squares.specs.Sets.{size, without}
+use Rattle.squares.proofs.Members.{without-none}
 use Rattle.squares.proofs.Sizes.{size-zero}
 use Rattle.captures.specs.declared.movegen.Captures.{Captures}
 use Rattle.captures.specs.Open.{manJump, kingJump}
@@ -19,11 +19,6 @@ use Rattle.captures.specs.Kings.{skipOf, kingJumps, kingEndings, kingCap
 record-none : (s : Captures) (to : ℕ) → recordOf s to 0 ≡ s
 unfolding recordOf
 record-none s to = rw size-zero refl
-
--- belongs to squares
-without-none : (a : ℕ) → without a 0 ≡ a
-unfolding without
-without-none a = ap (λ (x : ℕ). a - x) (and-zero-r a) ∙ sub-zero a
 
 module _ (them empty at : ℕ) where
   man-first : anyUpTo (manJumps them empty at 0) 4 ≡ anyUpTo (manJump at them empty) 4

@@ -1,13 +1,13 @@
 -- The lowest member of a set by trailing zeros, the rest by `s & (s - 1)`, and the members as a rising list.
 use mathlib.Core.Path.{_≡_, refl, sym, ap, ap₂, _∙_}
 use Prim.Native.Nat.{ℕ, zero, suc, _+_, _-_, _/_, _%_, _^_, _≤_, _<_, suc-le-suc}
-use native.Mathlib.Nat.{mod-lt, not-suc-le-zero, le-of-suc-le-suc, zero-lt-suc, suc-add, add-suc, add-zero, zero-add}
+use native.Mathlib.Nat.{mod-lt, not-suc-le-zero, le-of-suc-le-suc, zero-lt-suc, suc-add, add-suc, add-zero, zero-add, sub-zero}
 use native.Mathlib.Omega.{arith}
 use mathlib.Core.Bool.{Bool, true, false, not, _&&_, cond, and-true, and-false}
 use mathlib.Core.List.{List, [], _∷_, List·Memᴰ as Member, List·Memᴰ·head as head, List·Memᴰ·tail as tail, List·Memᴰ·not-nil as not-nil, List·Memᴰ·cases-cons as cases-cons}
 use mathlib.Core.Logic.{_⊎_, inl, inr}
 use lib.Dec.{eqb, leb, eqb·suc-suc, eqb·suc-zero}
-use lib.Bits.{bitAnd, and-shr, and-mod, and-self}
+use lib.Bits.{bitAnd, and-shr, and-mod, and-self, and-zero-r}
 use lib.Count.{trailingZeros, under}
 use borrow.Author.Tests.{eqb-true, eqb-false, leb-true, le-leb}
 use lib.Pow.{pow-lt}
@@ -90,6 +90,10 @@ clear-lowest s p h =
 pub none-without : (b : ℕ) → without 0 b ≡ 0
 unfolding without
 none-without b = omega arith
+
+pub without-none : (a : ℕ) → without a 0 ≡ a
+unfolding without
+without-none a = ap (λ (x : ℕ). a - x) (and-zero-r a) ∙ sub-zero a
 
 -- ---- the list: the first member, and then those of `s & (s - 1)`
 first-then : (n i s d : ℕ) → 0 < s → s % 2 ≡ d → d < 2
