@@ -26,11 +26,12 @@ use Rattle.rules.proofs.Jumps.{all-directions}
 use Rattle.rules.proofs.Ray.{last-ray, last-is, glide-in}
 use Rattle.quiets.specs.Tests.{anyIn, menJump, kingOpen, hasCaptureOf}
 use Rattle.captures.specs.Open as tests
-use Rattle.quiet_laws.specs.Some.{some}
+use Rattle.rules.specs.Lists.{some}
+use Rattle.rules.proofs.Lists.{some-none, none-some}
 use Rattle.quiet_laws.proofs.HasQuiet.{open-law}
 use Rattle.squares.proofs.OneBit.{bit-some, at-opposite}
 use Rattle.capture_laws.proofs.Rays.{slide-is}
-use Rattle.quiet_laws.proofs.Some.{some-none, none-some, any-ext, any-found, found-any}
+use Rattle.quiet_laws.proofs.Some.{any-ext, any-found, found-any}
 use Rattle.quiet_laws.proofs.Walks.{any-four}
 
 bit-or-none : (t : Bool) (i : ℕ) → not (eqb (cond t (2 ^ i) 0) 0) ≡ t
