@@ -1,7 +1,6 @@
 -- The laws that crates above cite: on a fair board the search for captures by formula ends with the list of the rules, in its
 -- order, and every entry behind the moves is blank.
 use mathlib.Core.Path.{_≡_, refl, sym, ap, _∙_}
-use native.Mathlib.Omega.{arith}
 use mathlib.Core.Bool.{false}
 use mathlib.Core.List.{List, [], _∷_, map, foldl}
 use lib.ListN.{length, take, length-map}

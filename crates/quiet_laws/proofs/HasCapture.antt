@@ -18,7 +18,7 @@ use Rattle.positions.specs.Boards.{Board, enemy, pieces, empty}
 use Rattle.captures.specs.Rays.{far, slideOf}
 use Rattle.captures.specs.Walks.{anyUpTo}
 use Rattle.captures.proofs.Steps.{no-land}
-use Rattle.rules.specs.Ordered.{directions, ahead, ray, last, blocker, captures}
+use Rattle.rules.specs.Ordered.{directions, ray, last, blocker, captures}
 use Rattle.rules.specs.Rules.{space, rest, Jump, manJump, kingJump, Open, Fair}
 use Rattle.rules.proofs.Boards.{empty-lt, enemy-lt, men-lt, space-lt, of-space, enemy-blocks, piece-own, piece-lt, piece-member}
 use Rattle.rules.proofs.Captures.{shut-law}

@@ -1,6 +1,6 @@
 -- The laws that crates above cite. `Legal` is the rule, `legal` the list: by `listed-legal` each of the others speaks of both.
 use mathlib.Core.Path.{_≡_, refl, sym, ap, _∙_, subst}
-use Prim.Native.Nat.{ℕ, _+_, _≤_, _<_}
+use Prim.Native.Nat.{ℕ, _+_, _≤_}
 use native.Mathlib.Omega.{arith}
 use mathlib.Core.Bool.{Bool, true, false, not, true≢false, false≢true}
 use mathlib.Core.List.{List, [], _∷_, map, foldl, List·Memᴰ as Member, List·Memᴰ·head as head, List·Memᴰ·not-nil as not-nil}

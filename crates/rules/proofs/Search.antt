@@ -1,6 +1,6 @@
 -- What a search of the code ends with, by square numbers: everything tried, folded with room and mark, is the list.
 use mathlib.Core.Path.{_≡_, refl, sym, ap, ap₂, _∙_, subst}
-use Prim.Native.Nat.{ℕ, zero, suc, _<_}
+use Prim.Native.Nat.{ℕ, zero, suc}
 use native.Mathlib.Omega.{arith}
 use mathlib.Core.Bool.{true, false}
 use mathlib.Core.List.{List, [], _∷_, map, foldl, List·Memᴰ as Member, List·Memᴰ·not-nil as not-nil, List·Memᴰ·append-cases as in-cases}
