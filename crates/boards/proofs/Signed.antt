@@ -11,7 +11,7 @@ use mir.Val.{Fits, SFits, toZ, ofZ}
 use mir.Facts.{toZ-ofZ}
 use borrow.Author.Needs.{sfits-of}
 use borrow.Author.Tests.{lt-ltb}
-use Rattle.positions.proofs.Integers.{small32, fits32, abs-add}
+use Rattle.scores.proofs.Integers.{small32, fits32, abs-add}
 
 abbrev pub held : ℤ → ℤ
 held z = toZ w32 (ofZ w32 z)
