@@ -22,7 +22,7 @@ ghost use Rattle.squares.specs.Squares.{run};
 ghost use Rattle.positions.specs.Boards.{boardOf};
 ghost use Rattle.texts.specs.Bytes.{splitOn, partsFrom};
 ghost use Rattle.texts.specs.Parts.{OnSquare};
-ghost use Rattle.texts.specs.Lent.{content, Whole, Room, Grew};
+ghost use Rattle.texts.specs.Lent.{noTextOf, put};
 ghost use Rattle.texts.specs.Fen.{atComma, atColon, fenColorOf, endOf, endsOf, rangeOf, itemOf, itemsOf, fieldOf, fieldsOf, sideOf, body, fenParts, fromFenOf, itemText, listText, separator, fieldText, fenText, fenOf, fenLent};
 
 // The letter of a colour: W, w, B or b.
@@ -192,8 +192,8 @@ pub fn from_fen(text: &[u8]) -> Placed
 
 // The number of a square, K before a king.
 fn put_item(t: Text, kings: Bitboard, n: Square) -> Text
-    requires { ⌜ Room t (itemText kings n) × (n < 100) ⌝ }
-    ensures { λ r. ⌜ Grew t r (itemText kings n) ⌝ }
+    requires { ⌜ n < 100 ⌝ }
+    ensures { λ r. ⌜ r ≡ put t (itemText kings n) ⌝ }
 {
     let number = n as u8;
     if bitboard::contains(kings, n) {
@@ -205,16 +205,14 @@ fn put_item(t: Text, kings: Bitboard, n: Square) -> Text
 }
 
 fn put_separator(t: Text, first: bool) -> Text
-    requires { ⌜ Room t (separator first) ⌝ }
-    ensures { λ r. ⌜ Grew t r (separator first) ⌝ }
+    ensures { λ r. ⌜ r ≡ put t (separator first) ⌝ }
 {
     if first { t } else { bytes::push(t, b',') }
 }
 
 // The squares of a set, rising.
 fn put_list(start: Text, kings: Bitboard, set: Bitboard) -> Text
-    requires { ⌜ Room start (listText kings set) ⌝ }
-    ensures { λ r. ⌜ Grew start r (listText kings set) ⌝ }
+    ensures { λ r. ⌜ r ≡ put start (listText kings set) ⌝ }
 {
     let mut t = start;
     let mut first = true;
@@ -230,8 +228,7 @@ fn put_list(start: Text, kings: Bitboard, set: Bitboard) -> Text
 }
 
 fn put_field(t: Text, letter: u8, kings: Bitboard, set: Bitboard) -> Text
-    requires { ⌜ Room t (fieldText letter kings set) ⌝ }
-    ensures { λ r. ⌜ Grew t r (fieldText letter kings set) ⌝ }
+    ensures { λ r. ⌜ r ≡ put t (fieldText letter kings set) ⌝ }
 {
     let u = bytes::push(t, b':');
     let v = bytes::push(u, letter);
@@ -239,8 +236,7 @@ fn put_field(t: Text, letter: u8, kings: Bitboard, set: Bitboard) -> Text
 }
 
 fn fen_text(p: Position) -> Text
-    requires { ⌜ length (fenText (boardOf p)) ≤ 200 ⌝ }
-    ensures { λ r. ⌜ (content r ≡ fenText (boardOf p)) × Whole r ⌝ }
+    ensures { λ r. ⌜ r ≡ put noTextOf (fenText (boardOf p)) ⌝ }
 {
     let side = p.side;
     let t = bytes::push(bytes::no_text(), side.to_char());
