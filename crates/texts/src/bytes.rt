@@ -32,7 +32,7 @@ fn is_ascii(s: &[u8]) -> bool
 }
 
 // What refusal 1 asks of a text.
-pub(crate) fn is_readable(s: &[u8]) -> bool
+pub fn is_readable(s: &[u8]) -> bool
     ensures { λ r. ⌜ r ≡ readable (now (s .entry)) ⌝ }
 {
     if s.len() <= 4096 { is_ascii(s) } else { false }
@@ -84,7 +84,7 @@ fn cut_end(s: &[u8], blanks: bool, c: u8) -> &[u8]
 }
 
 // Without blanks at both ends.
-pub(crate) fn trim(s: &[u8]) -> &[u8]
+pub fn trim(s: &[u8]) -> &[u8]
     ensures { λ r. ⌜ now r ≡ trim blank (now (s .entry)) ⌝ }
 {
     cut_end(cut_start(s, true, 0), true, 0)
@@ -110,7 +110,7 @@ pub(crate) fn trim_end_matches(s: &[u8], c: u8) -> &[u8]
 }
 
 // Where the first c stands, or the length.
-pub(crate) fn find(s: &[u8], c: u8) -> usize
+pub fn find(s: &[u8], c: u8) -> usize
     ensures { λ r. ⌜ (r ≡ indexOf (is c) (now (s .entry))) × (r ≤ length (now (s .entry))) ⌝ }
 {
     let mut i = 0;

@@ -1,0 +1,2 @@
+// Move texts: what a text says, and which listed move it means.
+pub mod notation;
