@@ -1,2 +1,3 @@
 // Move texts: what a text says, and which listed move it means.
+pub mod moves;
 pub mod notation;
