@@ -1,3 +1,4 @@
 pub mod Rows
 pub mod Chosen
 pub mod MoveTexts
+pub mod MoveSays
