@@ -3,7 +3,7 @@ use squares::refusal::Refusal;
 ghost use mathlib.Core.Path.{_≡_};
 ghost use Prim.Native.Nat.{_≤_};
 ghost use lib.ListN.{length};
-ghost use Rattle.texts.specs.Bytes.{ascii, readable, blank, is, trimStart, trimEnd, trim, upTo, behind, startsWith, strip, digits, cuts, indexOf};
+ghost use Rattle.texts.specs.Bytes.{ascii, readable, blank, is, trimStart, trimEnd, trim, upTo, behind, strip, digits, cuts, indexOf};
 ghost use Rattle.texts.specs.Lent.{emitOf, emitted, noTextOf, pushOf, put};
 
 // The length of a written text, or the refusal.
@@ -90,13 +90,7 @@ pub fn trim(s: &[u8]) -> &[u8]
     cut_end(cut_start(s, true, 0), true, 0)
 }
 
-// Without every c at both ends, at the start, at the end.
-pub(crate) fn trim_matches(s: &[u8], c: u8) -> &[u8]
-    ensures { λ r. ⌜ now r ≡ trim (is c) (now (s .entry)) ⌝ }
-{
-    cut_end(cut_start(s, false, c), false, c)
-}
-
+// Without every c at the start, at the end.
 pub(crate) fn trim_start_matches(s: &[u8], c: u8) -> &[u8]
     ensures { λ r. ⌜ now r ≡ trimStart (is c) (now (s .entry)) ⌝ }
 {
@@ -137,12 +131,6 @@ pub(crate) fn behind(s: &[u8], c: u8) -> &[u8]
 {
     let n = find(s, c);
     if n < s.len() { &s[n + 1..] } else { s }
-}
-
-pub(crate) fn starts_with(s: &[u8], c: u8) -> bool
-    ensures { λ r. ⌜ r ≡ startsWith c (now (s .entry)) ⌝ }
-{
-    if 0 < s.len() { s[0] == c } else { false }
 }
 
 // Without one c at the start.

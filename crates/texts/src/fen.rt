@@ -83,14 +83,15 @@ fn range_of(s: &[u8], color: Color, king: bool, p: Parts) -> Reading
     ends(p, color, king, from, to)
 }
 
-// A trimmed item.
+// A trimmed item. One leading K makes it a king; a later one, as that of a range's end, does not.
 fn item(s: &[u8], color: Color, p: Parts) -> Reading
     ensures { λ r. ⌜ r ≡ itemOf color p (now (s .entry)) ⌝ }
 {
     if s.len() == 0 {
         return Reading::Parts(p);
     }
-    range_of(bytes::strip(s, b'K'), color, bytes::starts_with(s, b'K'), p)
+    let king = bytes::find(s, b'K') == 0;
+    range_of(bytes::strip(s, b'K'), color, king, p)
 }
 
 // The items of a field behind its colour, split at commas.
@@ -162,10 +163,13 @@ fn side(s: &[u8]) -> Sided
     }
 }
 
+// Without blanks at both ends, then quotes at both ends, then dots at the end.
 fn body(s: &[u8]) -> &[u8]
     ensures { λ r. ⌜ now r ≡ body (now (s .entry)) ⌝ }
 {
-    bytes::trim_end_matches(bytes::trim_matches(bytes::trim(s), b'"'), b'.')
+    let inside = bytes::trim_start_matches(bytes::trim(s), b'"');
+    let unquoted = bytes::trim_end_matches(inside, b'"');
+    bytes::trim_end_matches(unquoted, b'.')
 }
 
 fn fen_parts(s: &[u8]) -> Reading

@@ -2,8 +2,7 @@
 use mathlib.Core.Path.{ap, sym, _∙_}
 use mathlib.Core.List.{List}
 use Prim.Native.Nat.{ℕ, _-_}
-use lib.ListN.{length}
-use lib.Seq.{length-take-le}
+use lib.ListN.{length, length-take}
 use denote.Ref.{now}
 use borrow.Author.Tests.{le-leb}
 use Rattle.texts.specs.Lent.{emitOf, emitted, content}
@@ -33,7 +32,7 @@ slice-aggregate-emit : tie.Need-slice-aggregate-emit
 slice-aggregate-emit c =
     let p = c .before .before .before .before .before .before .args .p in
     let f = filled _ (omega (arith, fen-short (boardOf p) (sound-says p (sym (c .before .before .before .before .sound .ensures) ∙ c .before .before .before .if1 .taken) .accepted))) (c .before .before .fen-text .ensures) in
-    sym (length-take-le _ _ (omega (arith, f .fits, f .size)))
+    simp length-take (omega (arith, f .fits, f .size))
 
 emit-requires : tie.Need-emit-requires
 emit-requires c κs = search needs

@@ -2,7 +2,7 @@
 use mathlib.Core.Path.{ap, sym, _∙_}
 use mathlib.Core.List.{List}
 use Prim.Native.Nat.{ℕ, _-_}
-use lib.Seq.{length-take-le}
+use lib.ListN.{length-take}
 use denote.Ref.{now}
 use Rattle.texts.specs.Lent.{emitOf, emitted, content}
 use Rattle.texts.specs.Hub.{hubText, hubOf, hubLent}
@@ -28,7 +28,7 @@ array-share-prefix-text c =
 slice-aggregate-emit : tie.Need-slice-aggregate-emit
 slice-aggregate-emit c =
     let f = (filled _ (omega (arith, hub-length (boardOf (c .before .before .before .before .before .before .args .p)))) (c .before .before .hub-text .ensures)) in
-    sym (length-take-le _ _ (omega (arith, f .fits, f .size)))
+    simp length-take (omega (arith, f .fits, f .size))
 
 emit-requires : tie.Need-emit-requires
 emit-requires c κs = search needs
