@@ -1,2 +1,5 @@
 pub mod Rows
+pub mod Reading
+pub mod Search
+pub mod Fitted
 pub mod Chosen
