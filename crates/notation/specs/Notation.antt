@@ -31,12 +31,20 @@ malformed = heard.Refused BadMoveText
 unfoldable pub unsaid : Bool → Said
 unsaid capture = record { capture = capture; first = 0; second = 0; last = 0; count = 0; rest = 0 }
 
--- one square more; those from the third on are a set
+abbrev pub asFirst : Said → ℕ → Said
+asFirst h n = record { capture = h .capture; first = n; second = h .second; last = n; count = 1; rest = h .rest }
+
+abbrev pub asSecond : Said → ℕ → Said
+asSecond h n = record { capture = h .capture; first = h .first; second = n; last = n; count = 2; rest = h .rest }
+
+-- those from the third on are a set
+abbrev pub asLater : Said → ℕ → Said
+asLater h n =
+    record { capture = h .capture; first = h .first; second = h .second; last = n; count = h .count + 1; rest = bitOr (h .rest) (single n) }
+
+-- one square more
 unfoldable pub heardSquare : Said → ℕ → Said
-heardSquare h n =
-    cond (eqb (h .count) 0) (record { capture = h .capture; first = n; second = h .second; last = n; count = 1; rest = h .rest })
-    (cond (eqb (h .count) 1) (record { capture = h .capture; first = h .first; second = n; last = n; count = 2; rest = h .rest })
-    (record { capture = h .capture; first = h .first; second = h .second; last = n; count = h .count + 1; rest = bitOr (h .rest) (single n) }))
+heardSquare h n = cond (eqb (h .count) 0) (asFirst h n) (cond (eqb (h .count) 1) (asSecond h n) (asLater h n))
 
 -- goes on with the square, or is refused 9
 abbrev pub onSquare : Numbered → (ℕ → Heard) → Heard

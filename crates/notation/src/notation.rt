@@ -11,8 +11,8 @@ use squares::square::Numbered;
 use squares::square::Square;
 use texts::bytes;
 ghost use mathlib.Core.Path.{_≡_};
-ghost use Prim.Native.Nat.{_≤_, _<_, _^_};
-ghost use lib.ListN.{length};
+ghost use mathlib.Core.Bool.{cond};
+ghost use Prim.Native.Nat.{_<_, _^_};
 ghost use Rattle.texts.specs.Bytes.{is, splitOn};
 ghost use Rattle.captures.specs.Lists.{entries};
 ghost use Rattle.rules.specs.Lists.{keep};
@@ -208,6 +208,12 @@ fn one_more(c: Choice, m: Move) -> Choice
     }
 }
 
+fn counted(c: Choice, fits: bool, m: Move) -> Choice
+    ensures { λ r. ⌜ r ≡ cond fits (oneMore c m) c ⌝ }
+{
+    if fits { one_more(c, m) } else { c }
+}
+
 // The moves of a list that fit.
 fn search(list: MoveList, h: Said, hub: bool) -> Choice
     ensures { λ r. ⌜ r ≡ only (keep (fits h hub) (entries list)) ⌝ }
@@ -220,9 +226,7 @@ fn search(list: MoveList, h: Said, hub: bool) -> Choice
             return found;
         }
         let entry = list.moves[i];
-        if fits(h, hub, entry) {
-            found = one_more(found, entry);
-        }
+        found = counted(found, fits(h, hub, entry), entry);
         i += 1;
     }
     found
