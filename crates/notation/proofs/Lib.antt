@@ -5,3 +5,5 @@ pub mod Fitted
 pub mod Chosen
 pub mod MoveTexts
 pub mod MoveSays
+pub mod MoveTrip
+pub mod MoveRows

@@ -146,7 +146,6 @@ says-move m e =
       second = refl;
       many = λ q. omega (arith, taken-some m (on-board m e .fits) q);
       set = refl;
-      two = λ q. ap (λ (l : List ℕ). 2 + length l) (taken-none m q);
       last = λ q. ap (λ (l : List ℕ). lastOf (m .to) (map squareAtBit l)) (taken-none m q);
     }
 
