@@ -9,7 +9,7 @@ no-text-requires : tie.Need-no-text-requires
 no-text-requires c κs = search needs
 
 cast-push-number : tie.Need-cast-push-number
-cast-push-number c = omega (arith, from-low _ (c .before .before .pre))
+cast-push-number c = let e = c .before .before .pre in omega (arith, from-low _ e, to-low _ e)
 
 push-number-requires : tie.Need-push-number-requires
 push-number-requires c κs = search needs
@@ -21,7 +21,7 @@ push-requires : tie.Need-push-requires
 push-requires c κs = search needs
 
 cast-push-number-2 : tie.Need-cast-push-number-2
-cast-push-number-2 c = omega (arith, to-low _ (c .before .before .before .before .before .before .pre))
+cast-push-number-2 c = let e = c .before .before .before .before .before .before .pre in omega (arith, from-low _ e, to-low _ e)
 
 push-number-requires-2 : tie.Need-push-number-requires-2
 push-number-requires-2 c κs = search needs
