@@ -1,5 +1,5 @@
 -- Texts of moves, by computation: what the Rust writes of them.
-use Prim.Native.Nat.{ℕ, _+_}
+use Prim.Native.Nat.{_+_}
 use Prim.Native.String.{String}
 use mathlib.Core.Path.{_≡_, refl}
 use mathlib.Core.List.{List, [], _∷_}

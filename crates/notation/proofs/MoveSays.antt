@@ -4,28 +4,25 @@ use mathlib.Core.Path.{_≡_, refl, sym, ap, ap₂, _∙_}
 use mathlib.Core.List.{List, [], _∷_, _++_, map}
 use mathlib.Core.Bool.{Bool, true, false, cond, _&&_, _||_, not, true≢false, false≢true}
 use native.Mathlib.Omega.{arith}
-use native.Mathlib.Numerals.{add-one}
-use native.Mathlib.Nat.{add-assoc, add-comm, add-zero}
+use native.Mathlib.Nat.{add-zero}
 use lib.Bits.{bitOr}
-use lib.Dec.{eqb, leb}
+use lib.Dec.{eqb}
 use lib.ListN.{length}
 use borrow.Author.Tests.{eqb-true, eqb-false, eq-eqb, ne-eqb, le-leb}
-use Rattle.squares.specs.Sets.{has, members}
-use Rattle.squares.specs.Squares.{isSquare, bitOf, squareAtBit, onBoard, single}
-use Rattle.squares.specs.declared.refusal.Refusal.the-variants.{TextTooLong}
+use Rattle.squares.specs.Sets.{members}
+use Rattle.squares.specs.Squares.{isSquare, squareAtBit, onBoard}
 use Rattle.squares.proofs.Bools.{and-left, and-right, and-both}
 use Rattle.squares.proofs.Members.{members-cons, members-none}
 use Rattle.squares.proofs.Numbers.{bit-square, bit-back, single-is}
 use Rattle.positions.specs.Moves.{isCapture, squaresOf}
 use Rattle.positions.specs.declared.moves.Move.{Move}
-use Rattle.texts.specs.Bytes.{ascii, readable, blank, is, trim, splitOn, joined, digits, readSquare}
+use Rattle.texts.specs.Bytes.{readable, blank, is, splitOn, joined, digits}
 use Rattle.texts.proofs.ListLaws.{each, each-map, each-imp, lacks, lacks-joined, trim-lacks, split-joined}
 use Rattle.texts.proofs.Clean.{high, Reader, blanks, dash, cross, above, lacks-of, digits-law, ascii-lacks}
 use Rattle.texts.proofs.Marks.{marks, always, put-members, each-members}
 use Rattle.notation.specs.MoveText.{separatorOf, named, moveText}
-use Rattle.notation.specs.Notation.{holds, atCut, unsaid, heardSquare, heardSquares, wellFormed, inForm, heardTrimmed, readMoveOf}
+use Rattle.notation.specs.Notation.{holds, atCut, unsaid, heardSquare, heardSquares, wellFormed, heardTrimmed, readMoveOf}
 use Rattle.notation.specs.declared.notation.Said.{Said}
-use Rattle.notation.specs.declared.notation.Heard.{Heard}
 use Rattle.notation.specs.declared.notation.Heard.the-variants as heard
 use Rattle.notation.proofs.Chosen.{Says}
 use Rattle.notation.proofs.MoveTexts.{OnBoard, on-board, move-short}

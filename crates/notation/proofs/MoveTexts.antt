@@ -8,7 +8,7 @@ use lib.Bits.{bitAnd}
 use lib.Dec.{eqb, ltb}
 use lib.ListN.{length, length-append, length-map}
 use borrow.Author.Tests.{eqb-true}
-use Rattle.squares.specs.Sets.{has, size, members, lowest, without}
+use Rattle.squares.specs.Sets.{has, size, members, lowest}
 use Rattle.squares.specs.Squares.{isSquare, squareAtBit, onBoard, all}
 use Rattle.squares.specs.Computed as squares
 use Rattle.squares.proofs.Bools.{and-left, and-right}

@@ -1,6 +1,6 @@
 -- One square a turn: what is put on and what remains are the whole list.
 use mathlib.Core.Path.{_≡_, refl, _∙_}
-use Prim.Native.Nat.{ℕ, _<_, _-_, _^_}
+use Prim.Native.Nat.{_<_, _-_, _^_}
 use borrow.Author.Needs.{needs}
 use native.Mathlib.Omega.{arith}
 use Rattle.squares.specs.Sets.{members, lowest}

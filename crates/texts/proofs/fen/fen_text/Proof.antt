@@ -1,5 +1,5 @@
 -- The side, then both fields.
-use Prim.Native.Nat.{_-_, _+_}
+use Prim.Native.Nat.{_-_}
 use Rattle.texts.proofs.Writers as laws
 use Rattle.positions.specs.Boards.{boardOf}
 use borrow.Author.Needs.{needs}

@@ -3,7 +3,6 @@ use mathlib.Core.Path.{sym, _∙_}
 use Prim.Native.Nat.{_-_}
 use denote.Ref.{now}
 use Rattle.texts.proofs.Readers as laws
-use Rattle.texts.specs.Bytes.{is}
 use borrow.Author.Needs.{needs}
 use Rattle.texts.proofs.fen.item.Statement.{statement}
 use Rattle.texts.proofs.fen.item.Tie as tie

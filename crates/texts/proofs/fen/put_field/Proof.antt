@@ -1,5 +1,5 @@
 -- Colon, letter, list.
-use Prim.Native.Nat.{_-_, _+_}
+use Prim.Native.Nat.{_-_}
 use Rattle.texts.proofs.Writers as laws
 use borrow.Author.Needs.{needs}
 use Rattle.texts.proofs.fen.put_field.Statement.{statement}

@@ -1,6 +1,6 @@
 -- One square a turn: what is put on and what remains are the whole list.
-use mathlib.Core.Path.{_≡_, ap, sym, _∙_}
-use Prim.Native.Nat.{ℕ, _<_, _-_, _+_, _^_}
+use mathlib.Core.Path.{_≡_, ap, _∙_}
+use Prim.Native.Nat.{_<_, _-_, _^_}
 use lib.ListN.{set}
 use Rattle.texts.proofs.Writers as laws
 use Rattle.texts.specs.Lent.{put}

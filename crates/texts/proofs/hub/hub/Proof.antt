@@ -5,7 +5,7 @@ use Prim.Native.Nat.{ℕ, _-_}
 use lib.ListN.{length-take}
 use denote.Ref.{now}
 use Rattle.texts.specs.Lent.{emitOf, emitted, content}
-use Rattle.texts.specs.Hub.{hubText, hubOf, hubLent}
+use Rattle.texts.specs.Hub.{hubOf, hubLent}
 use Rattle.positions.specs.Boards.{boardOf}
 use Rattle.texts.proofs.Writers.{filled}
 use Rattle.texts.proofs.HubTrip.{hub-length}

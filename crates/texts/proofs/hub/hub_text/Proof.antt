@@ -1,7 +1,7 @@
 -- One square a turn: what is put on and what remains are the whole text.
 use mathlib.Core.Path.{_≡_, _∙_}
 use mathlib.Core.List.{map}
-use Prim.Native.Nat.{ℕ, _≤_, _-_, _+_}
+use Prim.Native.Nat.{_≤_, _-_}
 use Rattle.texts.proofs.Writers as laws
 use Rattle.texts.specs.Lent.{noTextOf, put}
 use Rattle.texts.specs.Hub.{squaresFrom, hubChar, hubText}
