@@ -7,7 +7,7 @@ use native.Mathlib.Omega.{arith}
 use lib.Bits.{bitAnd}
 use lib.Dec.{eqb, ltb}
 use lib.ListN.{length, length-append, length-map}
-use borrow.Author.Tests.{eqb-true, le-leb}
+use borrow.Author.Tests.{eqb-true}
 use Rattle.squares.specs.Sets.{has, size, members, lowest, without}
 use Rattle.squares.specs.Squares.{isSquare, squareAtBit, onBoard, all}
 use Rattle.squares.specs.Computed as squares
@@ -21,11 +21,10 @@ use Rattle.positions.specs.Moves.{isCapture, squaresOf}
 use Rattle.positions.specs.declared.moves.Move.{Move}
 use Rattle.positions.proofs.Accepts.{squares-say}
 use Rattle.texts.specs.Bytes.{joined, digits}
-use Rattle.texts.specs.Lent.{emitOf, noTextOf, pushOf, put}
+use Rattle.texts.specs.Lent.{noTextOf, pushOf, put}
 use Rattle.texts.specs.declared.bytes.Text.{Text}
-use Rattle.texts.specs.declared.bytes.Wrote.the-variants as wrote
 use Rattle.texts.proofs.Writers.{put-two, put-one, put-none}
-use Rattle.notation.specs.MoveText.{separatorOf, named, moveText, shortText, takenText, toHubOf, displayOf}
+use Rattle.notation.specs.MoveText.{separatorOf, named, moveText, shortText, takenText}
 
 -- ---- what the test of refusal 11 says
 pub record OnBoard (m : Move) : Type 0 where
@@ -144,12 +143,3 @@ move-short m e =
 pub short-short : (m : Move) → length (shortText m) ≤ 5
 unfolding shortText
 short-short m = omega (arith, joined-short (separatorOf m) (m .from) (m .to ∷ []))
-
--- 155 lent bytes are enough for every move, 5 for its short text
-pub to-hub-room : (m : Move) (out : List ℕ) → squaresOf m ≡ true → 155 ≤ length out → toHubOf m out ≡ wrote.Length (length (moveText m))
-unfolding toHubOf emitOf
-to-hub-room m out e h = rw (e, le-leb (length (moveText m)) (length out) (omega (arith, move-short m e)))
-
-pub display-room : (m : Move) (out : List ℕ) → squaresOf m ≡ true → 5 ≤ length out → displayOf m out ≡ wrote.Length (length (shortText m))
-unfolding displayOf emitOf
-display-room m out e h = rw (e, le-leb (length (shortText m)) (length out) (omega (arith, short-short m)))
