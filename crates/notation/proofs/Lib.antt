@@ -7,3 +7,4 @@ pub mod MoveTexts
 pub mod MoveSays
 pub mod MoveTrip
 pub mod MoveRows
+pub mod MoveRoom

@@ -22,21 +22,17 @@ use Rattle.notation.proofs.Chosen.{parse-back}
 use Rattle.notation.proofs.MoveSays.{saidOf, says-move, move-says}
 
 -- a listed move of a sound position with at most 256 moves
-pub record Listed (p : Position) (m : Move) : Type 0 where
-  pub sound : Sound p
-  pub few : length (legal (boardOf p)) ≤ 256
-  pub listed : listed (legal (boardOf p)) m ≡ true
-
-module _ (p : Position) (m : Move) (h : Listed p m) where
+module _ (p : Position) (m : Move) (sound : Sound p) (few : length (legal (boardOf p)) ≤ 256) (in-list : listed (legal (boardOf p)) m ≡ true) where
+  -- the writers do not refuse it 11
   pub listed-squares : squaresOf m ≡ true
   listed-squares =
-      let fair = fair-of-accepted (boardOf p) (h .sound .accepted) in
-      legal-squares (boardOf p) fair m (listed-legal (boardOf p) fair m .0 (h .listed))
+      let fair = fair-of-accepted (boardOf p) (sound .accepted) in
+      legal-squares (boardOf p) fair m (listed-legal (boardOf p) fair m .0 in-list)
 
   -- reading what was written
   pub move-back : parseMoveOf p (moveText m) ≡ found.Move m
   move-back =
-      parse-back (saidOf m) m (says-move m listed-squares) p (moveText m) (move-says m listed-squares) (says-sound p (h .sound)) (h .few) (h .listed)
+      parse-back (saidOf m) m (says-move m listed-squares) p (moveText m) (move-says m listed-squares) (says-sound p sound) few in-list
 
   -- through lent space: n is the length that the writer told
   pub to-hub-lent-reads : (out : List ℕ) (n : ℕ) → toHubOf m out ≡ wrote.Length n → parseMoveOf p (take n (toHubLent m out)) ≡ found.Move m

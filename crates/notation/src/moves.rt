@@ -47,6 +47,7 @@ fn put_taken(start: Text, set: Bitboard) -> Text
     t
 }
 
+// The text into lent space: 19.
 fn write(t: Text, out: &mut [u8]) -> Wrote
     requires { ⌜ t .len ≤ length (t .bytes) ⌝ }
     ensures { λ r. ⌜ r ≡ emitOf (content t) (now (out .entry)) ⌝ }
