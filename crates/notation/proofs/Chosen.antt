@@ -5,8 +5,8 @@ use native.Mathlib.Omega.{arith}
 use mathlib.Core.Bool.{Bool, true, false, cond, _&&_, not, Bool·beq, true≢false, false≢true}
 use mathlib.Core.List.{List, [], _∷_}
 use lib.ListN.{length}
-use lib.Dec.{eqb, leb, ltb}
-use borrow.Author.Tests.{eqb-true, le-leb, lt-ltb, ltb-false}
+use lib.Dec.{eqb, ltb}
+use borrow.Author.Tests.{eqb-true, le-leb, ltb-false}
 use Rattle.positions.specs.Acceptance.{sound}
 use Rattle.positions.specs.Boards.{boardOf}
 use Rattle.positions.specs.Moves.{isCapture, same}
@@ -19,10 +19,9 @@ use Rattle.rules.proofs.Laws.{listed-once}
 use Rattle.rules.proofs.Same.{same-true}
 use Rattle.movegen.proofs.Listed.{fair-of}
 use Rattle.notation.specs.Notation.{readMoveOf}
-use Rattle.notation.specs.Choice.{begins, asHub, byEnds, orElse, fitting, only, answered, fitOf, fitHeard, parseMoveOf}
+use Rattle.notation.specs.Choice.{begins, asHub, byEnds, orElse, fitting, only, answered, fitOf, parseMoveOf}
 use Rattle.notation.specs.declared.notation.Said.{Said}
 use Rattle.notation.specs.declared.notation.Heard.the-variants as heard
-use Rattle.notation.specs.declared.notation.Found.{Found}
 use Rattle.notation.specs.declared.notation.Found.the-variants as found
 
 -- what was read says m: as Hub where it takes a piece, by its two squares where it takes none

@@ -3,3 +3,7 @@ pub mod Reading
 pub mod Search
 pub mod Fitted
 pub mod Chosen
+pub mod MoveTexts
+pub mod MoveSays
+pub mod MoveTrip
+pub mod MoveRows

@@ -8,7 +8,7 @@ use lib.ListN.{length, take, drop}
 use lib.Dec.{eqb, leb, ltb, leb·suc-suc}
 use lib.Bits.{bitOr}
 use borrow.Author.Tests.{eqb-true, eq-eqb, ne-eqb, lt-ltb, not-true}
-use Rattle.squares.proofs.Bools.{and-left, and-right, and-both}
+use Rattle.squares.proofs.Bools.{and-left, and-right}
 use Rattle.squares.specs.Squares.{single}
 use Rattle.squares.specs.declared.square.Numbered.{Numbered}
 use Rattle.squares.specs.declared.square.Numbered.the-variants as numbered

@@ -1,10 +1,9 @@
 -- Move texts on boards of document 01, from the texts on: what the definitions answer, by computation.
-use Prim.Native.Nat.{ℕ, _+_}
+use Prim.Native.Nat.{_+_}
 use Prim.Native.String.{String}
 use mathlib.Core.Path.{_≡_, refl}
 use mathlib.Core.List.{List, [], _∷_}
 use Rattle.squares.specs.Squares.{single}
-use Rattle.squares.specs.declared.refusal.Refusal.{Refusal}
 use Rattle.squares.specs.declared.refusal.Refusal.the-variants.{BadMoveText, NoMoveFits, SeveralFit}
 use Rattle.positions.specs.Moves.{move}
 use Rattle.positions.specs.declared.position.Position.{Position}

@@ -7,11 +7,10 @@ use mathlib.Core.Bool.{Bool, true, false, cond}
 use mathlib.Core.List.{List, [], _∷_, _++_}
 use lib.ListN.{length, take, getD}
 use lib.Seq.{take-suc, take-all}
-use lib.Dec.{leb, ltb}
+use lib.Dec.{leb}
 use borrow.Author.Tests.{leb-true, lt-ltb, le-ltb}
 use Rattle.squares.specs.declared.refusal.Refusal.{Refusal}
 use Rattle.squares.specs.declared.refusal.Refusal.the-variants.{BadPosition, TooManyMoves}
-use Rattle.squares.specs.declared.refusal.Answer.{Answer}
 use Rattle.squares.specs.declared.refusal.Answer.the-variants as answer
 use Rattle.positions.specs.Acceptance.{sound}
 use Rattle.positions.specs.Boards.{boardOf}
@@ -27,7 +26,7 @@ use Rattle.movegen.specs.declared.movegen.Listed.{Listed}
 use Rattle.notation.specs.Choice.{asHub, byEnds, orElse, fitting, only, answered, fitOf, oneMore, orChoice}
 use Rattle.notation.specs.declared.notation.Said.{Said}
 use Rattle.notation.specs.declared.notation.Choice.{Choice}
-use Rattle.notation.specs.declared.notation.Choice.the-variants.{Nothing, One, Several}
+use Rattle.notation.specs.declared.notation.Choice.the-variants.{Nothing}
 use Rattle.notation.specs.declared.notation.Found.{Found}
 use Rattle.notation.specs.declared.notation.Found.the-variants as found
 

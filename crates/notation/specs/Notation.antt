@@ -3,7 +3,7 @@
 use Prim.Native.Nat.{ℕ, _+_}
 use Prim.Native.Char.{code}
 use mathlib.Core.List.{List, [], _∷_}
-use mathlib.Core.Bool.{Bool, true, false, cond, _&&_, _||_, not}
+use mathlib.Core.Bool.{Bool, false, cond, _&&_, _||_, not}
 use lib.Dec.{eqb, leb}
 use lib.Bits.{bitOr}
 use Rattle.squares.specs.Squares.{single}

@@ -1,5 +1,5 @@
 -- The list tells 12 and 17; of the moves in it those that fit are looked for.
-use mathlib.Core.Path.{sym, ap, _∙_}
+use mathlib.Core.Path.{ap, _∙_}
 use Rattle.notation.specs.Choice.{answered}
 use Rattle.notation.proofs.Search.{fit-done, fit-refused}
 use borrow.Author.Needs.{needs}

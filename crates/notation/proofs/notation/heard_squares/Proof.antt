@@ -1,12 +1,12 @@
 -- One square a turn.
 use mathlib.Core.Path.{_≡_, refl, ap, sym, _∙_}
-use Prim.Native.Nat.{ℕ, _≤_, _-_, _+_}
+use Prim.Native.Nat.{_≤_, _-_, _+_}
 use native.Mathlib.Omega.{arith}
 use lib.ListN.{length, length-drop}
 use lib.Seq.{length-take-le}
 use denote.Ref.{now}
 use Rattle.texts.specs.Bytes.{is, partsFrom}
-use Rattle.texts.proofs.Cuts.{rest, parts-start}
+use Rattle.texts.proofs.Cuts.{rest}
 use Rattle.notation.specs.Notation.{heardSquares}
 use Rattle.notation.specs.declared.notation.Said.{Said}
 use Rattle.notation.proofs.Reading.{none, opened, heard-turn, heard-end, one-more}

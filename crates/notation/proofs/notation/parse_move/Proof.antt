@@ -1,5 +1,5 @@
 -- 12, then what was read is fitted; refusals are passed on.
-use mathlib.Core.Path.{refl, sym, ap, _∙_}
+use mathlib.Core.Path.{refl, sym, _∙_}
 use Rattle.notation.specs.Choice.{parseMoveOf}
 use borrow.Author.Needs.{needs}
 use Rattle.notation.proofs.notation.parse_move.Statement.{statement}

@@ -1,5 +1,5 @@
 -- 1, then the trimmed text.
-use mathlib.Core.Path.{refl, sym, ap, _∙_}
+use mathlib.Core.Path.{refl, ap, _∙_}
 use Rattle.notation.specs.Notation.{heardTrimmed, readMoveOf}
 use borrow.Author.Needs.{needs}
 use Rattle.notation.proofs.notation.read_move.Statement.{statement}

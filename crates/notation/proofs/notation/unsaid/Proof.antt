@@ -1,7 +1,6 @@
 -- The code writes the definition.
 use mathlib.Core.Path.{refl}
 use Rattle.notation.specs.Notation.{unsaid}
-use borrow.Author.Needs.{needs}
 use Rattle.notation.proofs.notation.unsaid.Statement.{statement}
 use Rattle.notation.proofs.notation.unsaid.Tie as tie
 

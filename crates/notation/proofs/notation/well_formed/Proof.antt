@@ -1,7 +1,6 @@
 -- The code tests what the definition does.
 use mathlib.Core.Path.{refl}
 use Rattle.notation.specs.Notation.{wellFormed}
-use borrow.Author.Needs.{needs}
 use Rattle.notation.proofs.notation.well_formed.Statement.{statement}
 use Rattle.notation.proofs.notation.well_formed.Tie as tie
 
