@@ -3,7 +3,7 @@ use mathlib.Core.Path.{_≡_, refl, sym, ap, ap₂, _∙_}
 use Prim.Native.Nat.{ℕ, _+_, _<_, _≤_}
 use native.Mathlib.Omega.{arith}
 use mathlib.Core.Bool.{Bool, true, false, cond, _&&_, not, Bool·beq, true≢false, false≢true}
-use mathlib.Core.List.{List, [], _∷_}
+use mathlib.Core.List.{List, [], _∷_, List·Memᴰ as Member, List·Memᴰ·head as head, List·Memᴰ·tail as tail}
 use lib.ListN.{length}
 use lib.Dec.{eqb, ltb}
 use borrow.Author.Tests.{eqb-true, le-leb, ltb-false}
@@ -19,7 +19,7 @@ use Rattle.rules.proofs.Laws.{listed-once}
 use Rattle.rules.proofs.Same.{same-true}
 use Rattle.movegen.proofs.Listed.{fair-of}
 use Rattle.notation.specs.Notation.{readMoveOf}
-use Rattle.notation.specs.Choice.{begins, asHub, byEnds, orElse, fitting, only, answered, fitOf, parseMoveOf}
+use Rattle.notation.specs.Choice.{begins, asHub, byEnds, orElse, fitting, only, fitOf, parseMoveOf}
 use Rattle.notation.specs.declared.notation.Said.{Said}
 use Rattle.notation.specs.declared.notation.Heard.the-variants as heard
 use Rattle.notation.specs.declared.notation.Found.the-variants as found
@@ -34,18 +34,18 @@ pub record Says (h : Said) (m : Move) : Type 0 where
   pub last : isCapture m ≡ false → h .last ≡ m .to
 
 -- ---- lists
-keep-ext : (p q : Move → Bool) → ((x : Move) → p x ≡ q x) → (l : List Move) → keep p l ≡ keep q l
+pub keep-ext : (p q : Move → Bool) (l : List Move) → ((x : Move) → Member x l → p x ≡ q x) → keep p l ≡ keep q l
 unfolding keep
-keep-ext p q h [] = refl
-keep-ext p q h (x ∷ l) = go (q x) refl (keep-ext p q h l)
+keep-ext p q [] h = refl
+keep-ext p q (x ∷ l) h = go (q x) refl (keep-ext p q l (λ y m. h y (tail m)))
   where
     go : (t : Bool) → q x ≡ t → keep p l ≡ keep q l → keep p (x ∷ l) ≡ keep q (x ∷ l)
-    go true e ih = keep-yes p x l (h x ∙ e) ∙ ap (λ (k : List Move). x ∷ k) ih ∙ sym (keep-yes q x l e)
-    go false e ih = keep-no p x l (h x ∙ e) ∙ ih ∙ sym (keep-no q x l e)
+    go true e ih = keep-yes p x l (h x (head refl) ∙ e) ∙ ap (λ (k : List Move). x ∷ k) ih ∙ sym (keep-yes q x l e)
+    go false e ih = keep-no p x l (h x (head refl) ∙ e) ∙ ih ∙ sym (keep-no q x l e)
 
 -- the entries that are m
 module _ (m : Move) where
-  is-it : Move → Bool
+  unfoldable pub is-it : Move → Bool
   is-it x = same x m
 
   kept-none : (l : List Move) → times same l m ≡ 0 → keep is-it l ≡ []
@@ -57,7 +57,7 @@ module _ (m : Move) where
       go true e ih k = absurd (omega arith)
       go false e ih k = keep-no is-it y l e ∙ ih (omega (arith, k))
 
-  kept-one : (l : List Move) → times same l m ≡ 1 → keep is-it l ≡ m ∷ []
+  pub kept-one : (l : List Move) → times same l m ≡ 1 → keep is-it l ≡ m ∷ []
   unfolding times keep is-it
   kept-one [] h = absurd (omega arith)
   kept-one (y ∷ l) h = go (same y m) refl (kept-one l) h
@@ -125,7 +125,7 @@ module _ (h : Said) (m : Move) (s : Says h m) where
   chosen-back l e = go (ltb 2 (h .count)) refl
     where
       hub : keep (asHub h) l ≡ m ∷ []
-      hub = keep-ext (asHub h) (is-it m) hub-same l ∙ kept-one m l e
+      hub = keep-ext (asHub h) (is-it m) l (λ x k. hub-same x) ∙ kept-one m l e
 
       -- two squares only: not a capture
       quiet : ltb 2 (h .count) ≡ false → isCapture m ≡ false
@@ -137,13 +137,13 @@ module _ (h : Said) (m : Move) (s : Says h m) where
 
       go : (t : Bool) → ltb 2 (h .count) ≡ t → cond t (orElse (keep (asHub h) l) (keep (byEnds h) l)) (keep (byEnds h) l) ≡ m ∷ []
       go true f = ap (λ (k : List Move). orElse k (keep (byEnds h) l)) hub
-      go false f = keep-ext (byEnds h) (is-it m) (quiet-same (quiet f)) l ∙ kept-one m l e
+      go false f = keep-ext (byEnds h) (is-it m) l (λ x k. quiet-same (quiet f) x) ∙ kept-one m l e
 
   -- on a position: what was read of a listed move is answered with that move
   pub fit-back : (p : Position) → sound p ≡ true → length (legal (boardOf p)) ≤ 256 → listed (legal (boardOf p)) m ≡ true → fitOf p h ≡ found.Move m
   unfolding fitOf only
   fit-back p e few l =
-      rw (e, le-leb _ 256 few) (ap (λ (k : List Move). answered (only k)) (chosen-back (legal (boardOf p)) (listed-once (boardOf p) (fair-of p e) m l)))
+      rw (e, le-leb _ 256 few) (ap only (chosen-back (legal (boardOf p)) (listed-once (boardOf p) (fair-of p e) m l)))
 
   -- and the text that says it, too
   pub parse-back : (p : Position) (text : List ℕ) → readMoveOf text ≡ heard.Said h → sound p ≡ true → length (legal (boardOf p)) ≤ 256

@@ -4,13 +4,16 @@ use Prim.Native.String.{String}
 use mathlib.Core.Path.{_≡_, refl}
 use mathlib.Core.List.{List, [], _∷_}
 use Rattle.squares.specs.Squares.{single}
-use Rattle.squares.specs.declared.refusal.Refusal.the-variants.{BadMoveText, NoMoveFits, SeveralFit}
+use Rattle.squares.specs.declared.refusal.Refusal.the-variants.{TextTooLong, BadMoveText, BadPosition, NoMoveFits, SeveralFit}
+use Rattle.squares.specs.declared.piece.Color.the-variants.{White}
+use Rattle.positions.specs.Boards.{board}
+use Rattle.positions.specs.Hash.{positionOf}
 use Rattle.positions.specs.Moves.{move}
 use Rattle.positions.specs.declared.position.Position.{Position}
 use Rattle.positions.specs.declared.position.Placed.{Placed}
 use Rattle.positions.specs.declared.position.Placed.the-variants as placed
 use Rattle.texts.specs.Fen.{fromFenOf}
-use Rattle.texts.proofs.Rows.{bytes}
+use Rattle.texts.proofs.Rows.{bytes, repeated}
 use Rattle.notation.specs.Computed.{computed}
 use Rattle.notation.specs.Choice.{parseMoveOf}
 use Rattle.notation.specs.declared.notation.Found.{Found}
@@ -65,3 +68,20 @@ unfolding computed
 rows-hold =
     All.more refl (All.more refl (All.more refl (All.more refl (All.more refl (All.more refl (All.more refl (All.more refl
     (All.more refl (All.more refl (All.more refl (All.more refl (All.more refl (All.more refl (All.more refl (All.more refl All.none)))))))))))))))
+
+-- ---- the order: 12 before 1, 1 before 9; 4,096 bytes are read, one more is 1
+abbrev here : Position
+here = positionOf (board (single 28) (single 13 + single 22 + single 23) 0 White)
+
+abbrev there : Position
+there = record { white = here .white; black = here .black; kings = here .kings; side = here .side; hash = 0 }
+
+abbrev fits : Found
+fits = found.Move (move 28 8 (single 13 + single 23))
+
+pub orders : (parseMoveOf there (128 ∷ []) ≡ found.Refused BadPosition)
+    × (parseMoveOf here (128 ∷ []) ≡ found.Refused TextTooLong)
+    × (parseMoveOf here (repeated 4092 32 (bytes "28x8")) ≡ fits)
+    × (parseMoveOf here (repeated 4093 32 (bytes "28x8")) ≡ found.Refused TextTooLong)
+unfolding computed
+orders = (refl, refl, refl, refl)

@@ -23,7 +23,7 @@ use Rattle.rules.proofs.Lists.{keep-yes, keep-no}
 use Rattle.capture_laws.proofs.Stored.{few-entries}
 use Rattle.movegen.specs.Lists.{refusedList, listedOf, legalMovesOf}
 use Rattle.movegen.specs.declared.movegen.Listed.{Listed}
-use Rattle.notation.specs.Choice.{asHub, byEnds, orElse, fitting, only, answered, fitOf, oneMore, orChoice}
+use Rattle.notation.specs.Choice.{asHub, byEnds, orElse, fitting, only, choiceOf, answered, fitOf, oneMore, orChoice}
 use Rattle.notation.specs.declared.notation.Said.{Said}
 use Rattle.notation.specs.declared.notation.Choice.{Choice}
 use Rattle.notation.specs.declared.notation.Choice.the-variants.{Nothing}
@@ -31,11 +31,11 @@ use Rattle.notation.specs.declared.notation.Found.{Found}
 use Rattle.notation.specs.declared.notation.Found.the-variants as found
 
 -- ---- one entry more
-only-snoc : (l : List Move) (m : Move) → only (l ++ (m ∷ [])) ≡ oneMore (only l) m
-unfolding only
-only-snoc [] m = refl
-only-snoc (x ∷ []) m = refl
-only-snoc (x ∷ (y ∷ l)) m = refl
+choice-snoc : (l : List Move) (m : Move) → choiceOf (l ++ (m ∷ [])) ≡ oneMore (choiceOf l) m
+unfolding choiceOf
+choice-snoc [] m = refl
+choice-snoc (x ∷ []) m = refl
+choice-snoc (x ∷ (y ∷ l)) m = refl
 
 keep-snoc : (p : Move → Bool) (l : List Move) (x : Move) → keep p (l ++ (x ∷ [])) ≡ cond (p x) (keep p l ++ (x ∷ [])) (keep p l)
 unfolding keep
@@ -57,40 +57,46 @@ keep-snoc p (y ∷ l) x = go (p y) refl (keep-snoc p l x)
         ∙ sym (ap (λ (k : List Move). cond (p x) (k ++ (x ∷ [])) k) (keep-yes p y l e))
     go false e ih = keep-no p y (l ++ (x ∷ [])) e ∙ ih ∙ sym (ap (λ (k : List Move). cond (p x) (k ++ (x ∷ [])) k) (keep-no p y l e))
 
-only-cond : (t : Bool) (l : List Move) (m : Move) → only (cond t (l ++ (m ∷ [])) l) ≡ cond t (oneMore (only l) m) (only l)
-only-cond true l m = only-snoc l m
-only-cond false l m = refl
+choice-cond : (t : Bool) (l : List Move) (m : Move) → choiceOf (cond t (l ++ (m ∷ [])) l) ≡ cond t (oneMore (choiceOf l) m) (choiceOf l)
+choice-cond true l m = choice-snoc l m
+choice-cond false l m = refl
 
 -- t is whether the entry at i fits
 pub search-turn : (p : Move → Bool) (l : List Move) (i : ℕ) (d : Move) (t : Bool) (c r : Choice) → i < length l
-    → c ≡ only (keep p (take i l)) → t ≡ p (getD l i d) → r ≡ cond t (oneMore c (getD l i d)) c → r ≡ only (keep p (take (i + 1) l))
+    → c ≡ choiceOf (keep p (take i l)) → t ≡ p (getD l i d) → r ≡ cond t (oneMore c (getD l i d)) c → r ≡ choiceOf (keep p (take (i + 1) l))
 search-turn p l i d t c r h e f g =
     g ∙ ap₂ (λ (b : Bool) (k : Choice). cond b (oneMore k (getD l i d)) k) f e
-    ∙ sym (ap (λ (k : List Move). only (keep p k)) (ap (λ (n : ℕ). take n l) (add-one i) ∙ take-suc l i d h)
-    ∙ ap only (keep-snoc p (take i l) (getD l i d)) ∙ only-cond (p (getD l i d)) (keep p (take i l)) (getD l i d))
+    ∙ sym (ap (λ (k : List Move). choiceOf (keep p k)) (ap (λ (n : ℕ). take n l) (add-one i) ∙ take-suc l i d h)
+    ∙ ap choiceOf (keep-snoc p (take i l) (getD l i d)) ∙ choice-cond (p (getD l i d)) (keep p (take i l)) (getD l i d))
 
-pub search-none : (p : Move → Bool) (l : List Move) → Nothing ≡ only (keep p (take 0 l))
-unfolding only keep
+pub search-none : (p : Move → Bool) (l : List Move) → Nothing ≡ choiceOf (keep p (take 0 l))
+unfolding choiceOf keep
 search-none p l = refl
 
 -- past the end there is nothing more
-pub search-all : (p : Move → Bool) (l : List Move) (n i : ℕ) → length l ≤ n → length l ≤ i → only (keep p (take i l)) ≡ only (keep p (take n l))
-search-all p l n i h k = ap (λ (x : List Move). only (keep p x)) (take-all i l k ∙ sym (take-all n l h))
+pub search-all : (p : Move → Bool) (l : List Move) (n i : ℕ) → length l ≤ n → length l ≤ i → choiceOf (keep p (take i l)) ≡ choiceOf (keep p (take n l))
+search-all p l n i h k = ap (λ (x : List Move). choiceOf (keep p x)) (take-all i l k ∙ sym (take-all n l h))
 
 -- ---- Hub first
-only-or : (k l : List Move) → only (orElse k l) ≡ orChoice (only k) (only l)
-unfolding only orElse
-only-or [] l = refl
-only-or (x ∷ []) l = refl
-only-or (x ∷ (y ∷ k)) l = refl
+choice-or : (k l : List Move) → choiceOf (orElse k l) ≡ orChoice (choiceOf k) (choiceOf l)
+unfolding choiceOf orElse
+choice-or [] l = refl
+choice-or (x ∷ []) l = refl
+choice-or (x ∷ (y ∷ k)) l = refl
 
-pub choose-hub : (h : Said) (l : List Move) (a : Choice) → 2 < h .count → a ≡ only (keep (asHub h) l) → only (fitting h l) ≡ orChoice a (only (keep (byEnds h) l))
+pub choose-hub : (h : Said) (l : List Move) (a : Choice) → 2 < h .count → a ≡ choiceOf (keep (asHub h) l) → choiceOf (fitting h l) ≡ orChoice a (choiceOf (keep (byEnds h) l))
 unfolding fitting
-choose-hub h l a c e = rw (lt-ltb 2 (h .count) c, e) (only-or (keep (asHub h) l) (keep (byEnds h) l))
+choose-hub h l a c e = rw (lt-ltb 2 (h .count) c, e) (choice-or (keep (asHub h) l) (keep (byEnds h) l))
 
-pub choose-ends : (h : Said) (l : List Move) → h .count ≤ 2 → only (fitting h l) ≡ only (keep (byEnds h) l)
+pub choose-ends : (h : Said) (l : List Move) → h .count ≤ 2 → choiceOf (fitting h l) ≡ choiceOf (keep (byEnds h) l)
 unfolding fitting
 choose-ends h l c = rw (le-ltb 2 (h .count) c) refl
+
+choice-only : (l : List Move) → answered (choiceOf l) ≡ only l
+unfolding only choiceOf
+choice-only [] = refl
+choice-only (x ∷ []) = refl
+choice-only (x ∷ (y ∷ l)) = refl
 
 -- ---- on a position
 of-refused : {e f : Refusal} → answer.Refused e ≡ answer.Refused f → e ≡ f
@@ -101,7 +107,7 @@ module _ (p : Position) (h : Said) where
   told s t = cond s (cond t (record { answer = answer.Done; list = listOf (legal (boardOf p)) }) (refusedList TooManyMoves)) (refusedList BadPosition)
 
   abbrev said : Bool → Bool → Found
-  said s t = cond s (cond t (answered (only (fitting h (legal (boardOf p))))) (found.Refused TooManyMoves)) (found.Refused BadPosition)
+  said s t = cond s (cond t (only (fitting h (legal (boardOf p)))) (found.Refused TooManyMoves)) (found.Refused BadPosition)
 
   told-is : legalMovesOf p 256 ≡ told (sound p) (leb (length (legal (boardOf p))) 256)
   unfolding legalMovesOf listedOf
@@ -111,14 +117,15 @@ module _ (p : Position) (h : Said) where
   unfolding fitOf
   said-is = refl
 
-  pub fit-done : (l : Listed) → l ≡ legalMovesOf p 256 → l .answer ≡ answer.Done → answered (only (fitting h (entries (l .list)))) ≡ fitOf p h
+  pub fit-done : (l : Listed) → l ≡ legalMovesOf p 256 → l .answer ≡ answer.Done → answered (choiceOf (fitting h (entries (l .list)))) ≡ fitOf p h
   fit-done l e d =
-      ap (λ (x : Listed). answered (only (fitting h (entries (x .list))))) (e ∙ told-is)
+      ap (λ (x : Listed). answered (choiceOf (fitting h (entries (x .list))))) (e ∙ told-is)
       ∙ go (sound p) (leb (length (legal (boardOf p))) 256) refl (sym (ap (λ (x : Listed). x .answer) (e ∙ told-is)) ∙ d) ∙ said-is
     where
       go : (s t : Bool) → leb (length (legal (boardOf p))) 256 ≡ t → told s t .answer ≡ answer.Done
-          → answered (only (fitting h (entries (told s t .list)))) ≡ said s t
-      go true true e d = ap (λ (xs : List Move). answered (only (fitting h xs))) (few-entries (legal (boardOf p)) (leb-true _ _ e))
+          → answered (choiceOf (fitting h (entries (told s t .list)))) ≡ said s t
+      go true true e d =
+          ap (λ (xs : List Move). answered (choiceOf (fitting h xs))) (few-entries (legal (boardOf p)) (leb-true _ _ e)) ∙ choice-only (fitting h (legal (boardOf p)))
       go true false e d = absurd (let z : _≡_ {A = ℕ} 0 1 = cc in omega arith)
       go false t e d = absurd (let z : _≡_ {A = ℕ} 0 1 = cc in omega arith)
 

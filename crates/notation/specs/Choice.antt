@@ -43,23 +43,17 @@ orElse (m ∷ k) l = m ∷ k
 unfoldable pub fitting : Said → List Move → List Move
 fitting h l = cond (ltb 2 (h .count)) (orElse (keep (asHub h) l) (keep (byEnds h) l)) (keep (byEnds h) l)
 
--- none, one, several
-unfoldable pub only : List Move → Choice
-only [] = Nothing
-only (m ∷ []) = One m
-only (m ∷ (n ∷ l)) = Several
-
--- 15, the move, 16
-abbrev pub answered : Choice → Found
-answered Nothing = found.Refused NoMoveFits
-answered (One m) = found.Move m
-answered Several = found.Refused SeveralFit
+-- 15 where there is none, 16 where there are several
+unfoldable pub only : List Move → Found
+only [] = found.Refused NoMoveFits
+only (m ∷ []) = found.Move m
+only (m ∷ (n ∷ l)) = found.Refused SeveralFit
 
 -- 12, 17, 15, 16
 unfoldable pub fitOf : Position → Said → Found
 fitOf p h =
     cond (sound p)
-    (cond (leb (length (legal (boardOf p))) 256) (answered (only (fitting h (legal (boardOf p))))) (found.Refused TooManyMoves))
+    (cond (leb (length (legal (boardOf p))) 256) (only (fitting h (legal (boardOf p)))) (found.Refused TooManyMoves))
     (found.Refused BadPosition)
 
 -- what was read is fitted, a refusal is passed on
@@ -78,6 +72,12 @@ abbrev pub fits : Said → Bool → Move → Bool
 fits h true = asHub h
 fits h false = byEnds h
 
+-- none, one, several
+unfoldable pub choiceOf : List Move → Choice
+choiceOf [] = Nothing
+choiceOf (m ∷ []) = One m
+choiceOf (m ∷ (n ∷ l)) = Several
+
 -- one more that fits
 abbrev pub oneMore : Choice → Move → Choice
 oneMore Nothing m = One m
@@ -89,3 +89,8 @@ abbrev pub orChoice : Choice → Choice → Choice
 orChoice Nothing d = d
 orChoice (One m) d = One m
 orChoice Several d = Several
+
+abbrev pub answered : Choice → Found
+answered Nothing = found.Refused NoMoveFits
+answered (One m) = found.Move m
+answered Several = found.Refused SeveralFit

@@ -17,7 +17,7 @@ ghost use Rattle.texts.specs.Bytes.{is, splitOn};
 ghost use Rattle.captures.specs.Lists.{entries};
 ghost use Rattle.rules.specs.Lists.{keep};
 ghost use Rattle.notation.specs.Notation.{holds, unsaid, heardSquare, heardSquares, wellFormed, inForm, heardTrimmed, readMoveOf};
-ghost use Rattle.notation.specs.Choice.{begins, asHub, byEnds, fits, fitting, only, oneMore, answered, fitOf, parseMoveOf};
+ghost use Rattle.notation.specs.Choice.{begins, asHub, byEnds, fits, fitting, choiceOf, oneMore, answered, fitOf, parseMoveOf};
 
 // What a move's text says: the first, the second and the last square, how many were read, and the set of the third and later ones.
 pub struct Said {
@@ -216,7 +216,7 @@ fn counted(c: Choice, fits: bool, m: Move) -> Choice
 
 // The moves of a list that fit.
 fn search(list: MoveList, h: Said, hub: bool) -> Choice
-    ensures { λ r. ⌜ r ≡ only (keep (fits h hub) (entries list)) ⌝ }
+    ensures { λ r. ⌜ r ≡ choiceOf (keep (fits h hub) (entries list)) ⌝ }
 {
     let len = list.len;
     let mut found = Choice::Nothing;
@@ -234,7 +234,7 @@ fn search(list: MoveList, h: Said, hub: bool) -> Choice
 
 // Hub first, where there are three squares or more.
 fn choose(list: MoveList, h: Said) -> Choice
-    ensures { λ r. ⌜ r ≡ only (fitting h (entries list)) ⌝ }
+    ensures { λ r. ⌜ r ≡ choiceOf (fitting h (entries list)) ⌝ }
 {
     if 2 < h.count {
         match search(list, h, true) {

@@ -2,7 +2,7 @@
 use mathlib.Core.Path.{sym, ap, _∙_}
 use Rattle.captures.specs.Lists.{entries}
 use Rattle.rules.specs.Lists.{keep}
-use Rattle.notation.specs.Choice.{byEnds, only, orChoice}
+use Rattle.notation.specs.Choice.{byEnds, choiceOf, orChoice}
 use Rattle.notation.specs.declared.notation.Choice.{Choice}
 use Rattle.notation.proofs.Search.{choose-hub, choose-ends}
 use borrow.Author.Needs.{needs}
@@ -33,21 +33,21 @@ returns c =
     let s = c .before .before .before .search in
     c .search2 .ensures
     ∙ sym (choose-hub (a .h) (entries (a .list)) (s .result) (c .before .before .before .before .if1 .taken) (s .ensures)
-    ∙ ap (λ (x : Choice). orChoice x (only (keep (byEnds (a .h)) (entries (a .list))))) (c .before .enum-told .given .1))
+    ∙ ap (λ (x : Choice). orChoice x (choiceOf (keep (byEnds (a .h)) (entries (a .list))))) (c .before .enum-told .given .1))
 
 returns-2 : tie.Need-returns-2
 returns-2 c =
     let a = c .before .before .before .before .before .before .args in
     let s = c .before .before .before .search in
     sym (choose-hub (a .h) (entries (a .list)) (s .result) (c .before .before .before .before .if1 .taken) (s .ensures)
-    ∙ ap (λ (x : Choice). orChoice x (only (keep (byEnds (a .h)) (entries (a .list))))) (c .before .m .given .1))
+    ∙ ap (λ (x : Choice). orChoice x (choiceOf (keep (byEnds (a .h)) (entries (a .list))))) (c .before .m .given .1))
 
 returns-3 : tie.Need-returns-3
 returns-3 c =
     let a = c .before .before .before .before .before .args in
     let s = c .before .before .search in
     sym (choose-hub (a .h) (entries (a .list)) (s .result) (c .before .before .before .if1 .taken) (s .ensures)
-    ∙ ap (λ (x : Choice). orChoice x (only (keep (byEnds (a .h)) (entries (a .list))))) (c .enum-told2 .given .1))
+    ∙ ap (λ (x : Choice). orChoice x (choiceOf (keep (byEnds (a .h)) (entries (a .list))))) (c .enum-told2 .given .1))
 
 returns-4 : tie.Need-returns-4
 returns-4 c =

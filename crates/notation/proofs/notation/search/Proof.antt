@@ -6,14 +6,14 @@ use lib.ListN.{take, length}
 use Rattle.captures.specs.Lists.{blank}
 use Rattle.captures.proofs.Listed.{length-of-map}
 use Rattle.rules.specs.Lists.{keep}
-use Rattle.notation.specs.Choice.{fits, only}
+use Rattle.notation.specs.Choice.{fits, choiceOf}
 use Rattle.notation.proofs.Search.{search-turn, search-none, search-all}
 use borrow.Author.Needs.{needs}
 use Rattle.notation.proofs.notation.search.Statement.{statement}
 use Rattle.notation.proofs.notation.search.Tie as tie
 
 abbrev Inv-loop : tie.InvT-loop
-Inv-loop h hub list len found₀ i₀ found i = (found ≡ only (keep (fits h hub) (take i (list .moves)))) × ((i ≤ len) × (i ≤ 256))
+Inv-loop h hub list len found₀ i₀ found i = (found ≡ choiceOf (keep (fits h hub) (take i (list .moves)))) × ((i ≤ len) × (i ≤ 256))
 
 abbrev μ-loop : tie.MeasureT-loop
 μ-loop h hub list len found₀ i₀ found i = 256 - i
@@ -26,7 +26,7 @@ returns c =
     let a = c .before .before .before .args in
     let l = c .before .before .loop in
     let e : a .t1 .len ≡ l .i = omega arith in
-    l .inv .0 ∙ sym (ap (λ (n : ℕ). only (keep (fits (a .h) (a .hub)) (take n (a .t1 .moves)))) e)
+    l .inv .0 ∙ sym (ap (λ (n : ℕ). choiceOf (keep (fits (a .h) (a .hub)) (take n (a .t1 .moves)))) e)
 
 mul-entry : tie.Need-mul-entry Inv-loop μ-loop
 mul-entry c = search needs
