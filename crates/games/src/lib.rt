@@ -1,0 +1,2 @@
+// Games: a start, the plays on it and how they end. A game is handed in and handed back by value.
+pub mod game;
