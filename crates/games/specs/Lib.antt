@@ -1,3 +1,5 @@
 pub mod Games
 pub mod Play
+pub mod Book
+pub mod Demand3
 pub mod Computed
