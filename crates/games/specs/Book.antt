@@ -98,17 +98,19 @@ unfoldable pub firstToHold : List Test → Verdict
 firstToHold [] = goesOn
 firstToHold (t ∷ ts) = elim (t .holds) [ true ↦ ends (t .gives) | false ↦ firstToHold ts ]
 
-unfoldable pub bookTests : Book → List Test
-bookTests b =
-    lost (standing b .side) (eqb (length (legal (standing b))) 0)
-    ∷ draw Repetition (leb 3 (timesIn (standing b) (b .positions)))
-    ∷ draw TwentyFiveMoves (leb 50 (b .first))
-    ∷ draw SixteenMoves (threePieces (standing b) && leb 32 (b .second))
-    ∷ draw FiveMoves (twoPieces (standing b) && leb 10 (b .second))
+-- the tests of `outcome` in order, by the last position, how often it has stood and the two counts
+unfoldable pub testsAt : Board → ℕ → ℕ → ℕ → List Test
+testsAt p times first second =
+    lost (p .side) (eqb (length (legal p)) 0)
+    ∷ draw Repetition (leb 3 times)
+    ∷ draw TwentyFiveMoves (leb 50 first)
+    ∷ draw SixteenMoves (threePieces p && leb 32 second)
+    ∷ draw FiveMoves (twoPieces p && leb 10 second)
     ∷ []
 
+-- stood three times means in the whole book
 unfoldable pub bookOutcome : Book → Verdict
-bookOutcome b = firstToHold (bookTests b)
+bookOutcome b = firstToHold (testsAt (standing b) (timesIn (standing b) (b .positions)) (b .first) (b .second))
 
 abbrev pub over : Verdict → Bool
 over goesOn = false
