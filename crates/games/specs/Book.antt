@@ -87,10 +87,10 @@ pub record Test : Type 0 where
   pub holds : Bool
   pub gives : Outcome
 
-abbrev lost : Color → Bool → Test
+abbrev pub lost : Color → Bool → Test
 lost c t = record { holds = t; gives = record { winner = Side (other c); termination = NoMoves } }
 
-abbrev draw : Termination → Bool → Test
+abbrev pub draw : Termination → Bool → Test
 draw why t = record { holds = t; gives = record { winner = Nobody; termination = why } }
 
 -- the first test to hold, else none
