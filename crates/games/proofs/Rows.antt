@@ -1,45 +1,54 @@
--- Boards of document 01, as rows under a common statement: what a game on them answers.
+-- Boards of document 01 and small games, as rows under a common statement: what the book says of them.
 use mathlib.Core.Path.{_≡_, refl}
-use mathlib.Core.List.{List, [], _∷_}
+use mathlib.Core.List.{List, [], _∷_, _++_}
 use Prim.Native.Nat.{ℕ, _+_}
 use Rattle.squares.specs.Squares.{single}
 use Rattle.squares.specs.declared.piece.Color.the-variants.{White, Black}
-use Rattle.squares.specs.declared.refusal.Answer.{Answer}
-use Rattle.squares.specs.declared.refusal.Answer.the-variants.{Done, Refused}
-use Rattle.squares.specs.declared.refusal.Refusal.the-variants.{NoSuchSquare, NoMoveFits, GameOver, BadPosition, BadGame}
 use Rattle.positions.specs.Boards.{Board, board, start}
 use Rattle.positions.specs.Hash.{positionOf}
 use Rattle.positions.specs.Moves.{move}
 use Rattle.positions.specs.declared.moves.Move.{Move}
+use Rattle.games.specs.Book.{begunBook, bookAnswers, bookAfter, bookOutcome}
 use Rattle.games.specs.Computed.{computed}
-use Rattle.games.specs.Games.{won, drawn, blankPosition}
-use Rattle.games.specs.Play.{freshOf, newOf, playOf, outcomeOf}
-use Rattle.games.specs.declared.game.Game.{Game}
+use Rattle.games.specs.Demand3.{heard, toldAs}
+use Rattle.games.specs.Games.{won, drawn}
 use Rattle.games.specs.declared.game.Judged.{Judged}
-use Rattle.games.specs.declared.game.Judged.the-variants as judged
-use Rattle.games.specs.declared.game.Termination.the-variants.{Repetition, FiveMoves}
+use Rattle.games.specs.declared.game.Judged.the-variants.{Going}
+use Rattle.games.specs.declared.game.Termination.the-variants.{Repetition}
 
--- what the outcome of a game begun on the board is
-pub data Ends : List (Board × Judged) → Type 0 where
-  none : Ends []
-  more : {b : Board} {o : Judged} {rs : List (Board × Judged)} → outcomeOf (freshOf (positionOf b)) ≡ o → Ends rs → Ends ((b, o) ∷ rs)
+-- a start, the records played, their answers and the outcome after them
+pub record Row : Type 0 where
+  pub on : Board
+  pub moves : List Move
+  pub answers : List ℕ
+  pub outcome : Judged
 
--- P1 goes on; P2, the empty board: Black has won
-abbrev pub endings : List (Board × Judged)
-endings = (start, judged.Going) ∷ (board 0 0 0 White, won Black) ∷ []
+abbrev row : Board → List Move → List ℕ → Judged → Row
+row b ms ns o = record { on = b; moves = ms; answers = ns; outcome = o }
 
-pub endings-hold : Ends endings
-unfolding computed
-endings-hold = Ends.more refl (Ends.more refl Ends.none)
+-- what the program's definitions say of the row
+pub record Said (r : Row) : Type 0 where
+  pub answers : heard (positionOf (r .on)) (r .moves) .answers ≡ r .answers
+  pub outcome : heard (positionOf (r .on)) (r .moves) .outcome ≡ r .outcome
 
--- the answers to a list of records, and the game after it
-abbrev answers : Game → List Move → List Answer
-answers g [] = []
-answers g (m ∷ ms) = let r = playOf g m in r .answer ∷ answers (r .game) ms
+-- what the book says of it
+pub record Written (r : Row) : Type 0 where
+  pub answers : bookAnswers (begunBook (r .on)) (r .moves) ≡ r .answers
+  pub outcome : toldAs (bookOutcome (bookAfter (begunBook (r .on)) (r .moves))) ≡ r .outcome
 
 abbrev kings : Board
 kings = board (single 1) (single 50) (single 1 + single 50) White
 
-try : answers (freshOf (positionOf kings)) (move 1 7 0 ∷ move 50 46 0 ∷ move 50 44 0 ∷ move 7 1 0 ∷ move 51 1 0 ∷ []) ≡ Done ∷ Refused NoMoveFits ∷ Done ∷ Done ∷ Refused NoSuchSquare ∷ []
+abbrev round : List Move
+round = move 1 7 0 ∷ move 50 44 0 ∷ move 7 1 0 ∷ move 44 50 0 ∷ []
+
+abbrev r1 : Row
+r1 = row kings (round ++ (round ++ (move 1 7 0 ∷ []))) (0 ∷ 0 ∷ 0 ∷ 0 ∷ 0 ∷ 0 ∷ 0 ∷ 0 ∷ 14 ∷ []) (drawn Repetition)
+
+try : Said r1
 unfolding computed
-try = refl
+try = record { answers = refl; outcome = refl }
+
+try2 : Written r1
+unfolding computed
+try2 = record { answers = refl; outcome = refl }

@@ -1,66 +1,34 @@
--- Laws on what a game keeps: what the test of refusal 13 says, the window position by position, entries still blank.
+-- Laws on what a game keeps: the window position by position, entries still blank.
 use mathlib.Core.Path.{_≡_, refl, sym, ap, _∙_}
 use Prim.Native.Nat.{ℕ, zero, suc, _+_, _-_, _<_, _≤_}
 use native.Mathlib.Omega.{arith}
 use native.Mathlib.Numerals.{add-one}
-use mathlib.Core.Bool.{Bool, true, false, cond, _&&_, false≢true}
+use mathlib.Core.Bool.{Bool, true, false, cond, false≢true}
 use mathlib.Core.List.{List, [], _∷_, _++_}
-use lib.Dec.{eqb, leb}
+use lib.Dec.{leb}
 use lib.ListN.{length, take, getD, set, replicate}
 use lib.Seq.{append-snoc, set-at, take-suc, length-take-le}
-use borrow.Author.Tests.{eqb-true, leb-true, leb-false}
+use borrow.Author.Tests.{leb-false}
 use Rattle.squares.specs.Pieces.{other}
-use Rattle.squares.proofs.Bools.{and-left, and-right, and-both, not-so}
+use Rattle.squares.proofs.Bools.{and-left, and-right, not-so}
 use Rattle.positions.specs.Acceptance.{sound}
 use Rattle.positions.specs.Boards.{Board, boardOf}
 use Rattle.positions.specs.declared.position.Position.{Position}
 use Rattle.rules.specs.Lists.{times}
-use Rattle.games.specs.Games.{blankPosition, windowOf, lastOf, allSound, valid, samePosition, stood, canMove, won, drawn, kingEnding, judge, judgedOf, ended}
+use Rattle.games.specs.Games.{blankPosition, windowOf, lastOf, allSound, samePosition, canMove, won, drawn, kingEnding, judge, ended}
 use Rattle.games.specs.declared.game.Game.{Game}
+use Rattle.games.proofs.Valid.{Valid, sound-append, sound-one}
 use Rattle.games.specs.declared.game.Termination.the-variants.{Repetition, TwentyFiveMoves}
 
--- ---- refusal 13
-
-pub record Valid (g : Game) : Type 0 where
-  pub reversible : g .reversible ≤ 50
-  pub material : g .material ≤ 32
-  pub number : g .len ≡ g .reversible + 1
-  pub sound : allSound (windowOf g) ≡ true
-
-pub valid-says : (g : Game) → valid g ≡ true → Valid g
-unfolding valid
-valid-says g h =
-    let m = and-right (leb (g .reversible) 50) _ h in
-    let n = and-right (leb (g .material) 32) _ m in
-    record {
-      reversible = leb-true _ _ (and-left _ _ h);
-      material = leb-true _ _ (and-left _ _ m);
-      number = eqb-true _ _ (and-left _ _ n);
-      sound = and-right (eqb (g .len) (g .reversible + 1)) _ n;
-    }
-
 -- ---- the kept positions are sound
-
-pub all-append : (xs ys : List Position) → allSound (xs ++ ys) ≡ (allSound xs && allSound ys)
-unfolding allSound
-all-append [] ys = refl
-all-append (x ∷ xs) ys = go (sound x) (all-append xs ys)
-  where
-    go : (s : Bool) → allSound (xs ++ ys) ≡ (allSound xs && allSound ys) → (s && allSound (xs ++ ys)) ≡ ((s && allSound xs) && allSound ys)
-    go true ih = ih
-    go false ih = refl
 
 pub all-none : (l : List Position) → allSound (take 0 l) ≡ true
 unfolding allSound
 all-none l = refl
 
-all-one : (p : Position) → sound p ≡ true → allSound (p ∷ []) ≡ true
-unfolding allSound
-all-one p e = and-both (sound p) true e refl
-
 pub all-more : (d : Position) (l : List Position) (i : ℕ) → i < length l → allSound (take i l) ≡ true → sound (getD l i d) ≡ true
     → allSound (take (i + 1) l) ≡ true
-all-more d l i h e s = rw (add-one, take-suc l i d, all-append) (and-both _ _ e (all-one (getD l i d) s))
+all-more d l i h e s = rw (add-one, take-suc l i d) (sound-append (take i l) (getD l i d ∷ []) e (sound-one (getD l i d) s))
 
 pub all-at : (d : Position) (l : List Position) (n i : ℕ) → i < n → i < length l → allSound (take n l) ≡ true → sound (getD l i d) ≡ true
 unfolding allSound
@@ -77,7 +45,7 @@ all-fails d l n i h k e = not-so (allSound (take n l)) (λ a. false≢true (sym 
 pub last-sound : (g : Game) → Valid g → length (g .kept) ≡ 51 → sound (lastOf g) ≡ true
 unfolding lastOf windowOf
 last-sound g v k =
-    let n = v .number in
+    let n = v .len in
     let r = v .reversible in
     all-at blankPosition (g .kept) (g .len) (g .reversible) (omega arith) (omega arith) (v .sound)
 

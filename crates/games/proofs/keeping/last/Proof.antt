@@ -1,5 +1,5 @@
 use Rattle.games.specs.Games.{lastOf}
-use Rattle.games.proofs.Window.{valid-says}
+use Rattle.games.proofs.Valid.{valid-says}
 use borrow.Author.Needs.{needs}
 use native.Mathlib.Omega.{arith}
 use Rattle.games.proofs.keeping.last.Statement.{statement}

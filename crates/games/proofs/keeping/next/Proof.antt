@@ -1,6 +1,6 @@
 use Rattle.games.specs.Games.{irreversible}
 use Rattle.games.specs.Play.{movedOf}
-use Rattle.games.proofs.Window.{valid-says}
+use Rattle.games.proofs.Valid.{valid-says}
 use borrow.Author.Needs.{needs}
 use native.Mathlib.Omega.{arith}
 use Rattle.games.proofs.keeping.next.Statement.{statement}

@@ -6,7 +6,8 @@ use lib.ListN.{length, take}
 use Rattle.captures.proofs.Listed.{length-of-map}
 use Rattle.rules.specs.Lists.{times}
 use Rattle.games.specs.Games.{blankPosition, windowOf, lastOf, samePosition, stood}
-use Rattle.games.proofs.Window.{valid-says, times-none, times-more}
+use Rattle.games.proofs.Valid.{valid-says}
+use Rattle.games.proofs.Window.{times-none, times-more}
 use borrow.Author.Needs.{needs}
 use native.Mathlib.Omega.{arith}
 use Rattle.games.proofs.keeping.stood.Statement.{statement}

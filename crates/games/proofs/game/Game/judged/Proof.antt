@@ -2,7 +2,8 @@ use mathlib.Core.Path.{_≡_, sym, ap, _∙_}
 use lib.ListN.{length}
 use Rattle.captures.proofs.Listed.{length-of-map}
 use Rattle.games.specs.Games.{judgedOf}
-use Rattle.games.proofs.Window.{valid-says, last-sound}
+use Rattle.games.proofs.Valid.{valid-says}
+use Rattle.games.proofs.Window.{last-sound}
 use borrow.Author.Needs.{needs}
 use native.Mathlib.Omega.{arith}
 use Rattle.games.proofs.game.Game.judged.Statement.{statement}
