@@ -29,7 +29,7 @@ use Rattle.positions.proofs.Standings.{Standing, standing}
 use Rattle.rules.specs.Rules.{Legal, Fair}
 use Rattle.rules.proofs.Laws.{fair-of-accepted, legal-playable, man-nearer}
 use Rattle.games.specs.Book as book
-use Rattle.games.specs.Book.{Tally, takes, manMove, promotion?, tallied}
+use Rattle.games.specs.Book.{Tally, takes, manMove, isPromotion, tallied}
 use Rattle.games.specs.Games.{manMoves, irreversible, materialAfter}
 use Rattle.games.proofs.Tests.{fits}
 
@@ -84,8 +84,8 @@ module _ (p : Board) (m : Move) (a : Accepted p) (y : Playable p m) where
   pub man-agrees : manMoves p m ≡ manMove p m
   man-agrees = man-is ∙ sym man-book
 
-  pub promotion-agrees : promotes p m ≡ promotion? p m
-  unfolding promotion?
+  pub promotion-agrees : promotes p m ≡ isPromotion p m
+  unfolding isPromotion
   promotion-agrees = promotes-is p m y ∙ ap (λ (x : Bool). x && has (promotion (p .side)) (bitOf (m .to))) (sym man-book)
 
   pub taking-agrees : isCapture m ≡ takes m
@@ -97,7 +97,7 @@ module _ (p : Board) (m : Move) (a : Accepted p) (y : Playable p m) where
       go false e = sym (lt-ltb 0 (size (m .captured)) (size-some (m .captured) (y .setFits) (let n = eqb-false (m .captured) 0 e in omega arith)))
 
   -- ---- the tallies
-  promoted-is : (c : Color) → cond (sameColor c (p .side) && promotion? p m) 1 0 ≡ promoted c p m
+  promoted-is : (c : Color) → cond (sameColor c (p .side) && isPromotion p m) 1 0 ≡ promoted c p m
   unfolding promoted
   promoted-is c = ap (λ (x : Bool). cond (sameColor c (p .side) && x) 1 0) (sym promotion-agrees)
 

@@ -27,7 +27,7 @@ use Rattle.positions.proofs.Kept.{successor-accepted}
 use Rattle.positions.proofs.Measures.{capture-falls, man-falls, king-stays, smaller-trans}
 use Rattle.rules.specs.Rules.{Legal}
 use Rattle.rules.proofs.Laws.{fair-of-accepted, legal-playable}
-use Rattle.games.specs.Book.{Tally, Book, tallyOf, lastIn, standing, begunBook, timesIn, firstToHold, testsAt, bookOutcome, takes, manMove, promotion?, tallied, bookPlayed}
+use Rattle.games.specs.Book.{Tally, Book, tallyOf, lastIn, standing, begunBook, timesIn, firstToHold, testsAt, bookOutcome, takes, manMove, isPromotion, tallied, bookPlayed}
 use Rattle.games.specs.Demand3.{toldAs}
 use Rattle.games.specs.Games.{windowOf, lastOf, valid, stood, irreversible, materialAfter, canMove, won, drawn, kingEnding, judge, judgedOf, ended}
 use Rattle.games.specs.declared.game.Termination.the-variants.{Repetition, TwentyFiveMoves}
@@ -165,7 +165,7 @@ module _ (start : Board) (g : Game) (b : Book) (r : Stands start g b) (m : Move)
   unfolding materialAfter bookPlayed
   new-second =
       ap₂ (λ (x z : Bool). cond (x || z) 0 (min 32 (g .material + 1))) (taking-agrees (standing b) m a y) (promotion-agrees (standing b) m a y)
-      ∙ go (takes m || promotion? (standing b) m)
+      ∙ go (takes m || isPromotion (standing b) m)
     where
       go : (t : Bool) → cond t 0 (min 32 (g .material + 1)) ≡ min 32 (cond t 0 (b .second + 1))
       go true = refl
