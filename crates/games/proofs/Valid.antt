@@ -43,13 +43,13 @@ unfolding valid
 says-valid g v =
     and-both _ _ (le-leb _ _ (v .reversible)) (and-both _ _ (le-leb _ _ (v .material)) (and-both _ _ (eq-eqb _ _ (v .len)) (v .sound)))
 
-sound-append : (xs ys : List Position) → allSound xs ≡ true → allSound ys ≡ true → allSound (xs ++ ys) ≡ true
+pub sound-append : (xs ys : List Position) → allSound xs ≡ true → allSound ys ≡ true → allSound (xs ++ ys) ≡ true
 unfolding allSound
 sound-append [] ys a b = b
 sound-append (x ∷ xs) ys a b =
     and-both (sound x) (allSound (xs ++ ys)) (and-left (sound x) (allSound xs) a) (sound-append xs ys (and-right (sound x) (allSound xs) a) b)
 
-sound-one : (p : Position) → sound p ≡ true → allSound (p ∷ []) ≡ true
+pub sound-one : (p : Position) → sound p ≡ true → allSound (p ∷ []) ≡ true
 unfolding allSound
 sound-one p s = and-both (sound p) true s refl
 

@@ -19,6 +19,8 @@ use Rattle.positions.specs.declared.position.Position.{Position}
 use Rattle.rules.specs.Lists.{times}
 use Rattle.rules.specs.Ordered.{captures, quiets}
 use Rattle.quiet_laws.specs.Some.{some}
+use Rattle.movegen.specs.declared.movegen.Tested.{Tested}
+use Rattle.movegen.specs.declared.movegen.Tested.the-variants as tested
 use Rattle.games.specs.declared.game.Game.{Game}
 use Rattle.games.specs.declared.game.Judged.{Judged}
 use Rattle.games.specs.declared.game.Judged.the-variants as judged
@@ -76,6 +78,11 @@ unfoldable pub materialAfter : Board → Move → ℕ → ℕ
 materialAfter b m n = cond (isCapture m || promotes b m) 0 (min 32 (n + 1))
 
 -- ---- the outcome
+
+-- what a test says; a refused one says no
+abbrev pub saysOf : Tested → Bool
+saysOf (tested.Is b) = b
+saysOf (tested.Refused e) = false
 
 -- a capture or a quiet move is open to the side to move
 unfoldable pub canMove : Board → Bool

@@ -9,6 +9,7 @@ use lib.ListN.{replicate}
 use Rattle.squares.specs.declared.piece.Color.the-variants.{White, Black}
 use Rattle.squares.specs.declared.refusal.Refusal.{Refusal}
 use Rattle.squares.specs.declared.refusal.Refusal.the-variants.{BeyondLimit, NoSuchSquare, BadPosition, BadGame, GameOver}
+use Rattle.squares.specs.declared.refusal.Answer.{Answer}
 use Rattle.squares.specs.declared.refusal.Answer.the-variants as answer
 use Rattle.positions.specs.Acceptance.{sound}
 use Rattle.positions.specs.Boards.{boardOf}
@@ -47,10 +48,11 @@ unfoldable pub freshOf : Position → Game
 freshOf p = aloneOf p 0
 
 -- refused: the game begun from the empty board with White to move
+abbrev pub notBegun : Refusal → Begun
+notBegun e = record { answer = answer.Refused e; game = freshOf blankPosition }
+
 unfoldable pub newOf : Position → Begun
-newOf p =
-    cond (sound p) (record { answer = answer.Done; game = freshOf p })
-    (record { answer = answer.Refused BadPosition; game = freshOf blankPosition })
+newOf p = cond (sound p) (record { answer = answer.Done; game = freshOf p }) (notBegun BadPosition)
 
 -- from the usual start
 unfoldable pub initialGame : Game
@@ -109,12 +111,16 @@ repetitionsOf g = cond (valid g) (counted.Count (stood g)) (counted.Refused BadG
 unfoldable pub reversiblePliesOf : Game → Counted
 reversiblePliesOf g = cond (valid g) (counted.Count (g .reversible)) (counted.Refused BadGame)
 
+-- every entry blank
+abbrev pub noList : Answer → Listed
+noList a = record { answer = a; list = noMoves }
+
 -- no moves once there is an outcome; else the list of the current position, at most that many, or 17
 unfoldable pub legalMovesOf : Game → ℕ → Listed
 legalMovesOf g limit =
     cond (valid g)
     (cond (leb limit 256)
-    (cond (ended (judgedOf g)) (record { answer = answer.Done; list = noMoves }) (movegen.legalMovesOf (lastOf g) limit))
+    (cond (ended (judgedOf g)) (noList answer.Done) (movegen.legalMovesOf (lastOf g) limit))
     (refusedList BeyondLimit))
     (refusedList BadGame)
 
