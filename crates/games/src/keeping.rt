@@ -7,7 +7,7 @@ use squares::bitboard;
 use squares::piece::Color;
 ghost use mathlib.Core.Path.{_≡_};
 ghost use mathlib.Core.Bool.{true};
-ghost use Prim.Native.Nat.{_≤_, _<_};
+ghost use Prim.Native.Nat.{_+_, _≤_, _<_};
 ghost use Rattle.positions.specs.Boards.{boardOf};
 ghost use Rattle.positions.specs.Successor.{promotes};
 ghost use Rattle.games.specs.Games.{blankPosition, windowOf, lastOf, allSound, valid, stood, manMoves, materialAfter};
@@ -48,33 +48,34 @@ pub(crate) fn appended(g: Game, p: Position, material: u32) -> Game
     ensures { λ r. ⌜ r ≡ appendedOf g p material ⌝ }
 {
     let b = blank();
-    let mut kept = [b; 51];
+    let mut more = [b; 51];
     let n = g.len;
     let mut i: usize = 0;
     while i < n {
-        kept[i] = g.kept[i];
+        more[i] = g.kept[i];
         i += 1;
     }
-    kept[n] = p;
+    more[n] = p;
     Game {
-        kept: kept,
+        kept: more,
         len: n + 1,
         reversible: g.reversible + 1,
         material: material,
     }
 }
 
-// Whether every kept position passes the test of refusal 12.
+// Whether every kept position passes the test of refusal 12. Unused entries are not read.
 pub(crate) fn kept_sound(g: Game) -> bool
-    requires { ⌜ g .len ≤ 51 ⌝ }
+    requires { ⌜ g .reversible ≤ 50 ⌝ }
+    requires { ⌜ g .len ≡ g .reversible + 1 ⌝ }
     ensures { λ r. ⌜ r ≡ allSound (windowOf g) ⌝ }
 {
-    let n = g.len;
-    let mut i: usize = 0;
-    while i < n {
-        let p = g.kept[i];
+    let last = g.reversible as usize;
+    let mut at: usize = 0;
+    while at <= last {
+        let p = g.kept[at];
         if p.sound() {
-            i += 1;
+            at += 1;
         } else {
             return false;
         }
@@ -97,15 +98,15 @@ pub(crate) fn stood(g: Game) -> u32
     ensures { λ r. ⌜ r ≡ stood g ⌝ }
 {
     let p = last(g);
-    let n = g.len;
+    let window = g.len;
     let mut times: u32 = 0;
-    let mut i: usize = 0;
-    while i < n {
-        let q = g.kept[i];
+    let mut k: usize = 0;
+    while k < window {
+        let q = g.kept[k];
         if q.same(p) {
             times += 1;
         }
-        i += 1;
+        k += 1;
     }
     times
 }
