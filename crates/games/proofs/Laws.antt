@@ -28,7 +28,7 @@ use Rattle.rules.specs.Rules.{Legal, AtMost, NoJump}
 use Rattle.rules.proofs.Laws.{fair-of-accepted, listed-legal, legal-playable, legal-most, legal-quiet}
 use Rattle.movegen.specs.Lists.{afterOf}
 use Rattle.movegen.proofs.Answers.{after-many, after-none, after-one}
-use Rattle.games.specs.Book.{Book, tallyOf, standing, begunBook, Verdict, goesOn, ends, bookOutcome, over, onTheBoard, bookAnswer, bookPlayed, bookNext, bookAnswers, bookAfter}
+use Rattle.games.specs.Book.{Book, tallyOf, standing, begunBook, Verdict, goesOn, ends, bookOutcome, over, onTheBoard, bookAnswer, reached, bookPlayed, bookNext, bookAnswers, bookAfter}
 use Rattle.games.specs.Demand3.{answersTo, gameAfter, heardOf, heard, toldAs, bookOf, AtAccepted, TakesMost, NoneOpen, Demand3}
 use Rattle.games.specs.Games.{blankPosition, lastOf, valid, stood, judgedOf, ended}
 use Rattle.games.specs.Play.{freshOf, newOf, movedOf, refusedPlay, reachedOf, playOf, outcomeOf}
@@ -95,7 +95,7 @@ module _ (start : Board) (g : Game) (b : Book) (r : Stands start g b) (m : Move)
   }
 
   -- accepted: the successor stands in both
-  accepted : (q : Position) → boardOf q ≡ successor (standing b) m → playOf g m ≡ record { answer = answer.Done; game = movedOf g m q } → bookAnswer b m ≡ 0
+  accepted : (q : Position) → boardOf q ≡ reached b m → playOf g m ≡ record { answer = answer.Done; game = movedOf g m q } → bookAnswer b m ≡ 0
       → ended (judgedOf g) ≡ false → Legal (standing b) m → sound q ≡ true → Step start g b m
   accepted q e p k o h s = record {
     answer = ap (λ (x : Played). answerNumberOf (x .answer)) p ∙ sym k;
@@ -131,7 +131,7 @@ module _ (start : Board) (g : Game) (b : Book) (r : Stands start g b) (m : Move)
           let fair = fair-of-accepted (standing b) a in
           let move = listed-legal (standing b) fair m .0 k in
           let next = successor-accepted (standing b) m a (legal-playable (standing b) fair m move) in
-          accepted (positionOf (successor (standing b) m)) refl
+          accepted (positionOf (successor (standing b) m)) (unfold reached in refl)
           (play-is g m (r .valid) true false q f
           ∙ ap (reachedOf g m) (after-one (lastOf g) (r .sound) m q (rw (← board-is) h) (rw (← board-is) k) ∙ ap (λ (x : Board). placed.Position (positionOf (successor x m))) (sym board-is)))
           (meets b m true false false true (sym (squares-agree m) ∙ q) (over-is false f) h k)
