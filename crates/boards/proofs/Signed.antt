@@ -1,6 +1,6 @@
 -- A negative i32 and its size: 1 is added before the sign is changed, so that the smallest one has an opposite.
 use mathlib.Core.Path.{_≡_, refl, sym, ap, _∙_}
-use Prim.Native.Nat.{ℕ, zero, suc, _+_, _-_, _^_, _<_, _≤_}
+use Prim.Native.Nat.{ℕ, zero, suc, _+_, _-_, _^_, _<_}
 use native.Mathlib.Omega.{arith}
 use mathlib.Core.Bool.{Bool, true, false, cond, false≢true}
 use lib.Dec.{T, ltb}
@@ -11,7 +11,7 @@ use mir.Val.{Fits, SFits, toZ, ofZ}
 use mir.Facts.{toZ-ofZ}
 use borrow.Author.Needs.{sfits-of}
 use borrow.Author.Tests.{lt-ltb}
-use Rattle.positions.proofs.Integers.{small32, fits32, abs-add}
+use Rattle.scores.proofs.Integers.{small32, fits32, abs-add}
 
 abbrev pub held : ℤ → ℤ
 held z = toZ w32 (ofZ w32 z)

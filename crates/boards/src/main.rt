@@ -3,12 +3,12 @@
 // An answer line has the position of the sets, its flip, its score by the default and by the given weights.
 // What it writes is held to the file stdout; scripts/boards makes both files from the Rust's answers.
 use libc::STDOUT_FILENO;
-use positions::eval;
-use positions::eval::Classical;
-use positions::eval::Scored;
 use positions::position;
 use positions::position::Placed;
 use positions::position::Position;
+use scores::eval;
+use scores::eval::Classical;
+use scores::eval::Scored;
 use squares::piece::Color;
 use squares::refusal::Refusal;
 ghost use Prim.Native.Nat.{_<_};

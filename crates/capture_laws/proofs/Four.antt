@@ -5,17 +5,9 @@ use mathlib.Core.Bool.{Bool, true, false, _||_, cond}
 use mathlib.Core.List.{List, [], _∷_, _++_, map, map-append, append-assoc, append-nil, List·Memᴰ as Member, List·Memᴰ·not-nil as not-nil}
 use Rattle.squares.specs.Directions.{Direction, upLeft, upRight, downLeft, downRight, indexOf}
 use Rattle.captures.specs.Walks.{upTo, anyUpTo}
-use Rattle.rules.specs.Lists.{concatMap, orEnd}
+use Rattle.rules.specs.Lists.{concatMap, orEnd, some}
+use Rattle.rules.proofs.Lists.{some-append}
 use Rattle.rules.specs.Ordered.{directions}
-
-unfoldable pub some : {A : Type 0} → List A → Bool
-some [] = false
-some (x ∷ xs) = true
-
-some-append : {A : Type 0} (xs ys : List A) → some (xs ++ ys) ≡ (some xs || some ys)
-unfolding some
-some-append [] ys = refl
-some-append (x ∷ xs) ys = refl
 
 -- a list with a member is not empty, and is not with more behind it
 pub some-member : {A : Type 0} (xs ys : List A) {x : A} → Member x xs → some (xs ++ ys) ≡ true

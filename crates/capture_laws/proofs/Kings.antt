@@ -17,7 +17,7 @@ use Rattle.positions.specs.Boards.{Board, own, enemy, pieces}
 use Rattle.captures.specs.Kings.{skipOf, kingOver, kingLand, kingJumps, kingEndings}
 use Rattle.captures.specs.Rays.{far, slideOf, landings}
 use Rattle.captures.specs.Record.{Ending}
-use Rattle.rules.specs.Lists.{concatMap, orEnd}
+use Rattle.rules.specs.Lists.{concatMap, orEnd, some}
 use Rattle.rules.specs.Ordered.{directions, ray, last, blocker, target, hop, jumpsOver, jumpsAlong, jumps, enough}
 use Rattle.rules.specs.Rules.{BitMove, bitMove, space, step, Flight, Fair}
 use Rattle.rules.proofs.Boards.{own-lt, piece-own}
@@ -27,7 +27,7 @@ use Rattle.rules.proofs.Paths.{starts, fuel}
 use Rattle.rules.proofs.Ray.{ray-on, ray-end, of-ray, last-ray, glide-in, flight-off}
 use Rattle.rules.proofs.Shortcut.{back, aside, kingTried}
 use Rattle.rules.proofs.Tree.{tried, pruned}
-use Rattle.capture_laws.proofs.Four.{some, some-member, four}
+use Rattle.capture_laws.proofs.Four.{some-member, four}
 use Rattle.squares.proofs.OneBit.{bit-some, bits-apart}
 use Rattle.capture_laws.proofs.Rays.{slide-is, landings-are, landings-none, skips-back, skips-aside, skips-none}
 use Rattle.capture_laws.proofs.Steps.{ended, small, target-lt, over-is, land-is}

@@ -1,7 +1,6 @@
 -- The laws that crates above cite: on a fair board the search for captures by formula ends with the list of the rules, in its
 -- order, and every entry behind the moves is blank.
 use mathlib.Core.Path.{_≡_, refl, sym, ap, _∙_}
-use native.Mathlib.Omega.{arith}
 use mathlib.Core.Bool.{false}
 use mathlib.Core.List.{List, [], _∷_, map, foldl}
 use lib.ListN.{length, take, length-map}
@@ -35,7 +34,7 @@ module _ (b : Board) (fair : Fair b) where
 
   ends-with : foldl (noteIn 256) (found 0 [] false) (map numbered (allTried b))
       ≡ found (best count (captures b)) (take 256 (map numbered (longest sameBits count (captures b)))) (ltb 256 (length (longest sameBits count (captures b))))
-  ends-with = found-law b fair 256 (omega arith)
+  ends-with = found-law b fair 256
 
   -- the longest captures, each once, in the order of the rules
   pub captures-filled : let s = kingsCapturesOf (menCapturesOf (startOf (enemy b) (empty b)) (pieces b Man) (empty b)) (pieces b King) (empty b) in

@@ -15,7 +15,7 @@ use Rattle.squares.proofs.Shifts.{direction-index}
 use Rattle.positions.specs.Boards.{Board, own, enemy, pieces}
 use Rattle.captures.specs.Record.{Ending}
 use Rattle.captures.specs.Men.{manOver, manLand, manJumps, manEndings}
-use Rattle.rules.specs.Lists.{concatMap, orEnd, followed}
+use Rattle.rules.specs.Lists.{concatMap, orEnd, followed, some}
 use Rattle.rules.specs.Ordered.{directions, target, hop, manLandings, jumpsAlong, jumps, enough, sequences}
 use Rattle.rules.specs.Rules.{BitMove, bitMove, space, Fair}
 use Rattle.rules.proofs.Boards.{own-lt, piece-own}
@@ -23,7 +23,7 @@ use Rattle.rules.proofs.Jumps.{all-directions, over-yes, over-no, Good, remaini
 use Rattle.rules.proofs.Lists.{in-concatMap, concatMap-concatMap}
 use Rattle.rules.proofs.Paths.{starts, fuel}
 use Rattle.rules.proofs.Tree.{some-followed}
-use Rattle.capture_laws.proofs.Four.{some, some-member, four}
+use Rattle.capture_laws.proofs.Four.{some-member, four}
 use Rattle.squares.proofs.OneBit.{bit-some}
 use Rattle.capture_laws.proofs.Steps.{ended, small, over-is, land-is}
 

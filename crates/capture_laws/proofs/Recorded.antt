@@ -1,12 +1,11 @@
 -- A record of the code is a step of the fold over moves alone, and that is a step of the rules' fold.
 use mathlib.Core.Path.{_≡_, refl, sym, ap, ap₂, _∙_, subst}
-use Prim.Native.Nat.{ℕ, _≤_, _<_}
+use Prim.Native.Nat.{ℕ, _≤_}
 use native.Mathlib.Omega.{arith}
 use mathlib.Core.Bool.{Bool, true, false, _||_, cond}
 use mathlib.Core.List.{List, [], _∷_, map, foldl}
 use lib.ListN.{length}
 use lib.Dec.{eqb, ltb, leb}
-use borrow.Author.Tests.{lt-ltb, lt-leb}
 use Rattle.squares.specs.Sets.{size}
 use Rattle.squares.specs.Squares.{firstOf}
 use Rattle.positions.specs.declared.moves.Move.{Move}
@@ -101,29 +100,26 @@ unfolding listed contains
 listed-is [] m = refl
 listed-is (x ∷ l) m = ap (λ (c : Bool). same x m || c) (listed-is l m)
 
-pub note-bound : (limit : ℕ) → 0 < limit → (x : Found) (m : Move) → bound (noteIn limit x m) ≡ noteWithin same taking limit (bound x) m
+pub note-bound : (limit : ℕ) → (x : Found) (m : Move) → bound (noteIn limit x m) ≡ noteWithin same taking limit (bound x) m
 unfolding noteIn noteWithin
-note-bound limit some x m =
-    ap₂ (λ (a : Found) (t : Bool). bound (cond (eqb k 0 || ltb k (x .most)) x (cond (ltb (x .most) k) a (cond t x (addIn limit x m))))) anew
+note-bound limit x m =
+    ap (λ (t : Bool). bound (cond (eqb k 0 || ltb k (x .most)) x (cond (ltb (x .most) k) (addIn limit (found k [] false) m) (cond t x (addIn limit x m)))))
     (listed-is (x .moves) m)
     ∙ go (eqb k 0) (ltb k (x .most)) (ltb (x .most) k) (contains same (x .moves) m)
   where
     k : ℕ
     k = taking m
 
-    anew : addIn limit (found (taking m) [] false) m ≡ found (taking m) (m ∷ []) false
-    anew = ap₂ (λ (a b : Bool). found (taking m) (cond a (m ∷ []) []) b) (lt-ltb 0 limit some) (lt-leb limit 0 some)
-
-    go : (p q r t : Bool) → bound (cond (p || q) x (cond r (found k (m ∷ []) false) (cond t x (addIn limit x m))))
-        ≡ cond p (bound x) (cond q (bound x) (cond r (bounded k (m ∷ []) false) (cond t (bound x) (bound (addIn limit x m)))))
+    go : (p q r t : Bool) → bound (cond (p || q) x (cond r (addIn limit (found k [] false) m) (cond t x (addIn limit x m))))
+        ≡ cond p (bound x) (cond q (bound x) (cond r (bound (addIn limit (found k [] false) m)) (cond t (bound x) (bound (addIn limit x m)))))
     go true q r t = refl
     go false true r t = refl
     go false false true t = refl
     go false false false true = refl
     go false false false false = refl
 
-pub fold-bound : (limit : ℕ) → 0 < limit → (ms : List Move) (x : Found)
+pub fold-bound : (limit : ℕ) → (ms : List Move) (x : Found)
     → bound (foldl (noteIn limit) x ms) ≡ foldl (noteWithin same taking limit) (bound x) ms
-fold-bound limit some [] x = refl
-fold-bound limit some (m ∷ ms) x =
-    fold-bound limit some ms (noteIn limit x m) ∙ ap (λ (y : Bounded Move). foldl (noteWithin same taking limit) y ms) (note-bound limit some x m)
+fold-bound limit [] x = refl
+fold-bound limit (m ∷ ms) x =
+    fold-bound limit ms (noteIn limit x m) ∙ ap (λ (y : Bounded Move). foldl (noteWithin same taking limit) y ms) (note-bound limit x m)

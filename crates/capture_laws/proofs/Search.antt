@@ -126,11 +126,11 @@ module _ (b : Board) (fair : Fair b) where
       begun = record { them = refl; holds = record { list = none-listed; few = omega arith; best = refl; overflow = refl } }
 
   -- the fold with any limit: the longest captures as far as the limit goes, and a mark where there are more
-  pub found-law : (limit : ℕ) → 0 < limit → let l = longest sameBits count (captures b) in
+  pub found-law : (limit : ℕ) → let l = longest sameBits count (captures b) in
       foldl (noteIn limit) (found 0 [] false) (map numbered (allTried b)) ≡ found (best count (captures b)) (take limit (map numbered l)) (ltb limit (length l))
-  found-law limit some =
+  found-law limit =
       ap (λ (y : Bounded Move). found (y .most) (y .list) (y .over))
-      (fold-bound limit some (map numbered (allTried b)) (found 0 [] false) ∙ searched-is b fair limit some longests refl)
+      (fold-bound limit (map numbered (allTried b)) (found 0 [] false) ∙ searched-is b fair limit longests refl)
       ∙ ap (λ (n : ℕ). found (best count (captures b)) (take limit (map numbered longests)) (ltb limit n)) (length-map longests numbered)
     where
       longests : List BitMove

@@ -1,11 +1,11 @@
 -- What a jump takes leaves fewer untaken enemies.
-use mathlib.Core.Path.{_≡_, refl, sym, ap, ap₂, _∙_}
-use Prim.Native.Nat.{ℕ, zero, suc, _-_, _^_, _≤_, _<_}
+use mathlib.Core.Path.{_≡_, refl, sym, ap, _∙_}
+use Prim.Native.Nat.{ℕ, _-_, _^_, _<_}
 use native.Mathlib.Omega.{arith}
-use mathlib.Core.Bool.{Bool, true, false, not, _&&_, _||_, cond}
+use mathlib.Core.Bool.{Bool, true, false, not, _&&_, _||_}
 use lib.Bits.{bitAnd, bitOr, and-le-r, or-lt}
 use Rattle.squares.specs.Sets.{has, size, without, lowest}
-use Rattle.squares.proofs.Bools.{at3, imp, imp-elim, and-left, and-right, every3, tested}
+use Rattle.squares.proofs.Bools.{at3, imp, imp-elim, and-right, tested}
 use Rattle.squares.proofs.Pointwise.{has-and, has-or, has-without, without-lt}
 use Rattle.squares.proofs.Members.{lowest-in, lowest-lt}
 use Rattle.squares.proofs.Sizes.{size-lt}

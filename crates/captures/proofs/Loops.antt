@@ -1,8 +1,8 @@
 -- The loops over the pieces: one piece's search is one step of a fold over the members of the set.
-use mathlib.Core.Path.{_≡_, refl, sym, ap, _∙_}
-use mathlib.Core.List.{List, foldl}
+use mathlib.Core.Path.{_≡_, sym, ap, _∙_}
+use mathlib.Core.List.{foldl}
 use mathlib.Core.Bool.{true}
-use Prim.Native.Nat.{ℕ, _-_, _^_, _≤_, _<_, suc-le-suc}
+use Prim.Native.Nat.{ℕ, _-_, _^_, _<_, suc-le-suc}
 use native.Mathlib.Omega.{arith}
 use lib.Bits.{bitAnd, bitOr, and-le-r}
 use Rattle.squares.specs.Sets.{size, without, lowest, members}
@@ -10,7 +10,7 @@ use Rattle.squares.proofs.Members.{members-cons, members-none}
 use Rattle.squares.proofs.Sizes.{size-most}
 use Rattle.captures.specs.declared.movegen.Captures.{Captures}
 use Rattle.captures.specs.Record.{noteOf}
-use Rattle.captures.specs.Men.{onto, manEndings, Man, manCaptures}
+use Rattle.captures.specs.Men.{manEndings, Man, manCaptures}
 use Rattle.captures.specs.Kings.{skipOf, kingEndings, King, kingCaptures}
 use Rattle.captures.proofs.Shut.{set-onto}
 

@@ -1,12 +1,11 @@
 -- A man's sequences: what one direction adds, and what all four come to.
 use mathlib.Core.Path.{_≡_, refl, sym, ap, ap₂, _∙_, subst}
-use mathlib.Core.Bool.{Bool, true, false, not, cond, _||_}
-use mathlib.Core.List.{List, [], _∷_, _++_, foldl, foldl-append}
+use mathlib.Core.Bool.{Bool, true, false, not, cond}
+use mathlib.Core.List.{List, [], foldl, foldl-append}
 use Prim.Native.Nat.{ℕ, zero, suc, _+_, _-_, _≤_, _<_, _^_}
 use native.Mathlib.Nat.{not-suc-le-zero}
 use native.Mathlib.Numerals.{add-one}
 use native.Mathlib.Omega.{arith}
-use lib.Dec.{eqb}
 use lib.Bits.{bitAnd, bitOr}
 use borrow.Author.Tests.{eq-eqb, ne-eqb}
 use Rattle.squares.specs.Sets.{size, without}

@@ -1,14 +1,11 @@
 -- A slide, as its loop takes it.
 use mathlib.Core.Path.{_≡_, refl, sym, ap, _∙_}
-use mathlib.Core.Bool.{cond}
-use Prim.Native.Nat.{ℕ, zero, suc, _+_, _-_, _≤_, _<_, _^_}
-use native.Mathlib.Omega.{arith}
-use lib.Dec.{eqb}
+use Prim.Native.Nat.{ℕ, zero, suc, _-_, _<_, _^_}
 use lib.Bits.{bitAnd}
 use borrow.Author.Tests.{eq-eqb, ne-eqb}
 use Rattle.squares.specs.Directions.{Direction, shifted}
 use Rattle.squares.proofs.Shifts.{shifted-lt}
-use Rattle.captures.specs.Rays.{far, slideFrom, landings}
+use Rattle.captures.specs.Rays.{far, slideFrom}
 use Rattle.captures.proofs.Steps.{Enough, enough-64, enough-0, enough-step}
 
 pub enough-far : (d : Direction) (s : ℕ) → s < 2 ^ 64 → Enough d far s

@@ -3,7 +3,7 @@ use mathlib.Core.Path.{_≡_, refl, sym, ap, ap₂, _∙_}
 use mathlib.Core.Bool.{Bool, true, false, cond, _||_, or-true, or-false}
 use Prim.Native.Nat.{ℕ, _+_, _≤_, _<_}
 use lib.ListN.{set}
-use lib.Dec.{eqb, ltb, leb}
+use lib.Dec.{eqb, ltb}
 use borrow.Author.Tests.{le-ltb, lt-ltb, le-leb, lt-leb}
 use Rattle.squares.specs.Sets.{size}
 use Rattle.positions.specs.declared.moves.Move.{Move}

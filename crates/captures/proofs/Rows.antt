@@ -2,11 +2,9 @@
 use mathlib.Core.Path.{_≡_, refl}
 use mathlib.Core.List.{List, [], _∷_}
 use Prim.Native.Nat.{ℕ}
-use lib.ListN.{length}
 use Rattle.squares.specs.Sets.{without}
 use Rattle.squares.specs.Squares.{all}
 use Rattle.squares.specs.Squares.{single}
-use Rattle.positions.specs.declared.moves.Move.{Move}
 use Rattle.positions.specs.Moves.{move}
 use Rattle.captures.specs.declared.movegen.Captures.{Captures}
 use Rattle.captures.specs.Lists.{entries}

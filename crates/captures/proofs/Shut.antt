@@ -1,18 +1,16 @@
 -- A piece without a jump records nothing.
 use mathlib.Core.Path.{_≡_, refl, sym, ap, _∙_}
-use mathlib.Core.Bool.{Bool, true, false, not, cond, _&&_, _||_}
-use mathlib.Core.List.{List, [], _∷_, foldl}
-use Prim.Native.Nat.{ℕ, zero, suc, _-_, _^_}
-use lib.Bits.{bitAnd, bitOr}
-use lib.Dec.{eqb, ltb}
-use Rattle.squares.specs.Sets.{size, without}
+use mathlib.Core.Bool.{true, false}
+use mathlib.Core.List.{foldl}
+use Prim.Native.Nat.{ℕ, zero, _-_, _^_}
+use lib.Bits.{bitOr}
 use Rattle.squares.proofs.Members.{without-none}
 use Rattle.squares.proofs.Sizes.{size-zero}
 use Rattle.captures.specs.declared.movegen.Captures.{Captures}
 use Rattle.captures.specs.Open.{manJump, kingJump}
-use Rattle.captures.specs.Record.{noteOf, moveOf, recordOf}
+use Rattle.captures.specs.Record.{noteOf, recordOf}
 use Rattle.captures.specs.Walks.{anyUpTo}
-use Rattle.captures.specs.Men.{onto, manJumps, manEndings, manCaptures}
+use Rattle.captures.specs.Men.{manJumps, manEndings, manCaptures}
 use Rattle.captures.specs.Kings.{skipOf, kingJumps, kingEndings, kingCaptures}
 
 -- nothing is taken

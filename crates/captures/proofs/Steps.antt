@@ -1,16 +1,16 @@
 -- A set that is stepped on and on runs off the board: it falls in rank, and 64 steps are enough.
 use mathlib.Core.Path.{_≡_, refl, sym, ap, _∙_}
-use Prim.Native.Nat.{ℕ, zero, suc, _+_, _-_, _*_, _/_, _%_, _^_, _≤_, _<_}
+use Prim.Native.Nat.{ℕ, zero, suc, _+_, _-_, _*_, _%_, _^_, _≤_, _<_}
 use native.Mathlib.Nat.{pow-suc, mod-lt}
 use native.Mathlib.Omega.{arith}
-use mathlib.Core.Bool.{Bool, true, false, _&&_, false≢true}
+use mathlib.Core.Bool.{Bool, true, false, false≢true}
 use lib.Bits.{bitAnd, and-le-l}
 use lib.Count.{trailingZeros, trailing-le}
 use lib.Dec.{ltb}
 use lib.Pow.{pow-pos}
 use borrow.Author.Tests.{ltb-true, ltb-false}
 use Rattle.squares.specs.Sets.{has, lowest}
-use Rattle.squares.specs.Directions.{Direction, upLeft, upRight, downLeft, downRight, directionAt, shifted}
+use Rattle.squares.specs.Directions.{Direction, upLeft, upRight, downLeft, downRight, shifted}
 use Rattle.squares.proofs.Bools.{and-left}
 use Rattle.squares.proofs.Pointwise.{has-and, has-mod, has-shl, has-shl-low}
 use Rattle.squares.proofs.Members.{lowest-in, lowest-lt, none-below}

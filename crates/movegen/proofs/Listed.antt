@@ -22,7 +22,7 @@ use Rattle.positions.proofs.Hashes.{play-is}
 use Rattle.positions.proofs.Kept.{successor-accepted}
 use Rattle.captures.specs.Lists as codes
 use Rattle.captures.specs.Lists.{listOf, entries}
-use Rattle.rules.specs.Lists.{contains}
+use Rattle.rules.specs.Lists.{contains, some}
 use Rattle.rules.specs.Ordered.{captures, quiets, legal, listed}
 use Rattle.rules.specs.Rules.{Fair}
 use Rattle.rules.proofs.Laws.{fair-of-accepted, listed-legal, legal-playable}
@@ -32,7 +32,6 @@ use Rattle.movegen.specs.Lists.{refusedList, listedOf, withinOf, hasCapt
 use Rattle.movegen.specs.declared.movegen.Listed.{Listed}
 use Rattle.movegen.specs.declared.movegen.Tested.the-variants as tested
 use Rattle.capture_laws.proofs.Stored.{few-len, few-entries}
-use Rattle.quiet_laws.specs.Some.{some}
 use Rattle.quiet_laws.proofs.Filled.{filled}
 use Rattle.quiet_laws.proofs.Laws.{has-quiet-law, has-capture-law}
 

@@ -20,7 +20,7 @@ use Rattle.positions.specs.declared.position.Placed.the-variants as placed
 use Rattle.captures.specs.Lists.{noMoves, listOf}
 use Rattle.rules.specs.Ordered.{captures, quiets, legal, listed}
 use Rattle.quiets.specs.declared.quiets.Listing.{Listing}
-use Rattle.quiet_laws.specs.Some.{some}
+use Rattle.rules.specs.Lists.{some}
 use Rattle.movegen.specs.declared.movegen.Listed.{Listed}
 use Rattle.movegen.specs.declared.movegen.Tested.{Tested}
 use Rattle.movegen.specs.declared.movegen.Tested.the-variants as tested

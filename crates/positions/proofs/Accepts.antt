@@ -1,26 +1,25 @@
 -- The test of acceptance says what it should, square by square, and every position handed back passes it.
 use mathlib.Core.Path.{_≡_, refl, sym, ap, ap₂, _∙_}
-use Prim.Native.Nat.{ℕ, _+_, _≤_, _<_, _^_}
+use Prim.Native.Nat.{ℕ, _<_, _^_}
 use native.Mathlib.Nat.{lt-of-le-of-lt}
 use native.Mathlib.Omega.{arith}
 use mathlib.Core.Bool.{Bool, true, false, not, _&&_, _||_, cond, true≢false, false≢true}
-use lib.Dec.{eqb, lit<}
-use lib.Bits.{bitAnd, bitOr, or-lt, and-le-l, and-le-r}
+use lib.Dec.{eqb}
+use lib.Bits.{bitAnd, bitOr, or-lt, and-le-r}
 use borrow.Author.Tests.{eqb-true, eq-eqb}
 use Rattle.squares.specs.Sets.{has, without}
-use Rattle.squares.specs.Squares.{all, onBoard, promotion, firstOf}
+use Rattle.squares.specs.Squares.{all, promotion, firstOf}
 use Rattle.squares.specs.declared.piece.Color.{Color}
 use Rattle.squares.specs.declared.piece.Color.the-variants.{White, Black}
 use Rattle.squares.specs.declared.refusal.Refusal.the-variants.{NoSuchSquare, Overlap, ManOnPromotionRow}
-use Rattle.squares.proofs.Bools.{and-left, and-right, and-both, not-so}
+use Rattle.squares.proofs.Bools.{and-left, and-right, and-both}
 use Rattle.squares.proofs.Pointwise.{has-zero, has-and, has-or, has-without, none-zero, none-within, within-none, within-le, and-lt, without-lt}
 use Rattle.squares.proofs.Numbers.{all-lt, all-lt64, has-all}
 use Rattle.positions.specs.Boards.{Board, board, boardOf, start}
-use Rattle.positions.specs.Hash.{hashOf, positionOf, initialOf}
+use Rattle.positions.specs.Hash.{positionOf, initialOf}
 use Rattle.positions.specs.Acceptance.{squaresOnly, misplaced, acceptedSets, accepted, sound, Accepted, Sound, placeOf, fromPartsOf}
 use Rattle.positions.specs.Computed.{computed}
 use Rattle.positions.specs.declared.position.Position.{Position}
-use Rattle.positions.specs.declared.position.Placed.{Placed}
 use Rattle.positions.specs.declared.position.Placed.the-variants as placed
 use Rattle.positions.proofs.Rotation.{Squares}
 

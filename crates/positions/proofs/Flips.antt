@@ -1,26 +1,24 @@
 -- The flip of an accepted board is accepted, and the flip of the flip is the board.
 use mathlib.Core.Path.{_≡_, refl, sym, ap, ap₂, _∙_}
-use Prim.Native.Nat.{ℕ, _-_, _<_}
-use native.Mathlib.Omega.{arith}
-use mathlib.Core.Bool.{Bool, true, false, _&&_, _||_, cond, true≢false, false≢true, or-comm}
+use Prim.Native.Nat.{ℕ, _-_}
+use mathlib.Core.Bool.{Bool, true, false, _&&_, _||_, false≢true, or-comm}
 use Rattle.squares.specs.Sets.{has}
 use Rattle.squares.specs.Squares.{onBoard, promotion}
 use Rattle.squares.specs.Pieces.{other}
 use Rattle.squares.specs.declared.piece.Color.{Color}
 use Rattle.squares.specs.declared.piece.Color.the-variants.{White, Black}
-use Rattle.squares.specs.declared.refusal.Refusal.the-variants.{BadPosition}
-use Rattle.squares.proofs.Bools.{imp, imp-elim, iff, iff-eq, and-left, and-right, and-both, tested}
+use Rattle.squares.proofs.Bools.{imp, imp-elim, iff, iff-eq, and-left, and-right, tested}
 use Rattle.squares.proofs.Below.{below, below-at}
 use Rattle.squares.proofs.Numbers.{on-lt}
 use Rattle.positions.specs.Boards.{Board, board, boardOf}
 use Rattle.positions.specs.Hash.{positionOf}
-use Rattle.positions.specs.Acceptance.{sound, Accepted, Sound}
+use Rattle.positions.specs.Acceptance.{Accepted, Sound}
 use Rattle.positions.specs.Flip.{rotated, flip, flippedOf}
 use Rattle.positions.specs.Computed.{computed}
 use Rattle.positions.specs.declared.position.Position.{Position}
 use Rattle.positions.specs.declared.position.Placed.the-variants as placed
-use Rattle.positions.proofs.Rotation.{Squares, has-rotated, rotated-lt, rotated-squares, rotated-twice}
-use Rattle.positions.proofs.Accepts.{sound-says, says-sound, position-sound, sound-position}
+use Rattle.positions.proofs.Rotation.{Squares, has-rotated, rotated-lt, rotated-twice}
+use Rattle.positions.proofs.Accepts.{says-sound, position-sound, sound-position}
 
 -- ---- the promotion rows are exchanged
 rows-test : ℕ → Bool

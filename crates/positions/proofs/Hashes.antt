@@ -1,10 +1,10 @@
 -- The hash that `play` carries along is the hash of the successor from scratch: taken men and kings, promotion, and a capture
 -- that ends on its own first square all follow from the two laws of one colour's keys.
 use mathlib.Core.Path.{_≡_, refl, sym, ap, ap₂, _∙_}
-use Prim.Native.Nat.{ℕ, _^_, _<_}
+use Prim.Native.Nat.{ℕ, _^_}
 use native.Mathlib.Omega.{arith}
-use mathlib.Core.Bool.{Bool, true, false, not, _&&_, _||_, cond}
-use lib.Bits.{bitAnd, bitOr, bitXor, xor-comm, xor-zero-r}
+use mathlib.Core.Bool.{Bool, true, false, _||_, cond}
+use lib.Bits.{bitOr, bitXor, xor-comm}
 use Rattle.squares.specs.Sets.{has, without}
 use Rattle.squares.specs.Squares.{isSquare, bitOf, single, containsOf, promotion}
 use Rattle.squares.specs.Pieces.{other}
@@ -16,8 +16,8 @@ use Rattle.squares.specs.declared.piece.PieceKind.the-variants.{Man, King}
 use Rattle.squares.proofs.Folds.{xor-assoc}
 use Rattle.squares.proofs.Numbers.{single-is}
 use Rattle.squares.proofs.Keys.{set-key-bitIf}
-use Rattle.positions.specs.Boards.{Board, board, boardOf, own, enemy, kindIf}
-use Rattle.positions.specs.Hash.{colorKey, sideHash, hashOf, positionOf}
+use Rattle.positions.specs.Boards.{Board, board, boardOf, own, enemy}
+use Rattle.positions.specs.Hash.{colorKey, hashOf, positionOf}
 use Rattle.positions.specs.Acceptance.{Accepted, Sound}
 use Rattle.positions.specs.Successor.{turned, successor, Playable, moverKey, takenKey, kingsPlayed, movedKey, positionAfter, playOf}
 use Rattle.positions.specs.declared.moves.Move.{Move}

@@ -1,11 +1,11 @@
 -- The successor of an accepted board by a move that can be played is accepted, so the successor of a sound position is sound.
-use mathlib.Core.Path.{_≡_, refl, sym, ap, ap₂, _∙_}
-use Prim.Native.Nat.{ℕ, _^_, _≤_, _<_}
+use mathlib.Core.Path.{_≡_, refl, sym, ap, _∙_}
+use Prim.Native.Nat.{ℕ, _^_, _<_}
 use native.Mathlib.Nat.{lt-of-le-of-lt}
 use native.Mathlib.Omega.{arith}
-use mathlib.Core.Bool.{Bool, true, false, not, _&&_, _||_, cond, or-comm, true≢false, false≢true}
+use mathlib.Core.Bool.{Bool, true, false, not, _&&_, _||_, or-comm, false≢true}
 use lib.Dec.{eqb, lit<}
-use lib.Bits.{bitAnd, bitOr, or-lt}
+use lib.Bits.{or-lt}
 use lib.Pow.{pow-lt}
 use borrow.Author.Tests.{eqb-true, not-true}
 use Rattle.squares.specs.Sets.{has, without}
@@ -17,7 +17,6 @@ use Rattle.squares.proofs.Pointwise.{has-without, without-le, member-lt}
 use Rattle.squares.proofs.Folds.{bitIf}
 use Rattle.squares.proofs.Numbers.{square-on, bit-lt}
 use Rattle.positions.specs.Boards.{Board, board, boardOf, own, enemy}
-use Rattle.positions.specs.Hash.{positionOf}
 use Rattle.positions.specs.Acceptance.{Accepted, Sound}
 use Rattle.positions.specs.Successor.{turned, successor, Playable, playOf}
 use Rattle.positions.specs.declared.moves.Move.{Move}

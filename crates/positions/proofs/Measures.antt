@@ -1,22 +1,20 @@
 -- The measure falls at a capture and at a man's move, and stays at a quiet king move; so a board that comes back has seen
 -- nothing but quiet king moves in between.
-use mathlib.Core.Path.{_≡_, refl, sym, ap, ap₂, _∙_}
+use mathlib.Core.Path.{_≡_, refl, sym, ap, _∙_}
 use mathlib.Core.Logic.{_⊎_, inl, inr}
 use Prim.Native.Nat.{ℕ, _+_, _<_}
 use native.Mathlib.Omega.{arith}
-use mathlib.Core.Bool.{Bool, true, false}
-use Rattle.squares.specs.Sets.{has, size, without}
+use mathlib.Core.Bool.{true, false}
+use Rattle.squares.specs.Sets.{has, size}
 use Rattle.squares.specs.Squares.{bitOf, promotion}
-use Rattle.squares.specs.Folds.{sumOver}
 use Rattle.squares.specs.declared.piece.Color.{Color}
 use Rattle.squares.specs.declared.piece.Color.the-variants.{White, Black}
 use Rattle.squares.proofs.Sizes.{size-zero}
-use Rattle.positions.specs.Boards.{Board, board, own, enemy}
+use Rattle.positions.specs.Boards.{Board, board}
 use Rattle.positions.specs.Acceptance.{Accepted}
-use Rattle.positions.specs.Successor.{turned, successor, Playable}
+use Rattle.positions.specs.Successor.{successor, Playable}
 use Rattle.positions.specs.Measure.{piecesOn, rowsBefore, rowsAhead, Ply, capture, man, king, Smaller, fewer, nearer, Level}
 use Rattle.positions.specs.declared.moves.Move.{Move}
-use Rattle.positions.proofs.Turns.{Turn, ownNow, kingsNow}
 use Rattle.positions.proofs.TurnCounts.{pieces-fall, rows-fall, rows-stay, foe-rows}
 use Rattle.positions.proofs.Plays.{turn-of, successor-is}
 use Rattle.positions.proofs.Kept.{successor-accepted}

@@ -1,33 +1,23 @@
 -- A move that can be played on an accepted board, as a turn on sets; the code's formulas are the successor with its own hash.
-use mathlib.Core.Path.{_≡_, refl, sym, ap, ap₂, _∙_}
-use Prim.Native.Nat.{ℕ, _^_, _<_}
+use mathlib.Core.Path.{_≡_, refl, ap, ap₂, _∙_}
+use Prim.Native.Nat.{ℕ}
 use native.Mathlib.Omega.{arith}
-use mathlib.Core.Bool.{Bool, true, false, not, _&&_, _||_, cond, and-comm, or-comm, true≢false, false≢true}
+use mathlib.Core.Bool.{Bool, true, false, not, _&&_, _||_, cond, and-comm, or-comm}
 use lib.Dec.{eqb}
-use lib.Bits.{bitAnd, bitOr, bitXor, xor-comm, xor-zero-r}
+use lib.Bits.{bitOr}
 use borrow.Author.Tests.{eqb-true, eq-eqb}
 use Rattle.squares.specs.Sets.{has, without}
-use Rattle.squares.specs.Squares.{isSquare, bitOf, single, containsOf, promotion}
-use Rattle.squares.specs.Pieces.{other}
-use Rattle.squares.specs.Folds.{xorOver}
-use Rattle.squares.specs.Keys.{keyAt, setKeyOf, pieceKeyOf, sideKey}
+use Rattle.squares.specs.Squares.{isSquare, bitOf, containsOf, promotion}
 use Rattle.squares.specs.declared.piece.Color.{Color}
 use Rattle.squares.specs.declared.piece.Color.the-variants.{White, Black}
-use Rattle.squares.specs.declared.piece.PieceKind.{PieceKind}
-use Rattle.squares.specs.declared.piece.PieceKind.the-variants.{Man, King}
-use Rattle.squares.proofs.Bools.{imp, imp-intro}
-use Rattle.squares.proofs.Folds.{bitIf, xor-assoc}
+use Rattle.squares.proofs.Bools.{imp-intro}
 use Rattle.squares.proofs.Numbers.{bit-lt, single-is}
-use Rattle.squares.proofs.Keys.{set-key-bitIf}
-use Rattle.positions.specs.Boards.{Board, board, boardOf, own, enemy, kindIf}
-use Rattle.positions.specs.Hash.{colorKey, hashOf, positionOf}
-use Rattle.positions.specs.Acceptance.{Accepted, Sound}
-use Rattle.positions.specs.Successor.{promotes, endsAsKing, ownAfter, enemyAfter, kingsAfter, turned, successor, Playable, moverKey, takenKey, kingsPlayed, movedKey, positionAfter, playOf}
+use Rattle.positions.specs.Boards.{Board, board, own, enemy}
+use Rattle.positions.specs.Acceptance.{Accepted}
+use Rattle.positions.specs.Successor.{promotes, endsAsKing, ownAfter, enemyAfter, kingsAfter, turned, successor, Playable}
 use Rattle.positions.specs.declared.moves.Move.{Move}
-use Rattle.positions.specs.declared.position.Position.{Position}
 use Rattle.positions.proofs.Turns as turns
 use Rattle.positions.proofs.Turns.{Turn, ownNow, kingNow, kingsNow}
-use Rattle.positions.proofs.TurnKeys.{coloured, off, own-hash, foe-hash}
 
 -- ---- the conditions on sets
 apart-of : (x y : Bool) → (x ≡ true → y ≡ false) → not (x && y) ≡ true

@@ -1,22 +1,21 @@
 -- A set turned round: square n at 51 - n, which is bit i at 53 - i.
 use mathlib.Core.Path.{_≡_, refl, sym, ap, ap₂, _∙_}
-use Prim.Native.Nat.{ℕ, zero, suc, _+_, _-_, _^_, _≤_, _<_}
+use Prim.Native.Nat.{ℕ, zero, suc, _+_, _-_, _^_, _<_}
 use native.Mathlib.Nat.{add-assoc, add-comm, zero-add}
 use native.Mathlib.Omega.{arith}
 use mathlib.Core.Bool.{Bool, true, false, _&&_, cond, false≢true}
-use lib.Dec.{eqb, lit<}
-use lib.Pow.{pow-lt}
+use lib.Dec.{eqb}
 use borrow.Author.Tests.{eqb-true}
 use Rattle.squares.specs.Sets.{has, size}
 use Rattle.squares.specs.Squares.{onBoard, squareAtBit, single}
-use Rattle.squares.specs.Folds.{foldTo, over, sumOver, unionOver}
+use Rattle.squares.specs.Folds.{sumOver, unionOver}
 use Rattle.squares.proofs.Bools.{imp, imp-elim, tested, and-left, and-right, and-both, bool-ext}
 use Rattle.squares.proofs.Below.{below, below-at}
 use Rattle.squares.proofs.Pointwise.{has-bit, has-bit-same, has-zero, ext}
 use Rattle.squares.proofs.Folds.{fold-reverse, fold-ext, over-board}
 use Rattle.squares.proofs.Unions.{Came, of-union, in-union, union-lt}
 use Rattle.squares.proofs.Sizes.{size-sum}
-use Rattle.squares.proofs.Numbers.{on-lt, no-square, single-none, single-lt}
+use Rattle.squares.proofs.Numbers.{on-lt, no-square, single-lt}
 use Rattle.positions.specs.Flip.{rotated}
 use Rattle.positions.specs.Computed.{computed}
 

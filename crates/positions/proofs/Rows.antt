@@ -1,14 +1,13 @@
 -- The definitions compute: some boards of document 01 and answers of the Rust.
 use mathlib.Core.Path.{_≡_, refl}
 use mathlib.Core.Bool.{true}
-use Prim.Native.Nat.{ℕ, _+_, _^_}
-use lib.Bits.{bitOr}
+use Prim.Native.Nat.{_+_}
 use Rattle.squares.specs.Squares.{run, single}
 use Rattle.squares.specs.declared.piece.Color.the-variants.{White, Black}
 use Rattle.squares.specs.declared.refusal.Refusal.the-variants.{Overlap, ManOnPromotionRow}
 use Rattle.positions.specs.Moves.{move}
 use Rattle.positions.specs.Boards.{Board, board}
-use Rattle.positions.specs.Hash.{hashOf, positionOf}
+use Rattle.positions.specs.Hash.{hashOf}
 use Rattle.positions.specs.Acceptance.{accepted, fromPartsOf}
 use Rattle.positions.specs.Successor.{successor}
 use Rattle.positions.specs.Flip.{flip}

@@ -1,9 +1,8 @@
 -- The pieces of each colour that stand after a move, as sums.
-use mathlib.Core.Path.{_≡_, refl, sym, ap, ap₂, _∙_}
+use mathlib.Core.Path.{_≡_, ap}
 use Prim.Native.Nat.{ℕ, _+_}
 use native.Mathlib.Omega.{arith}
-use mathlib.Core.Bool.{Bool, true, false, not, _&&_, cond}
-use lib.Bits.{bitAnd}
+use mathlib.Core.Bool.{not, _&&_}
 use Rattle.squares.specs.Sets.{has, size, without}
 use Rattle.squares.specs.Squares.{bitOf, promotion}
 use Rattle.squares.specs.declared.piece.Color.{Color}
@@ -14,8 +13,8 @@ use Rattle.positions.specs.Acceptance.{Accepted}
 use Rattle.positions.specs.Successor.{promotes, turned, successor, Playable}
 use Rattle.positions.specs.Standing.{promoted, menTaken, kingsTaken}
 use Rattle.positions.specs.declared.moves.Move.{Move}
-use Rattle.positions.proofs.Turns.{Turn, ownNow, kingsNow}
-use Rattle.positions.proofs.TurnCounts.{Counted, counted}
+use Rattle.positions.proofs.Turns.{ownNow, kingsNow}
+use Rattle.positions.proofs.TurnCounts.{counted}
 use Rattle.positions.proofs.Plays.{turn-of, promotes-is, successor-is}
 
 -- b and the board a after the move m

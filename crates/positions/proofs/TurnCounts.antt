@@ -1,5 +1,5 @@
 -- The standing pieces after a move as sums, and the rows that the mover's men have before them.
-use mathlib.Core.Path.{_≡_, refl, sym, ap, ap₂, _∙_}
+use mathlib.Core.Path.{_≡_, refl, sym, ap, _∙_}
 use Prim.Native.Nat.{ℕ, _+_, _<_}
 use native.Mathlib.Nat.{add-zero}
 use native.Mathlib.Omega.{arith}
@@ -10,7 +10,7 @@ use Rattle.squares.specs.Folds.{sumOver}
 use Rattle.squares.proofs.Folds.{sum-parts, sum-none, sum-bitIf}
 use Rattle.squares.proofs.Members.{none-without}
 use Rattle.squares.proofs.Pointwise.{without-lt}
-use Rattle.squares.proofs.Sizes.{one, size-parts, size-bitIf, size-without, size-zero}
+use Rattle.squares.proofs.Sizes.{one, size-parts, size-bitIf, size-without}
 use Rattle.positions.proofs.Turns as turns
 use Rattle.positions.proofs.Turns.{ownNow, kingNow, kingsNow, Turn}
 

@@ -2,7 +2,7 @@
 -- row; kings marked on empty squares are dropped where sets are handed in, and refused where a position is.
 use mathlib.Core.Path.{_≡_}
 use Prim.Native.Nat.{ℕ, _<_, _^_}
-use mathlib.Core.Bool.{Bool, true, false, not, cond, _&&_, _||_}
+use mathlib.Core.Bool.{Bool, true, false, cond, _&&_, _||_}
 use lib.Dec.{eqb}
 use lib.Bits.{bitAnd, bitOr}
 use Rattle.squares.specs.Sets.{has, without}

@@ -3,7 +3,7 @@ use Prim.Native.Nat.{ℕ}
 use mathlib.Core.Bool.{Bool, true, false, cond, _&&_}
 use lib.Dec.{eqb}
 use lib.Bits.{bitAnd, bitOr}
-use Rattle.squares.specs.Sets.{has, size, without}
+use Rattle.squares.specs.Sets.{without}
 use Rattle.squares.specs.Squares.{isSquare, run, all, containsOf}
 use Rattle.squares.specs.Pieces.{other}
 use Rattle.squares.specs.declared.piece.Color.{Color}

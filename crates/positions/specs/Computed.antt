@@ -8,8 +8,7 @@ use Rattle.positions.specs.Successor.{promotes, endsAsKing, ownAfter, en
 use Rattle.positions.specs.Standing.{promoted, menTaken, kingsTaken}
 use Rattle.positions.specs.Measure.{piecesOn, rowsBefore, rowsAhead}
 use Rattle.positions.specs.Flip.{rotated, flip, flippedOf}
-use Rattle.positions.specs.Score.{aheadOf, advanced, center, guard, guarding, materialOf, placementOf, worth, fewPieces, drawish, damped, whiteScore, score, within, weightsFit, evaluateOf}
 
 unfoldable pub computed : Unit {0}
-unfolding squares.computed isCapture squaresOf same ofKind pieces empty sameBoard pieceAtOf colorKey hashOf squaresOnly misplaced acceptedSets accepted sound placeOf fromPartsOf promotes endsAsKing ownAfter enemyAfter kingsAfter successor takenKey kingsPlayed movedKey playOf promoted menTaken kingsTaken piecesOn rowsBefore rowsAhead rotated flip flippedOf aheadOf advanced center guard guarding materialOf placementOf worth fewPieces drawish damped whiteScore score within weightsFit evaluateOf
+unfolding squares.computed isCapture squaresOf same ofKind pieces empty sameBoard pieceAtOf colorKey hashOf squaresOnly misplaced acceptedSets accepted sound placeOf fromPartsOf promotes endsAsKing ownAfter enemyAfter kingsAfter successor takenKey kingsPlayed movedKey playOf promoted menTaken kingsTaken piecesOn rowsBefore rowsAhead rotated flip flippedOf
 computed = tt

@@ -6,5 +6,4 @@ pub mod Successor
 pub mod Standing
 pub mod Measure
 pub mod Flip
-pub mod Score
 pub mod Computed

@@ -3,7 +3,7 @@
 -- ends on its promotion row.
 use mathlib.Core.Path.{_≡_}
 use Prim.Native.Nat.{ℕ, _<_, _^_}
-use mathlib.Core.Bool.{Bool, true, false, not, cond, _&&_, _||_}
+use mathlib.Core.Bool.{Bool, true, not, cond, _&&_, _||_}
 use lib.Dec.{eqb}
 use lib.Bits.{bitAnd, bitOr, bitXor}
 use Rattle.squares.specs.Sets.{has, without}

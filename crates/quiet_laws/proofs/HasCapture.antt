@@ -18,7 +18,7 @@ use Rattle.positions.specs.Boards.{Board, enemy, pieces, empty}
 use Rattle.captures.specs.Rays.{far, slideOf}
 use Rattle.captures.specs.Walks.{anyUpTo}
 use Rattle.captures.proofs.Steps.{no-land}
-use Rattle.rules.specs.Ordered.{directions, ahead, ray, last, blocker, captures}
+use Rattle.rules.specs.Ordered.{directions, ray, last, blocker, captures}
 use Rattle.rules.specs.Rules.{space, rest, Jump, manJump, kingJump, Open, Fair}
 use Rattle.rules.proofs.Boards.{empty-lt, enemy-lt, men-lt, space-lt, of-space, enemy-blocks, piece-own, piece-lt, piece-member}
 use Rattle.rules.proofs.Captures.{shut-law}
@@ -26,11 +26,12 @@ use Rattle.rules.proofs.Jumps.{all-directions}
 use Rattle.rules.proofs.Ray.{last-ray, last-is, glide-in}
 use Rattle.quiets.specs.Tests.{anyIn, menJump, kingOpen, hasCaptureOf}
 use Rattle.captures.specs.Open as tests
-use Rattle.quiet_laws.specs.Some.{some}
+use Rattle.rules.specs.Lists.{some}
+use Rattle.rules.proofs.Lists.{some-none, none-some}
 use Rattle.quiet_laws.proofs.HasQuiet.{open-law}
 use Rattle.squares.proofs.OneBit.{bit-some, at-opposite}
 use Rattle.capture_laws.proofs.Rays.{slide-is}
-use Rattle.quiet_laws.proofs.Some.{some-none, none-some, any-ext, any-found, found-any}
+use Rattle.quiet_laws.proofs.Some.{any-ext, any-found, found-any}
 use Rattle.quiet_laws.proofs.Walks.{any-four}
 
 bit-or-none : (t : Bool) (i : ℕ) → not (eqb (cond t (2 ^ i) 0) 0) ≡ t

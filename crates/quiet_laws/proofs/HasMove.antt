@@ -13,8 +13,8 @@ use Rattle.rules.specs.Rules.{BitMove, numbered}
 use Rattle.rules.proofs.Agreement.{bits-none, bits-some}
 use Rattle.rules.proofs.Held.{Longest, in-longest}
 use Rattle.rules.proofs.Same.{bits-refl, bits-true}
-use Rattle.quiet_laws.specs.Some.{some}
-use Rattle.quiet_laws.proofs.Some.{some-map, some-in}
+use Rattle.rules.specs.Lists.{some}
+use Rattle.rules.proofs.Lists.{some-map, some-in}
 
 -- the longest of some entries
 longest-of : {A : Type 0} (size : A → ℕ) (x : A) (xs : List A) → (y : A) × Longest size (x ∷ xs) y

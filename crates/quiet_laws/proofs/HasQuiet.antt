@@ -15,16 +15,16 @@ use Rattle.squares.specs.declared.piece.PieceKind.the-variants.{Man, King}
 use Rattle.squares.proofs.Shifts.{direction-index}
 use Rattle.positions.specs.Boards.{Board, own, pieces, empty, ofKind}
 use Rattle.captures.specs.Walks.{anyUpTo}
-use Rattle.rules.specs.Lists.{concatMap, keep}
+use Rattle.rules.specs.Lists.{concatMap, keep, some}
 use Rattle.rules.specs.Ordered.{directions, ahead, ray, manSteps, kingFlights, quiets}
 use Rattle.rules.specs.Rules.{bitMove, forward, Fair}
 use Rattle.rules.proofs.Boards.{own-lt, empty-lt, men-lt}
 use Rattle.rules.proofs.Ray.{ahead-on, ahead-end}
 use Rattle.rules.proofs.Steps.{shifted-members}
 use Rattle.quiets.specs.Tests.{forwardOf, anyIn, stepsOpen, hasQuietOf}
-use Rattle.quiet_laws.specs.Some.{some}
+use Rattle.rules.proofs.Lists.{some-append, some-map}
 use Rattle.quiet_laws.proofs.Walks.{any-four}
-use Rattle.quiet_laws.proofs.Some.{some-append, some-map, some-concatMap, some-keep, some-members, any-ext, any-swap}
+use Rattle.quiet_laws.proofs.Some.{some-concatMap, some-keep, some-members, any-ext, any-swap}
 
 -- some member of s has its neighbour along d in e
 pub open-law : (d : Direction) (s e : ℕ) → s < 2 ^ 54 → e < 2 ^ 54 → not (eqb (bitAnd (shifted d s) e) 0) ≡ anyIn (λ i. has e (next d i)) (members s)

@@ -14,7 +14,7 @@ use Rattle.rules.specs.Rules.{numbered, Open, NoJump, Fair}
 use Rattle.rules.proofs.Laws.{quiet-list}
 use Rattle.quiets.specs.Quiets.{listing, menQuiets, kingQuiets, allQuiets, quietMovesOf}
 use Rattle.quiets.specs.Tests.{hasQuietOf, hasCaptureOf}
-use Rattle.quiet_laws.specs.Some.{some}
+use Rattle.rules.specs.Lists.{some}
 use Rattle.quiet_laws.proofs.Filled.{filled, fill-law}
 use Rattle.quiet_laws.proofs.HasCapture.{open-tested, capture-test}
 use Rattle.quiet_laws.proofs.HasMove.{some-legal}

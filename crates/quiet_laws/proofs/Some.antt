@@ -2,44 +2,18 @@
 use mathlib.Core.Path.{_≡_, refl, sym, ap, ap₂, _∙_}
 use Prim.Native.Nat.{ℕ, _^_, _<_}
 use native.Mathlib.Omega.{arith}
-use mathlib.Core.Bool.{Bool, true, false, not, _||_, true≢false, false≢true, or-true}
-use mathlib.Core.List.{List, [], _∷_, _++_, map, List·Memᴰ as Member, List·Memᴰ·head as head, List·Memᴰ·tail as tail, List·Memᴰ·not-nil as not-nil}
+use mathlib.Core.Bool.{Bool, true, false, not, _||_, false≢true, or-true}
+use mathlib.Core.List.{List, [], _∷_, List·Memᴰ as Member, List·Memᴰ·head as head, List·Memᴰ·tail as tail}
 use lib.Dec.{eqb}
 use borrow.Author.Tests.{eqb-true, eqb-false}
 use Rattle.squares.specs.Sets.{members}
 use Rattle.squares.proofs.Members.{members-cons, members-none}
-use Rattle.rules.specs.Lists.{concatMap, keep}
-use Rattle.rules.proofs.Lists.{keep-yes, keep-no}
+use Rattle.rules.specs.Lists.{concatMap, keep, some}
+use Rattle.rules.proofs.Lists.{keep-yes, keep-no, none-some, some-append}
 use Rattle.quiets.specs.Tests.{anyIn}
-use Rattle.quiet_laws.specs.Some.{some}
 
 -- ---- a list has an entry
-module _ {A : Type 0} where
-  pub some-none : (l : List A) → some l ≡ false → l ≡ []
-  unfolding some
-  some-none [] e = refl
-  some-none (x ∷ xs) e = absurd (true≢false e)
-
-  pub none-some : (l : List A) → l ≡ [] → some l ≡ false
-  unfolding some
-  none-some l e = ap some e
-
-  pub some-in : (l : List A) {x : A} → Member x l → some l ≡ true
-  unfolding some
-  some-in [] m = absurd (not-nil m)
-  some-in (y ∷ l) m = refl
-
-  pub some-append : (xs ys : List A) → some (xs ++ ys) ≡ (some xs || some ys)
-  unfolding some
-  some-append [] ys = refl
-  some-append (x ∷ xs) ys = refl
-
 module _ {A B : Type 0} where
-  pub some-map : (f : A → B) (l : List A) → some (map f l) ≡ some l
-  unfolding some
-  some-map f [] = refl
-  some-map f (x ∷ xs) = refl
-
   pub some-concatMap : (f : A → List B) (l : List A) → some (concatMap f l) ≡ anyIn (λ x. some (f x)) l
   unfolding some concatMap anyIn
   some-concatMap f [] = refl

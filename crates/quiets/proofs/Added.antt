@@ -1,12 +1,10 @@
 -- A store in place is an added move; moves added bit by bit, along a ray and direction by direction.
 use mathlib.Core.Path.{_≡_, refl, sym, ap, ap₂, _∙_}
-use mathlib.Core.Bool.{Bool, true, false, cond, _||_, or-true, or-false}
-use mathlib.Core.List.{List, [], _∷_, _++_, map, foldl, foldl-append, flatMap}
+use mathlib.Core.Bool.{Bool, true, cond, _||_, or-true, or-false}
+use mathlib.Core.List.{List, [], _∷_, map, foldl, foldl-append, flatMap}
 use Prim.Native.Nat.{ℕ, zero, suc, _+_, _-_, _^_, _≤_, _<_}
-use native.Mathlib.Omega.{arith}
 use native.Mathlib.Numerals.{add-one}
 use lib.ListN.{set}
-use lib.Dec.{eqb, ltb, leb}
 use lib.Bits.{bitAnd}
 use borrow.Author.Tests.{lt-ltb, le-ltb, lt-leb, le-leb, eq-eqb, ne-eqb}
 use Rattle.squares.specs.Sets.{lowest, members}

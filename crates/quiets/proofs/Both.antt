@@ -1,7 +1,7 @@
 -- The quiet moves are the men's and then the kings'.
-use mathlib.Core.Path.{_≡_, refl, sym, ap, _∙_}
+use mathlib.Core.Path.{_≡_, sym, ap, _∙_}
 use mathlib.Core.Bool.{false}
-use mathlib.Core.List.{List, [], _++_, foldl, foldl-append, flatMap, append-nil}
+use mathlib.Core.List.{List, _++_, foldl, foldl-append, flatMap, append-nil}
 use Prim.Native.Nat.{ℕ}
 use Rattle.squares.specs.Sets.{members}
 use Rattle.squares.specs.declared.piece.Color.{Color}

@@ -1,10 +1,10 @@
 -- Counts of quiet moves: along a ray, over the directions, over the kings; none is large.
 use mathlib.Core.Path.{_≡_, refl, sym, ap, ap₂, _∙_}
 use Prim.Native.Nat.{ℕ, zero, suc, _+_, _-_, _*_, _^_, _≤_, _<_}
-use native.Mathlib.Nat.{add-assoc, zero-add}
+use native.Mathlib.Nat.{zero-add}
 use native.Mathlib.Omega.{arith}
 use mathlib.Core.Bool.{Bool, true, false, cond}
-use mathlib.Core.List.{List, [], _∷_, _++_, map, flatMap}
+use mathlib.Core.List.{List, [], _∷_, flatMap}
 use lib.ListN.{length, length-append, length-map}
 use lib.Dec.{eqb}
 use lib.Bits.{bitAnd}
@@ -16,7 +16,6 @@ use Rattle.squares.proofs.Members.{members-cons, members-none}
 use Rattle.squares.proofs.Sizes.{size-most}
 use Rattle.squares.proofs.Pointwise.{and-lt}
 use Rattle.squares.proofs.Shifts.{shifted-lt}
-use Rattle.positions.specs.declared.moves.Move.{Move}
 use Rattle.captures.specs.Rays.{far, landings}
 use Rattle.captures.specs.Walks.{upTo}
 use Rattle.captures.proofs.Steps.{Enough, enough-0, enough-step, enough-and}

@@ -1,13 +1,12 @@
 -- The definitions compute: quiet moves and tests on small boards.
 use mathlib.Core.Path.{_≡_, refl}
 use mathlib.Core.Bool.{true, false}
-use mathlib.Core.List.{List, [], _∷_}
+use mathlib.Core.List.{[], _∷_}
 use Prim.Native.Nat.{ℕ}
-use lib.ListN.{length}
 use lib.Bits.{bitOr}
 use Rattle.squares.specs.Sets.{without}
 use Rattle.squares.specs.Squares.{all, run, single}
-use Rattle.squares.specs.declared.piece.Color.the-variants.{White, Black}
+use Rattle.squares.specs.declared.piece.Color.the-variants.{White}
 use Rattle.positions.specs.Moves.{move}
 use Rattle.quiets.specs.Tests.{hasQuietOf, hasCaptureOf}
 use Rattle.quiets.specs.Quiets.{allQuiets}

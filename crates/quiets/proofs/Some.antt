@@ -1,13 +1,10 @@
 -- Whether some member of a set, or some direction, passes a test, as the loops ask it.
-use mathlib.Core.Path.{_≡_, refl, sym, ap, ap₂, _∙_}
-use mathlib.Core.Bool.{Bool, true, false, _||_, or-true}
-use Prim.Native.Nat.{ℕ, zero, suc, _+_, _-_, _^_, _≤_, _<_}
-use native.Mathlib.Omega.{arith}
-use native.Mathlib.Numerals.{add-one}
+use mathlib.Core.Path.{_≡_, sym, ap, _∙_}
+use mathlib.Core.Bool.{Bool, true, false, _||_}
+use Prim.Native.Nat.{ℕ, _-_, _^_, _<_}
 use lib.Bits.{bitAnd}
 use Rattle.squares.specs.Sets.{lowest, members}
 use Rattle.squares.proofs.Members.{members-cons, members-none}
-use Rattle.captures.specs.Walks.{anyUpTo}
 use Rattle.quiets.specs.Tests.{anyIn}
 
 module _ (p : ℕ → Bool) where

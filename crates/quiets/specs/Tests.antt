@@ -1,5 +1,5 @@
 -- Whether a quiet move or a jump is open, by shifted sets (document 01, "movegen.rs").
-use mathlib.Core.Bool.{Bool, true, false, not, _||_}
+use mathlib.Core.Bool.{Bool, false, not, _||_}
 use mathlib.Core.List.{List, [], _∷_}
 use Prim.Native.Nat.{ℕ, _+_, _-_, _^_}
 use lib.Dec.{eqb}

@@ -1,6 +1,6 @@
 -- The same fold where the list has room for `room` entries only, and an overflow is marked.
 use mathlib.Core.Path.{_≡_, refl, sym, ap, ap₂, _∙_, subst}
-use Prim.Native.Nat.{ℕ, _≤_, _<_}
+use Prim.Native.Nat.{ℕ, zero, suc, _≤_, _<_}
 use native.Mathlib.Omega.{arith}
 use mathlib.Core.Bool.{Bool, true, false, _||_, cond, false≢true, or-true}
 use mathlib.Core.List.{List, [], _∷_, _++_, foldl, List·Memᴰ as Member, Memᴰ·append-left as in-left}
@@ -24,6 +24,15 @@ bounded k l o = record { most = k; list = l; over = o }
 abbrev pub view : {A : Type 0} → ℕ → Found A → Bounded A
 view room s = bounded (s .most) (take room (s .list)) (ltb room (length (s .list)))
 
+-- of one entry a list with no room keeps nothing, and marks it
+first-take : {A : Type 0} (room : ℕ) (x : A) → take room (x ∷ []) ≡ cond (ltb 0 room) (x ∷ []) []
+first-take zero x = refl
+first-take (suc n) x = take-all (suc n) (x ∷ []) (omega arith) ∙ ap (λ (b : Bool). cond b (x ∷ []) []) (sym (lt-ltb 0 (suc n) (omega arith)))
+
+first-over : (room : ℕ) → ltb room 1 ≡ leb room 0
+first-over zero = refl
+first-over (suc n) = le-ltb (suc n) 1 (omega arith) ∙ sym (lt-leb (suc n) 0 (omega arith))
+
 module _ {A : Type 0} (same : A → A → Bool) (size : A → ℕ) (room : ℕ) where
   abbrev pub push : List A → A → List A
   push l x = cond (ltb (length l) room) (l ++ (x ∷ [])) l
@@ -32,7 +41,7 @@ module _ {A : Type 0} (same : A → A → Bool) (size : A → ℕ) (room : ℕ) 
   noteIn s x =
       cond (eqb (size x) 0) s
       (cond (ltb (size x) (s .most)) s
-      (cond (ltb (s .most) (size x)) (bounded (size x) (x ∷ []) false)
+      (cond (ltb (s .most) (size x)) (bounded (size x) (push [] x) (leb room 0))
       (cond (contains same (s .list) x) s
       (bounded (s .most) (push (s .list) x) (s .over || leb room (length (s .list)))))))
 
@@ -44,7 +53,7 @@ module _ {A : Type 0} (same : A → A → Bool) (size : A → ℕ) (room : ℕ) 
   unfolding noteIn
   in-less s x p h = rw (ne-eqb (size x) 0 (λ e. omega arith), lt-ltb (size x) (s .most) h) refl
 
-  in-more : (s : Bounded A) (x : A) → s .most < size x → noteIn s x ≡ bounded (size x) (x ∷ []) false
+  in-more : (s : Bounded A) (x : A) → s .most < size x → noteIn s x ≡ bounded (size x) (push [] x) (leb room 0)
   unfolding noteIn
   in-more s x h = rw (ne-eqb (size x) 0 (λ e. omega arith), le-ltb (size x) (s .most) (omega arith), lt-ltb (s .most) (size x) h) refl
 
@@ -59,7 +68,7 @@ module _ {A : Type 0} (same : A → A → Bool) (size : A → ℕ) (room : ℕ) 
   in-new s x p h c =
       rw (ne-eqb (size x) 0 (λ e. omega arith), le-ltb (size x) (s .most) (omega arith), le-ltb (s .most) (size x) (omega arith), c) refl
 
-  module _ (same-refl : (x : A) → same x x ≡ true) (same-true : (x y : A) → same x y ≡ true → x ≡ y) (some : 0 < room) where
+  module _ (same-refl : (x : A) → same x x ≡ true) (same-true : (x y : A) → same x y ≡ true → x ≡ y) where
     in-whole : (l : List A) (x : A) → Member x (take room l) → Member x l
     in-whole l x m = subst (λ r. Member x r) (take-append-drop room l) (in-left (drop room l) m)
 
@@ -119,7 +128,7 @@ module _ {A : Type 0} (same : A → A → Bool) (size : A → ℕ) (room : ℕ) 
         go (less p q) = ap (view room) (note-less same size s x q) ∙ sym (in-less (view room s) x p q)
         go (more q) =
             ap (view room) (note-more same size s x q)
-            ∙ ap₂ (λ (r : List A) (o : Bool). bounded (size x) r o) (take-all room (x ∷ []) (omega arith)) (le-ltb room 1 (omega arith))
+            ∙ ap₂ (λ (r : List A) (o : Bool). bounded (size x) r o) (first-take room x) (first-over room)
             ∙ sym (in-more (view room s) x q)
         go (equal p q) = ap (view room) (note-same same size s x p q) ∙ level (s .most) (s .list) x p q
 

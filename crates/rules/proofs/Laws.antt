@@ -1,6 +1,6 @@
 -- The laws that crates above cite. `Legal` is the rule, `legal` the list: by `listed-legal` each of the others speaks of both.
 use mathlib.Core.Path.{_≡_, refl, sym, ap, _∙_, subst}
-use Prim.Native.Nat.{ℕ, _+_, _≤_, _<_}
+use Prim.Native.Nat.{ℕ, _+_, _≤_}
 use native.Mathlib.Omega.{arith}
 use mathlib.Core.Bool.{Bool, true, false, not, true≢false, false≢true}
 use mathlib.Core.List.{List, [], _∷_, map, foldl, List·Memᴰ as Member, List·Memᴰ·head as head, List·Memᴰ·not-nil as not-nil}
@@ -158,18 +158,18 @@ module _ (b : Board) (fair : Fair b) where
   king-shortcut = king-law b fair
 
   -- where a jump is open the search ends with the list, as far as the room goes, and a mark where there is more
-  pub search-open : (room : ℕ) → 0 < room → Open b
+  pub search-open : (room : ℕ) → Open b
       → searched b room ≡ bounded (best count (captures b)) (take room (legal b)) (ltb room (length (legal b)))
-  search-open room some o = go (captures b) refl
+  search-open room o = go (captures b) refl
     where
       go : (l : List BitMove) → captures b ≡ l
           → searched b room ≡ bounded (best count (captures b)) (take room (legal b)) (ltb room (length (legal b)))
       go [] e = absurd (shut-law b fair .0 e o)
-      go (c ∷ cs) e = searched-open b fair room some c cs e
+      go (c ∷ cs) e = searched-open b fair room c cs e
 
   -- where none is open it ends with nothing, and the list is of the quiet moves
-  pub search-shut : (room : ℕ) → 0 < room → NoJump b → searched b room ≡ bounded 0 [] false
-  search-shut room some n = searched-shut b fair room some (shut-law b fair .1 n)
+  pub search-shut : (room : ℕ) → NoJump b → searched b room ≡ bounded 0 [] false
+  search-shut room n = searched-shut b fair room (shut-law b fair .1 n)
 
   pub quiet-list : NoJump b → legal b ≡ map numbered (quiets b)
   unfolding legal
@@ -189,6 +189,6 @@ module _ {A : Type 0} (same : A → A → Bool) (number : A → ℕ) where
     absorption = absorbed same same-refl same-true number
 
     -- with room for that many, and a mark where there are more: only the final list counts
-    pub room-and-mark : (room : ℕ) → 0 < room → (xs : List A) → let l = longest same number (keep (takes number) xs) in
+    pub room-and-mark : (room : ℕ) → (xs : List A) → let l = longest same number (keep (takes number) xs) in
         foldl (noteIn same number room) (bounded 0 [] false) xs ≡ bounded (best number (keep (takes number) xs)) (take room l) (ltb room (length l))
-    room-and-mark room some = bounded-law same number room same-refl same-true some
+    room-and-mark room = bounded-law same number room same-refl same-true

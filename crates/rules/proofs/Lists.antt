@@ -1,10 +1,38 @@
 -- Membership in a list made of lists, of images, of the entries that pass.
 use mathlib.Core.Path.{_≡_, refl, sym, ap, _∙_, subst}
-use mathlib.Core.Bool.{Bool, true, false}
+use mathlib.Core.Bool.{Bool, true, false, _||_, true≢false}
 use mathlib.Core.List.{List, [], _∷_, _++_, map, append-assoc, List·Memᴰ as Member, List·Memᴰ·head as head, List·Memᴰ·tail as tail, List·Memᴰ·not-nil as not-nil, Memᴰ·append-left as in-left, Memᴰ·append-right as in-right, List·Memᴰ·append-cases as in-cases}
 use mathlib.Core.Logic.{_⊎_, inl, inr}
-use Rattle.rules.specs.Lists.{concatMap, keep}
+use Rattle.rules.specs.Lists.{concatMap, keep, some}
 
+-- ---- a list has an entry
+module _ {A : Type 0} where
+  pub some-none : (l : List A) → some l ≡ false → l ≡ []
+  unfolding some
+  some-none [] e = refl
+  some-none (x ∷ xs) e = absurd (true≢false e)
+
+  pub none-some : (l : List A) → l ≡ [] → some l ≡ false
+  unfolding some
+  none-some l e = ap some e
+
+  pub some-in : (l : List A) {x : A} → Member x l → some l ≡ true
+  unfolding some
+  some-in [] m = absurd (not-nil m)
+  some-in (y ∷ l) m = refl
+
+  pub some-append : (xs ys : List A) → some (xs ++ ys) ≡ (some xs || some ys)
+  unfolding some
+  some-append [] ys = refl
+  some-append (x ∷ xs) ys = refl
+
+module _ {A B : Type 0} where
+  pub some-map : (f : A → B) (l : List A) → some (map f l) ≡ some l
+  unfolding some
+  some-map f [] = refl
+  some-map f (x ∷ xs) = refl
+
+-- ---- a list made of lists
 module _ {A B : Type 0} where
   pub in-concatMap : (f : A → List B) {x : A} {y : B} {xs : List A} → Member x xs → Member y (f x) → Member y (concatMap f xs)
   unfolding concatMap

@@ -40,19 +40,19 @@ module _ {A B : Type 0} (φ : A → B) (sameA : A → A → Bool) (sizeA : A →
   unfolding noteIn
   note-map s x h k =
       ap₂ (λ (n : ℕ) (t : Bool). cond (eqb n 0) (renamed φ s)
-      (cond (ltb n (s .most)) (renamed φ s) (cond (ltb (s .most) n) (bounded n (φ x ∷ []) false)
+      (cond (ltb n (s .most)) (renamed φ s) (cond (ltb (s .most) n) (bounded n (push sameB sizeB room [] (φ x)) (leb room 0))
       (cond t (renamed φ s) (bounded (s .most) (push sameB sizeB room (map φ (s .list)) (φ x)) (s .over || leb room (length (map φ (s .list)))))))))
       (sizes x k) (contains-map (s .list) x h k)
       ∙ go (eqb (sizeA x) 0) (ltb (sizeA x) (s .most)) (ltb (s .most) (sizeA x)) (contains sameA (s .list) x)
     where
-      go : (p q r t : Bool) → cond p (renamed φ s) (cond q (renamed φ s) (cond r (bounded (sizeA x) (φ x ∷ []) false)
+      go : (p q r t : Bool) → cond p (renamed φ s) (cond q (renamed φ s) (cond r (bounded (sizeA x) (push sameB sizeB room [] (φ x)) (leb room 0))
           (cond t (renamed φ s) (bounded (s .most) (push sameB sizeB room (map φ (s .list)) (φ x))
           (s .over || leb room (length (map φ (s .list))))))))
-          ≡ renamed φ (cond p s (cond q s (cond r (bounded (sizeA x) (x ∷ []) false)
+          ≡ renamed φ (cond p s (cond q s (cond r (bounded (sizeA x) (push sameA sizeA room [] x) (leb room 0))
           (cond t s (bounded (s .most) (push sameA sizeA room (s .list) x) (s .over || leb room (length (s .list))))))))
       go true q r t = refl
       go false true r t = refl
-      go false false true t = refl
+      go false false true t = ap (λ (l : List B). bounded (sizeA x) l (leb room 0)) (push-map [] x)
       go false false false true = refl
       go false false false false = ap₂ (λ (l : List B) (n : ℕ). bounded (s .most) l (s .over || leb room n)) (push-map (s .list) x)
           (length-map (s .list))
@@ -60,7 +60,7 @@ module _ {A B : Type 0} (φ : A → B) (sameA : A → A → Bool) (sizeA : A →
   note-ok : (s : Bounded A) (x : A) → AllOk (s .list) → Ok x → AllOk (noteIn sameA sizeA room s x .list)
   unfolding noteIn
   note-ok s x h k = go (eqb (sizeA x) 0) (ltb (sizeA x) (s .most)) (ltb (s .most) (sizeA x)) (contains sameA (s .list) x)
-      (ltb (length (s .list)) room)
+      (ltb (length (s .list)) room) (ltb 0 room)
     where
       snoc : (l : List A) → AllOk l → AllOk (l ++ (x ∷ []))
       snoc [] f z (head e) = subst Ok (sym e) k
@@ -68,15 +68,16 @@ module _ {A B : Type 0} (φ : A → B) (sameA : A → A → Bool) (sizeA : A →
       snoc (y ∷ l) f z (head e) = f z (head e)
       snoc (y ∷ l) f z (tail m) = snoc l (λ u n. f u (tail n)) z m
 
-      go : (p q r t c : Bool) → AllOk (cond p s
-          (cond q s (cond r (bounded (sizeA x) (x ∷ []) false)
+      go : (p q r t c d : Bool) → AllOk (cond p s
+          (cond q s (cond r (bounded (sizeA x) (cond d (x ∷ []) []) (leb room 0))
           (cond t s (bounded (s .most) (cond c (s .list ++ (x ∷ [])) (s .list)) (s .over || leb room (length (s .list))))))) .list)
-      go true q r t c = h
-      go false true r t c = h
-      go false false true t c = snoc [] (λ u n. absurd (not-nil n))
-      go false false false true c = h
-      go false false false false true = snoc (s .list) h
-      go false false false false false = h
+      go true q r t c d = h
+      go false true r t c d = h
+      go false false true t c true = snoc [] (λ u n. absurd (not-nil n))
+      go false false true t c false = λ u n. absurd (not-nil n)
+      go false false false true c d = h
+      go false false false false true d = snoc (s .list) h
+      go false false false false false d = h
 
   pub fold-map : (xs : List A) (s : Bounded A) → AllOk (s .list) → AllOk xs
       → foldl (noteIn sameB sizeB room) (renamed φ s) (map φ xs) ≡ renamed φ (foldl (noteIn sameA sizeA room) s xs)

@@ -1,6 +1,6 @@
 -- What a search of the code ends with, by square numbers: everything tried, folded with room and mark, is the list.
 use mathlib.Core.Path.{_≡_, refl, sym, ap, ap₂, _∙_, subst}
-use Prim.Native.Nat.{ℕ, zero, suc, _<_}
+use Prim.Native.Nat.{ℕ, zero, suc}
 use native.Mathlib.Omega.{arith}
 use mathlib.Core.Bool.{true, false}
 use mathlib.Core.List.{List, [], _∷_, map, foldl, List·Memᴰ as Member, List·Memᴰ·not-nil as not-nil, List·Memᴰ·append-cases as in-cases}
@@ -77,25 +77,25 @@ module _ (b : Board) (fair : Fair b) where
           path-on King (r .0) w (of-members (pieces b King) (r .0) (r .1)) (of-kingTried (r .0) w (r .2))
 
   -- what it ends with, for the list l of the longest captures
-  pub searched-is : (room : ℕ) → 0 < room → (l : List BitMove) → longest sameBits count (captures b) ≡ l
+  pub searched-is : (room : ℕ) → (l : List BitMove) → longest sameBits count (captures b) ≡ l
       → searched b room ≡ bounded (best count (captures b)) (take room (map numbered l)) (ltb room (length (map numbered l)))
-  searched-is room some l e =
+  searched-is room l e =
       fold-map numbered sameBits count same taking room OnBoard (λ v w p q. same-numbered v w p q) (λ w p. refl) (allTried b) (bounded 0 [] false)
       (λ w m. absurd (not-nil m)) tried-on
-      ∙ ap (renamed numbered) (search-law b fair room some)
+      ∙ ap (renamed numbered) (search-law b fair room)
       ∙ ap (λ (r : List BitMove). bounded (best count (captures b)) (map numbered (take room r)) (ltb room (length r))) e
       ∙ ap₂ (λ (r : List Move) (n : ℕ). bounded (best count (captures b)) r (ltb room n)) (map-take numbered room l) (sym (map-length numbered l))
 
   -- where a jump is open: the list of legal moves, and a mark where there are more than the room holds
-  pub searched-open : (room : ℕ) → 0 < room → (c : BitMove) (cs : List BitMove) → captures b ≡ c ∷ cs
+  pub searched-open : (room : ℕ) → (c : BitMove) (cs : List BitMove) → captures b ≡ c ∷ cs
       → searched b room ≡ bounded (best count (captures b)) (take room (legal b)) (ltb room (length (legal b)))
   unfolding legal
-  searched-open room some c cs e = searched-is room some (bitLegal b) (sym (bits-some b c cs e))
+  searched-open room c cs e = searched-is room (bitLegal b) (sym (bits-some b c cs e))
 
   -- where none is open: nothing
-  pub searched-shut : (room : ℕ) → 0 < room → captures b ≡ [] → searched b room ≡ bounded 0 [] false
+  pub searched-shut : (room : ℕ) → captures b ≡ [] → searched b room ≡ bounded 0 [] false
   unfolding best longest distinct keep
-  searched-shut room some e =
-      searched-is room some [] (ap (longest sameBits count) e)
+  searched-shut room e =
+      searched-is room [] (ap (longest sameBits count) e)
       ∙ ap₂ (λ (k : ℕ) (l : List Move). bounded k l (ltb room 0)) (ap (best count) e) (take-all room [] (omega arith))
       ∙ ap (bounded 0 []) (le-ltb room 0 (omega arith))

@@ -219,9 +219,9 @@ module _ (b : Board) (fair : Fair b) where
       men = concatMap (sequences b Man) (members (pieces b Man))
 
   -- with room for that many, and a mark: what the code's search ends with
-  pub search-law : (room : ℕ) → 0 < room → foldl (noteIn sameBits count room) (bounded 0 [] false) (allTried b)
+  pub search-law : (room : ℕ) → foldl (noteIn sameBits count room) (bounded 0 [] false) (allTried b)
       ≡ bounded (best count (captures b)) (take room (longest sameBits count (captures b))) (ltb room (length (longest sameBits count (captures b))))
-  search-law room some =
+  search-law room =
       ap₂ (λ (r : List BitMove) (o : Bool). foldl (noteIn sameBits count room) (bounded 0 r o) (allTried b))
       (sym (take-all {A = BitMove} room [] (omega arith))) (sym (le-ltb room 0 (omega arith)))
-      ∙ fold-seen sameBits count room bits-refl bits-true some (allTried b) (found 0 []) ∙ ap (view room) tried-law
+      ∙ fold-seen sameBits count room bits-refl bits-true (allTried b) (found 0 []) ∙ ap (view room) tried-law

@@ -18,6 +18,11 @@ unfoldable pub contains : {A : Type 0} → (A → A → Bool) → List A → A �
 contains same [] x = false
 contains same (y ∷ ys) x = same y x || contains same ys x
 
+-- whether a list has an entry
+unfoldable pub some : {A : Type 0} → List A → Bool
+some [] = false
+some (x ∷ xs) = true
+
 -- how often x stands in the list
 unfoldable pub times : {A : Type 0} → (A → A → Bool) → List A → A → ℕ
 times same [] x = 0

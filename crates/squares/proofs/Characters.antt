@@ -1,6 +1,5 @@
 -- Characters are read back as what they were written for.
 use mathlib.Core.Path.{_≡_, refl}
-use Prim.Native.Nat.{ℕ}
 use Rattle.squares.specs.Pieces.{colorChar, colorFromCharOf, charOf, pieceFromCharOf}
 use Rattle.squares.specs.Computed.{computed}
 use Rattle.squares.specs.declared.piece.Color.{Color}

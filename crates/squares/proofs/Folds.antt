@@ -1,19 +1,18 @@
 -- Folds over the members of a set in a commutative monoid. The law is that of a disjoint union; counts, keys and rows follow.
 use mathlib.Core.Path.{_≡_, refl, sym, ap, ap₂, _∙_}
-use Prim.Native.Nat.{ℕ, zero, suc, _+_, _-_, _*_, _^_, _≤_, _<_, zero-le}
-use native.Mathlib.Nat.{not-suc-le-zero, add-assoc, add-comm, zero-add, add-zero, pow-suc, mul-suc}
+use Prim.Native.Nat.{ℕ, zero, suc, _+_, _-_, _*_, _^_, _≤_, _<_}
+use native.Mathlib.Nat.{not-suc-le-zero, add-assoc, add-comm, zero-add, add-zero, pow-suc}
 use native.Mathlib.Omega.{arith}
 use mathlib.Core.Bool.{Bool, true, false, not, _&&_, _||_, xor, cond, true≢false, false≢true}
-use mathlib.Core.List.{List, [], _∷_}
 use lib.Dec.{eqb}
-use lib.Bits.{bitAnd, bitOr, bitXor, and-le-r, xor-comm, xor-zero-l, xor-lt}
+use lib.Bits.{bitAnd, bitOr, bitXor, xor-comm, xor-zero-l, xor-lt}
 use lib.Pow.{pow-lt}
 use borrow.Author.Tests.{eqb-true, eqb-false}
-use Rattle.squares.specs.Sets.{has, without, lowest, members}
+use Rattle.squares.specs.Sets.{has, without, lowest}
 use Rattle.squares.specs.Folds.{foldTo, over, xorOver, sumOver}
-use Rattle.squares.proofs.Bools.{every2, at2, every3, at3, iff, iff-eq, tested}
+use Rattle.squares.proofs.Bools.{at2, at3, iff, iff-eq, tested}
 use Rattle.squares.proofs.Pointwise.{has-zero, has-past, has-bit, has-bit-same, has-bit-other, has-and, has-or, has-xor, has-without, ext}
-use Rattle.squares.proofs.Members.{lowest-in, lowest-lt, has-clear, members-cons, members-none}
+use Rattle.squares.proofs.Members.{lowest-in, lowest-lt, has-clear}
 
 -- ---- disjoint unions
 -- x exactly where one of y and z, never both

@@ -1,9 +1,8 @@
 -- Keys: each is below 2 ^ 64; the key of a set is that of its squares, and adds up over disjoint unions.
-use mathlib.Core.Path.{_≡_, refl, sym, ap, _∙_}
-use Prim.Native.Nat.{ℕ, zero, suc, _+_, _*_, _/_, _%_, _^_, _<_}
+use mathlib.Core.Path.{_≡_, sym, ap, _∙_}
+use Prim.Native.Nat.{ℕ, zero, suc, _+_, _*_, _/_, _^_, _<_}
 use native.Mathlib.Nat.{mod-lt, lt-of-le-of-lt}
 use mathlib.Core.Bool.{Bool, true, false, cond}
-use mathlib.Core.List.{List, [], _∷_}
 use lib.Bits.{bitAnd, bitXor, xor-lt}
 use lib.ListN.{getD}
 use lib.Pow.{pow-pos, shr-le}

@@ -9,7 +9,7 @@ use mathlib.Core.Logic.{_⊎_, inl, inr}
 use lib.Dec.{eqb, leb, eqb·suc-suc, eqb·suc-zero}
 use lib.Bits.{bitAnd, and-shr, and-mod, and-self, and-zero-r}
 use lib.Count.{trailingZeros, under}
-use borrow.Author.Tests.{eqb-true, eqb-false, leb-true, le-leb}
+use borrow.Author.Tests.{leb-true, le-leb}
 use lib.Pow.{pow-lt}
 use Rattle.squares.specs.Sets.{has, without, lowest, membersFrom, members}
 use Rattle.squares.proofs.Bools.{and-left, and-right, and-both}

@@ -1,18 +1,18 @@
 -- Square numbers and bits: each law of the 50 squares, or of the 64 bits, is one computed test.
-use mathlib.Core.Path.{_≡_, refl, sym, ap, ap₂, _∙_}
-use Prim.Native.Nat.{ℕ, zero, suc, _+_, _-_, _*_, _/_, _%_, _^_, _≤_, _<_}
+use mathlib.Core.Path.{_≡_, refl, sym, ap, _∙_}
+use Prim.Native.Nat.{ℕ, zero, _+_, _-_, _*_, _/_, _%_, _^_, _≤_, _<_}
 use native.Mathlib.Omega.{arith}
-use mathlib.Core.Bool.{Bool, true, false, not, _&&_, cond, false≢true}
+use mathlib.Core.Bool.{Bool, true, false, not, _&&_, cond}
 use lib.Dec.{eqb, leb, ltb, lit<}
-use borrow.Author.Tests.{eqb-true, leb-true, ltb-true, le-ltb, le-leb, eq-eqb, lt-leb}
+use borrow.Author.Tests.{eqb-true, leb-true, ltb-true, le-ltb, le-leb}
 use lib.Bits.{bitAnd, and-comm, and-zero-r}
 use lib.Pow.{pow-lt}
 use Rattle.squares.specs.Sets.{has, without}
-use Rattle.squares.specs.Squares.{isSquare, bitOf, run, all, promotion, onBoard, squareAtBit, rowOf, fileOf, single, containsOf}
+use Rattle.squares.specs.Squares.{isSquare, bitOf, all, promotion, onBoard, squareAtBit, rowOf, fileOf, single, containsOf}
 use Rattle.squares.specs.Computed.{computed}
 use Rattle.squares.specs.declared.piece.Color.{Color}
 use Rattle.squares.specs.declared.piece.Color.the-variants.{White, Black}
-use Rattle.squares.proofs.Bools.{imp, imp-elim, iff, iff-eq, and-left, and-right, and-both, tested, bool-ext}
+use Rattle.squares.proofs.Bools.{imp, imp-elim, iff, iff-eq, and-left, and-right, and-both, tested}
 use Rattle.squares.proofs.Below.{below, below-at}
 use Rattle.squares.proofs.Pointwise.{has-past, and-not, bit-test}
 

@@ -4,13 +4,13 @@ use Prim.Native.Nat.{ℕ, zero, suc, _+_, _-_, _*_, _/_, _%_, _^_, _≤_, _<_, s
 use native.Mathlib.Nat.{mod-lt, not-suc-le-zero, le-of-suc-le-suc, zero-lt-suc, pow-suc, div-div-eq-div-mul, mul-comm, zero-div, div-one, mul-mod-left, mul-div-cancel, div-lt-iff-lt-mul, lt-of-le-of-lt, one-mul, sub-le, div-eq-of-lt, lt-of-lt-of-le}
 use native.Mathlib.Numerals.{add-one}
 use native.Mathlib.Omega.{arith}
-use mathlib.Core.Bool.{Bool, true, false, not, _&&_, _||_, xor, cond, and-true, and-false, true≢false, false≢true}
+use mathlib.Core.Bool.{Bool, true, false, not, _&&_, _||_, xor, cond, and-false, true≢false, false≢true}
 use borrow.Author.Tests.{eqb-true, eq-eqb, ne-eqb, ltb-true, ltb-false}
 use lib.Dec.{ltb, eqb, lit<, eqb·suc-suc, eqb·suc-zero, eqb·zero-suc}
 use lib.Bits.{bitAnd, bitOr, bitXor, and-shr, or-shr, xor-shr, and-mod, or-mod, xor-mod, shifted-half, shifted-even, and-le-l, or-lt, or-disjoint}
 use lib.Pow.{shr-shr, shl-shr, mod-mod-pow, field, shl-exact, pow-lt, pow-mono}
 use Rattle.squares.specs.Sets.{has, without}
-use Rattle.squares.proofs.Bools.{every2, at2, iff, iff-eq, tested, not-so}
+use Rattle.squares.proofs.Bools.{at2, iff, iff-eq, tested}
 
 pub two-pos : 0 < 2
 two-pos = zero-lt-suc 1

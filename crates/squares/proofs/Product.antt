@@ -1,7 +1,7 @@
 -- The low 64 bits of a product, from its halves of 32 bits.
-use mathlib.Core.Path.{_≡_, refl, sym, ap, ap₂, _∙_}
+use mathlib.Core.Path.{_≡_, sym, ap, ap₂, _∙_}
 use Prim.Native.Nat.{ℕ, _+_, _*_, _/_, _%_, _^_, _<_}
-use native.Mathlib.Nat.{add-mul, mul-add, mul-assoc, mul-comm, div-add-mod', mul-add-mod-self-right, add-mod-mod, mul-lt-mul-of-pos-right, mul-le-mul-left, lt-of-le-of-lt, le-of-lt, mod-lt, zero-lt-suc}
+use native.Mathlib.Nat.{add-mul, mul-add, mul-assoc, mul-comm, div-add-mod', mul-add-mod-self-right, add-mod-mod, mul-lt-mul-of-pos-right, mul-le-mul-left, lt-of-le-of-lt, le-of-lt}
 use native.Mathlib.Omega.{arith}
 use lib.Pow.{pow-pos}
 

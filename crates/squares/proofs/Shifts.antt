@@ -1,20 +1,20 @@
 -- What a shift does to a set, to one square of the board and at the edge.
-use mathlib.Core.Path.{_≡_, refl, sym, ap, ap₂, _∙_}
-use Prim.Native.Nat.{ℕ, zero, suc, _+_, _-_, _*_, _/_, _%_, _^_, _≤_, _<_}
+use mathlib.Core.Path.{_≡_, refl, sym, ap, _∙_}
+use Prim.Native.Nat.{ℕ, zero, _+_, _-_, _*_, _%_, _^_, _≤_, _<_}
 use native.Mathlib.Nat.{mod-lt}
 use native.Mathlib.Omega.{arith}
-use mathlib.Core.Bool.{Bool, true, false, not, _&&_, _||_, cond, and-true, and-false, false≢true}
-use lib.Dec.{eqb, leb, ltb, lit<}
+use mathlib.Core.Bool.{Bool, true, false, not, _&&_, _||_, cond, and-true, and-false}
+use lib.Dec.{eqb, ltb, lit<}
 use lib.Bits.{bitAnd, and-le-r}
 use lib.Pow.{pow-lt, pow-pos, shr-le}
-use borrow.Author.Tests.{eqb-true, eqb-false, eq-eqb, ne-eqb, ltb-true, ltb-false, lt-ltb}
+use borrow.Author.Tests.{eqb-true, eq-eqb, ltb-true, ltb-false}
 use Rattle.squares.specs.Sets.{has}
-use Rattle.squares.specs.Squares.{all, onBoard, rowOf, fileOf}
+use Rattle.squares.specs.Squares.{onBoard, rowOf, fileOf}
 use Rattle.squares.specs.Directions.{Direction, upLeft, upRight, downLeft, downRight, places, next, opposite, indexOf, directionAt, shifted}
 use Rattle.squares.specs.Computed.{computed}
 use Rattle.squares.proofs.Bools.{imp, imp-elim, iff, iff-eq, and-left, and-right, and-both, tested, bool-ext}
 use Rattle.squares.proofs.Below.{below, below-at}
-use Rattle.squares.proofs.Pointwise.{has-shr, has-shl, has-shl-low, has-mod, has-past, has-and, has-bit, has-zero, ext, member-lt}
+use Rattle.squares.proofs.Pointwise.{has-shr, has-shl, has-shl-low, has-mod, has-past, has-and, has-bit, has-zero, ext}
 use Rattle.squares.proofs.Numbers.{on-lt}
 
 -- ---- directions

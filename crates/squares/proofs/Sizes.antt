@@ -1,17 +1,16 @@
 -- Counts of members: the count of ones is the sum of ones, so each law of a count is a disjoint union.
 use mathlib.Core.Path.{_≡_, refl, sym, ap, ap₂, _∙_}
-use Prim.Native.Nat.{ℕ, zero, suc, _+_, _*_, _/_, _%_, _^_, _≤_, _<_}
+use Prim.Native.Nat.{ℕ, zero, suc, _+_, _/_, _%_, _^_, _≤_, _<_}
 use native.Mathlib.Nat.{add-assoc, add-comm, zero-add, mod-lt}
 use native.Mathlib.Omega.{arith}
-use mathlib.Core.Bool.{Bool, true, false, not, _&&_, _||_, cond, true≢false, false≢true}
+use mathlib.Core.Bool.{Bool, true, false, not, _&&_, _||_, cond}
 use lib.Arith.{lt-one}
 use lib.Dec.{eqb}
-use lib.Bits.{bitAnd, bitOr, and-comm, or-lt}
+use lib.Bits.{bitAnd, bitOr, and-comm}
 use lib.Count.{ones, onesIn, ones-step}
-use lib.Pow.{pow-lt}
 use Rattle.squares.specs.Sets.{has, size, without, lowest}
 use Rattle.squares.specs.Folds.{foldTo, over, sumOver}
-use Rattle.squares.proofs.Bools.{every2, at2, tested}
+use Rattle.squares.proofs.Bools.{at2, tested}
 use Rattle.squares.proofs.Pointwise.{half-lt, has-low, has-half, has-or, has-without, without-lt, none-zero, member-lt}
 use Rattle.squares.proofs.Members.{lowest-in, lowest-lt}
 use Rattle.squares.proofs.Folds.{Parts, parts, fold-first, parts-apart, parts-split, parts-within, parts-add, parts-remove, bitIf, sum-parts, sum-none, sum-bitIf}

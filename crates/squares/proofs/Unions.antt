@@ -1,16 +1,15 @@
 -- Unions over the members of a set: a bit belongs to the union exactly where it belongs to the set of some member.
-use mathlib.Core.Path.{_≡_, refl, sym, ap, ap₂, _∙_}
+use mathlib.Core.Path.{_≡_, refl, sym, ap, _∙_}
 use Prim.Native.Nat.{ℕ, zero, suc, _+_, _-_, _^_, _<_}
 use native.Mathlib.Omega.{arith}
-use mathlib.Core.Bool.{Bool, true, false, _&&_, _||_, cond, or-true, true≢false, false≢true}
-use mathlib.Core.Logic.{_⊎_, inl, inr}
+use mathlib.Core.Bool.{Bool, true, false, _||_, cond, or-true, false≢true}
 use lib.Dec.{eqb}
 use lib.Bits.{bitAnd, bitOr, or-comm, or-zero-l, or-lt}
 use lib.Pow.{pow-pos}
 use borrow.Author.Tests.{eqb-true, eqb-false}
 use Rattle.squares.specs.Sets.{has, lowest}
 use Rattle.squares.specs.Folds.{foldTo, over, unionOver}
-use Rattle.squares.proofs.Bools.{iff, iff-eq, every3, at3, tested}
+use Rattle.squares.proofs.Bools.{iff, iff-eq, at3, tested}
 use Rattle.squares.proofs.Pointwise.{has-or, has-zero, ext}
 use Rattle.squares.proofs.Folds.{over-next, over-none, over-same, over-mask, three}
 

@@ -1,6 +1,6 @@
 -- Sets of squares (document 01, "bitboard.rs, square.rs, piece.rs").
 -- A set is a number below 2 ^ 64: the square at bit i belongs to it where its digit i is 1.
-use Prim.Native.Nat.{ℕ, zero, suc, _+_, _-_, _/_, _%_, _^_}
+use Prim.Native.Nat.{ℕ, zero, suc, _-_, _/_, _%_, _^_}
 use mathlib.Core.Bool.{Bool, cond}
 use mathlib.Core.List.{List, [], _∷_}
 use lib.Dec.{eqb}

@@ -1,6 +1,5 @@
 -- The counter rises to 16, and a place past the line is not read.
 use borrow.Author.Needs.{needs}
-use native.Mathlib.Omega.{arith}
 use Prim.Native.Nat.{_-_, _≤_}
 use Rattle.boards.proofs.word.Statement.{statement}
 use Rattle.boards.proofs.word.Tie as tie

@@ -1,7 +1,6 @@
 -- Each branch writes the definition's.
 use Rattle.captures.specs.Kings.{skipOf}
 use borrow.Author.Needs.{needs}
-use native.Mathlib.Omega.{arith}
 use Rattle.captures.proofs.movegen.skips.Statement.{statement}
 use Rattle.captures.proofs.movegen.skips.Tie as tie
 

@@ -1,8 +1,7 @@
 -- Each step takes the set further in its direction, so that it runs off the board at last; what it first meets outside `empty` ends the slide.
 use borrow.Author.Needs.{needs}
-use mathlib.Core.Path.{_≡_, subst, sym, ap, _∙_}
-use Prim.Native.Nat.{ℕ}
-use Rattle.squares.specs.Directions.{directionAt, shifted}
+use mathlib.Core.Path.{ap, _∙_}
+use Rattle.squares.specs.Directions.{directionAt}
 use Rattle.captures.specs.Rays.{far, slideFrom, slideOf}
 use Rattle.captures.proofs.Rays.{Sliding, slide-start, slide-step, slide-end, meets}
 use Rattle.captures.proofs.Steps.{rank, falls}

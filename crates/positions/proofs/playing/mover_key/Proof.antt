@@ -1,7 +1,4 @@
 -- Either kind.
-use mathlib.Core.Path.{_∙_, sym, ap}
-use mathlib.Core.Bool.{Bool}
-use Rattle.positions.specs.Successor.{moverKey}
 use borrow.Author.Needs.{needs}
 use Rattle.positions.proofs.playing.mover_key.Statement.{statement}
 use Rattle.positions.proofs.playing.mover_key.Tie as tie

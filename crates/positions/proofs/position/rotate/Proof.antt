@@ -1,9 +1,8 @@
 -- Each turn takes the lowest square and puts in its opposite; bits that are no square go nowhere.
-use mathlib.Core.Path.{_≡_, refl, sym, ap, _∙_}
-use Prim.Native.Nat.{ℕ, _+_, _-_, _*_, _%_, _^_, _<_, _≤_}
+use mathlib.Core.Path.{_≡_, sym, ap, _∙_}
+use Prim.Native.Nat.{ℕ, _-_, _*_, _%_, _^_, _<_}
 use native.Mathlib.Nat.{lt-of-le-of-lt}
 use lib.Bits.{bitAnd, bitOr, and-le-l, and-le-r, or-comm, or-zero-l, or-zero-r}
-use lib.Count.{trailingZeros}
 use Rattle.squares.specs.Sets.{has, lowest}
 use Rattle.squares.specs.Squares.{all, squareAtBit, single}
 use Rattle.squares.specs.Folds.{unionOver}
@@ -11,7 +10,7 @@ use Rattle.squares.proofs.Bools.{and-right}
 use Rattle.squares.proofs.Pointwise.{has-and, one-bit, member-lt}
 use Rattle.squares.proofs.Members.{lowest-in}
 use Rattle.squares.proofs.Unions.{or-assoc, union-next, union-none, union-same, union-mask}
-use Rattle.squares.proofs.Numbers.{all-is, has-all, on-lt}
+use Rattle.squares.proofs.Numbers.{all-is, has-all}
 use Rattle.positions.specs.Flip.{rotated}
 use Rattle.positions.proofs.Rotation.{turned-bit, turned-off}
 use borrow.Author.Needs.{needs}

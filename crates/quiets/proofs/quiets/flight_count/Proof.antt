@@ -1,6 +1,5 @@
 -- Each turn counts one landing of the flight.
 use borrow.Author.Needs.{needs}
-use mathlib.Core.Path.{_≡_}
 use native.Mathlib.Omega.{arith}
 use Rattle.squares.specs.Directions.{directionAt}
 use Rattle.squares.proofs.Pointwise.{and-lt}

@@ -1,5 +1,4 @@
 -- Each test is the definition's; a man's directions are the first two from `forward` on.
-use mathlib.Core.Path.{_≡_}
 use native.Mathlib.Omega.{arith}
 use Rattle.captures.specs.Walks.{anyUpTo}
 use Rattle.quiets.specs.Tests.{hasQuietOf}

@@ -1,12 +1,12 @@
 -- Each turn stores one landing of a flight, in place; the flights are walked direction by direction and king by king.
-use mathlib.Core.Path.{_≡_, refl, sym, ap, ap₂, _∙_}
+use mathlib.Core.Path.{_≡_, refl, ap, ap₂, _∙_}
 use mathlib.Core.Logic.{⊎-elim}
 use mathlib.Core.List.{foldl, map, flatMap}
-use Prim.Native.Nat.{ℕ, _+_, _-_, _^_, _≤_, _<_}
+use Prim.Native.Nat.{ℕ, _-_, _≤_}
 use native.Mathlib.Omega.{arith}
 use lib.Bits.{bitAnd}
 use Rattle.squares.specs.Sets.{members}
-use Rattle.squares.specs.Directions.{directionAt, shifted}
+use Rattle.squares.specs.Directions.{directionAt}
 use Rattle.squares.proofs.Pointwise.{and-lt, one-bit}
 use Rattle.squares.proofs.Members.{lowest-lt}
 use Rattle.squares.proofs.Shifts.{shifted-lt}

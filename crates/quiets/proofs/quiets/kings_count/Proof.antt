@@ -1,5 +1,4 @@
 -- Each turn adds the moves of the lowest king left; the whole sum is small.
-use mathlib.Core.Path.{_≡_}
 use native.Mathlib.Omega.{arith}
 use Rattle.squares.proofs.Members.{lowest-lt}
 use Rattle.captures.proofs.Loops.{cleared}

@@ -1,12 +1,11 @@
 -- Each turn stores the step onto the lowest bit reached, in place; both directions forward are walked.
-use mathlib.Core.Path.{_≡_, refl, sym, ap, ap₂, _∙_}
+use mathlib.Core.Path.{_≡_, refl, ap, ap₂, _∙_}
 use mathlib.Core.Logic.{⊎-elim}
 use mathlib.Core.List.{_∷_, [], foldl, map, flatMap}
-use Prim.Native.Nat.{ℕ, _+_, _-_, _^_, _≤_, _<_}
+use Prim.Native.Nat.{ℕ, _+_, _-_, _≤_}
 use native.Mathlib.Omega.{arith}
 use lib.Bits.{bitAnd}
 use Rattle.squares.specs.Sets.{members}
-use Rattle.squares.specs.Directions.{directionAt, shifted}
 use Rattle.squares.proofs.Pointwise.{and-lt, one-bit}
 use Rattle.squares.proofs.Members.{lowest-lt}
 use Rattle.positions.specs.Moves.{move}

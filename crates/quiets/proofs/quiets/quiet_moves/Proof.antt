@@ -1,5 +1,5 @@
 -- The men's moves, then the kings'; without a king nothing is added.
-use mathlib.Core.Path.{_∙_, ap}
+use mathlib.Core.Path.{_∙_}
 use Rattle.quiets.proofs.Both.{both, men-only}
 use borrow.Author.Needs.{needs}
 use Rattle.quiets.proofs.quiets.quiet_moves.Statement.{statement}

@@ -1,5 +1,5 @@
 -- The set of one square meets the set exactly where the square belongs to it.
-use mathlib.Core.Path.{_≡_, ap, _∙_}
+use mathlib.Core.Path.{ap, _∙_}
 use Prim.Native.Nat.{ℕ}
 use mathlib.Core.Bool.{not}
 use lib.Dec.{eqb}

@@ -1,5 +1,5 @@
 -- What lies outside the board is tested as the code writes it, `bits & !ALL`.
-use mathlib.Core.Path.{_≡_, sym, _∙_}
+use mathlib.Core.Path.{sym, _∙_}
 use borrow.Author.Tests.{eq-eqb, ne-eqb}
 use Rattle.squares.specs.Sets.{without}
 use Rattle.squares.specs.Squares.{all, fromBitsOf}

@@ -1,7 +1,6 @@
 -- Each constant is the row, computed.
 use mathlib.Core.Path.{sym}
 use borrow.Author.Needs.{needs}
-use Rattle.squares.specs.Squares.{promotion}
 use Rattle.squares.proofs.Numbers.{promotion-white, promotion-black}
 use Rattle.squares.proofs.bitboard.promotion_row.Statement.{statement}
 use Rattle.squares.proofs.bitboard.promotion_row.Tie as tie

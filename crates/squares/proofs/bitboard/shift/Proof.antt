@@ -1,14 +1,14 @@
 -- The table's entry says by how many places to shift, and each arm shifts by as many.
 use mathlib.Core.Path.{_≡_, refl, sym, ap, _∙_}
-use mathlib.Core.Logic.{_⊎_, inl, inr, ⊎-elim}
-use mathlib.Core.List.{List, [], _∷_}
+use mathlib.Core.Logic.{_⊎_, ⊎-elim}
+use mathlib.Core.List.{[], _∷_}
 use Prim.Native.Nat.{ℕ, zero, suc, _*_, _/_, _%_, _^_, _<_, _≤_}
 use native.Mathlib.Omega.{arith}
-use lib.IntN.{ℤ, pos, negsuc}
+use lib.IntN.{pos, negsuc}
 use lib.ListN.{getD}
 use mir.Syntax.{w32}
 use mir.Val.{ofZ}
-use Rattle.squares.specs.Directions.{Direction, directionAt, downRight, shifted}
+use Rattle.squares.specs.Directions.{directionAt, downRight, shifted}
 use Rattle.squares.proofs.bitboard.shift.Reads as reads
 use Rattle.squares.proofs.bitboard.shift.Lts as lts
 use Rattle.squares.proofs.bitboard.shift.Statement.{statement}

@@ -1,8 +1,8 @@
 -- Within 1 to 50 the code writes the definition.
-use mathlib.Core.Path.{_≡_, sym, ap, _∙_}
+use mathlib.Core.Path.{sym, _∙_}
 use native.Mathlib.Omega.{arith}
 use borrow.Author.Needs.{needs}
-use Rattle.squares.specs.Squares.{isSquare, ofSquare, bitOf}
+use Rattle.squares.specs.Squares.{ofSquare, bitOf}
 use Rattle.squares.proofs.Numbers.{square-range}
 use Rattle.squares.proofs.square.bit.Statement.{statement}
 use Rattle.squares.proofs.square.bit.Tie as tie

@@ -1,9 +1,9 @@
 -- The bit is below 64, so the shift loses nothing.
 use Prim.Native.Nat.{_+_, _-_, _/_}
-use mathlib.Core.Path.{_≡_, sym, ap, _∙_}
+use mathlib.Core.Path.{sym, _∙_}
 use native.Mathlib.Omega.{arith}
 use borrow.Author.Needs.{needs}
-use Rattle.squares.specs.Squares.{isSquare, ofSquare, bitOf, single}
+use Rattle.squares.specs.Squares.{bitOf, single}
 use Rattle.squares.proofs.Pointwise.{one-bit}
 use Rattle.squares.proofs.Numbers.{square-range, single-is}
 use Rattle.squares.proofs.square.bitboard.Statement.{statement}

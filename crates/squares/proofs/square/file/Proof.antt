@@ -1,8 +1,8 @@
 -- A square's file, by the same formula.
-use mathlib.Core.Path.{_≡_, sym, ap, _∙_}
+use mathlib.Core.Path.{sym, _∙_}
 use native.Mathlib.Omega.{arith}
 use borrow.Author.Needs.{needs}
-use Rattle.squares.specs.Squares.{isSquare, ofSquare, bitOf, fileOf}
+use Rattle.squares.specs.Squares.{ofSquare}
 use Rattle.squares.proofs.Numbers.{square-range, square-file}
 use Rattle.squares.proofs.square.file.Statement.{statement}
 use Rattle.squares.proofs.square.file.Tie as tie

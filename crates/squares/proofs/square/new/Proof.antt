@@ -1,9 +1,7 @@
 -- A number is tested to be a square's.
-use mathlib.Core.Path.{_≡_, sym, ap, _∙_}
-use native.Mathlib.Omega.{arith}
+use mathlib.Core.Path.{sym, _∙_}
 use borrow.Author.Needs.{needs}
-use Rattle.squares.specs.Squares.{isSquare, ofSquare, bitOf}
-use Rattle.squares.proofs.Numbers.{square-range}
+use Rattle.squares.specs.Squares.{ofSquare}
 use Rattle.squares.proofs.square.new.Statement.{statement}
 use Rattle.squares.proofs.square.new.Tie as tie
 

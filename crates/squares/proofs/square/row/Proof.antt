@@ -1,8 +1,8 @@
 -- A square's row is d / 5.
-use mathlib.Core.Path.{_≡_, sym, ap, _∙_}
+use mathlib.Core.Path.{sym, _∙_}
 use native.Mathlib.Omega.{arith}
 use borrow.Author.Needs.{needs}
-use Rattle.squares.specs.Squares.{isSquare, ofSquare, bitOf, rowOf}
+use Rattle.squares.specs.Squares.{ofSquare}
 use Rattle.squares.proofs.Numbers.{square-range, square-row}
 use Rattle.squares.proofs.square.row.Statement.{statement}
 use Rattle.squares.proofs.square.row.Tie as tie

@@ -1,5 +1,5 @@
 -- The key of a set of one square.
-use mathlib.Core.Path.{_≡_, ap, _∙_}
+use mathlib.Core.Path.{ap, _∙_}
 use Prim.Native.Nat.{ℕ}
 use borrow.Author.Needs.{needs}
 use Rattle.squares.specs.Keys.{setKeyOf, pieceKeyOf}

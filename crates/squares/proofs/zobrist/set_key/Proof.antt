@@ -1,15 +1,13 @@
 -- Each turn takes the lowest square's key; what is left is the exclusive or over the rest. The table is tested once against its rule.
 use mathlib.Core.Path.{_≡_, refl, sym, ap, ap₂, _∙_}
-use Prim.Native.Nat.{ℕ, _+_, _-_, _*_, _^_, _<_, _≤_}
+use Prim.Native.Nat.{ℕ, _+_, _-_, _*_, _^_, _<_}
 use native.Mathlib.Nat.{lt-of-le-of-lt}
 use native.Mathlib.Omega.{arith}
 use mathlib.Core.List.{List}
 use lib.Bits.{bitAnd, bitXor, and-le-l, and-le-r, xor-comm, xor-zero-l, xor-zero-r}
-use lib.Count.{trailingZeros}
 use lib.ListN.{getD}
 use borrow.Author.Needs.{needs}
 use Rattle.squares.specs.Sets.{lowest}
-use Rattle.squares.specs.Squares.{all}
 use Rattle.squares.specs.Folds.{xorOver}
 use Rattle.squares.specs.Keys.{advance, scramble, output, outputs, keys, block, setKeyOf}
 use Rattle.squares.specs.declared.piece.Color.{Color}

@@ -1,5 +1,5 @@
 -- Each step of the code is one of the published algorithm.
-use mathlib.Core.Path.{_≡_, refl}
+use mathlib.Core.Path.{_≡_}
 use Prim.Native.Nat.{ℕ, _+_, _*_, _/_, _%_, _^_}
 use lib.Bits.{bitXor}
 use borrow.Author.Needs.{needs}

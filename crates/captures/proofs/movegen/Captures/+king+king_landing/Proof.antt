@@ -1,9 +1,9 @@
 -- `king` and `king_landing` end: a jump leaves fewer untaken enemies, and a first landing passes to `king` one step below.
 -- Each records what `kingEndings` lists.
-use mathlib.Core.Path.{_≡_, refl, sym, ap, _∙_, subst}
+use mathlib.Core.Path.{refl, sym, _∙_}
 use mathlib.Core.Logic.{⊎-elim}
-use mathlib.Core.Bool.{Bool, true, false}
-use Prim.Native.Nat.{ℕ, _<_, _≤_, _-_, _+_, _*_, _^_}
+use mathlib.Core.Bool.{true, false}
+use Prim.Native.Nat.{ℕ, _<_, _-_, _+_, _*_}
 use native.Mathlib.Omega.{arith}
 use borrow.Author.Needs.{needs}
 use borrow.Author.Tests.{not-true, not-false}
@@ -18,7 +18,7 @@ use Rattle.squares.proofs.bitboard.difference.Reads as difference-reads
 use Rattle.squares.proofs.bitboard.shift.Reads as shift-reads
 use Rattle.captures.specs.Kings.{skipOf}
 use Rattle.captures.proofs.Steps.{rank, ray-falls}
-use Rattle.captures.proofs.Kings.{Jumped, jumped, jump-fewer, Rayed, ray-start, ray-first, ray-step, Walked, walked-none, walked-skip, walked-ray, walked-out, walked-end}
+use Rattle.captures.proofs.Kings.{jumped, jump-fewer, Rayed, ray-start, ray-first, ray-step, Walked, walked-none, walked-skip, walked-ray, walked-out, walked-end}
 use Rattle.captures.proofs.movegen.Captures.king.Reads as king
 use Rattle.captures.proofs.movegen.Captures.king.Kinds as king-kinds
 use Rattle.captures.proofs.movegen.Captures.+king+king_landing.Lts-king as king-lts

@@ -1,7 +1,6 @@
 -- `man` ends, since each jump leaves fewer untaken enemies, and records what `manEndings` lists.
-use mathlib.Core.Path.{_≡_, refl, sym, ap, _∙_, subst}
 use mathlib.Core.Logic.{⊎-elim}
-use Prim.Native.Nat.{ℕ, _<_, _≤_, _-_, _+_, _^_}
+use Prim.Native.Nat.{ℕ, _<_, _-_, _+_, _^_}
 use native.Mathlib.Omega.{arith}
 use borrow.Author.Needs.{needs}
 use borrow.Fn.Kinds.{In}
@@ -9,7 +8,7 @@ use borrow.Fn.PlainCycle.{Measures, is, falls, and}
 use Rattle.squares.specs.Sets.{size, without}
 use Rattle.squares.proofs.bitboard.difference.Reads as difference-reads
 use Rattle.squares.proofs.bitboard.shift.Reads as shift-reads
-use Rattle.captures.proofs.Men.{Walked, walked-none, walked-past, walked-jump, walked-out, walked-end, Jumped, jumped, jump-fewer}
+use Rattle.captures.proofs.Men.{Walked, walked-none, walked-past, walked-jump, walked-out, walked-end, jumped, jump-fewer}
 use Rattle.captures.proofs.movegen.Captures.man.Reads as man
 use Rattle.captures.proofs.movegen.Captures.man.Kinds as man-kinds
 use Rattle.captures.proofs.movegen.Captures.+man.Lts-man as man-lts

@@ -1,6 +1,6 @@
 -- Each return is one case of the definition: too few, more than before, found already, one more, no room for one more.
 use borrow.Author.Needs.{needs}
-use mathlib.Core.Path.{_≡_, sym, _∙_}
+use mathlib.Core.Path.{_≡_}
 use mathlib.Core.Bool.{true, false}
 use Rattle.positions.specs.Moves.{move}
 use Rattle.captures.specs.Lists.{noMoves, entries, listed, pushOf}

@@ -1,10 +1,9 @@
 -- The walk stops at the first entry that is the move; before it no entry was, and past `len` none is looked at.
 use borrow.Author.Needs.{needs}
 use native.Mathlib.Omega.{arith}
-use mathlib.Core.Path.{_≡_, refl, sym, ap, _∙_}
-use mathlib.Core.Bool.{Bool, true, false}
-use mathlib.Core.List.{List}
-use Prim.Native.Nat.{ℕ, suc, _≤_, _-_, _+_, _<_}
+use mathlib.Core.Path.{_≡_, sym, ap, _∙_}
+use mathlib.Core.Bool.{false}
+use Prim.Native.Nat.{ℕ, _≤_, _-_}
 use lib.ListN.{take, length}
 use Rattle.captures.specs.Lists.{listed, blank}
 use Rattle.captures.proofs.Listed.{listed-none, listed-more, listed-at, listed-all, length-of-map}
