@@ -15,10 +15,10 @@ use Rattle.games.proofs.keeping.appended.Lts as lts
 use Rattle.games.proofs.keeping.blank.Reads as blank-reads
 
 abbrev Inv-loop : tie.InvT-loop
-Inv-loop p material g kept₀ n i₀ kept i = (i ≤ n) × (kept ≡ take i (g .kept) ++ replicate (51 - i) blankPosition)
+Inv-loop p material g more₀ n i₀ more i = (i ≤ n) × (more ≡ take i (g .kept) ++ replicate (51 - i) blankPosition)
 
 abbrev μ-loop : tie.MeasureT-loop
-μ-loop p material g kept₀ n i₀ kept i = n - i
+μ-loop p material g more₀ n i₀ more i = n - i
 
 -- src/keeping.rt:50:9
 blank-requires : tie.Need-blank-requires Inv-loop μ-loop
@@ -29,20 +29,20 @@ loop-holds : tie.Need-loop-holds Inv-loop μ-loop
 loop-holds c = (search needs, rw (c .blank .ensures))
 
 -- src/keeping.rt:55:19
-mul-kept : tie.Need-mul-kept Inv-loop μ-loop
-mul-kept c = search needs
+mul-more : tie.Need-mul-more Inv-loop μ-loop
+mul-more c = search needs
 
 -- src/keeping.rt:55:19
-element-copy-out-kept : tie.Need-element-copy-out-kept Inv-loop μ-loop
-element-copy-out-kept c = search needs
+element-copy-out-more : tie.Need-element-copy-out-more Inv-loop μ-loop
+element-copy-out-more c = search needs
 
 -- src/keeping.rt:55:9
-mul-kept-2 : tie.Need-mul-kept-2 Inv-loop μ-loop
-mul-kept-2 c = search needs
+mul-more-2 : tie.Need-mul-more-2 Inv-loop μ-loop
+mul-more-2 c = search needs
 
 -- src/keeping.rt:55:9
-array-set-from-kept : tie.Need-array-set-from-kept Inv-loop μ-loop
-array-set-from-kept c = search needs
+array-set-from-more : tie.Need-array-set-from-more Inv-loop μ-loop
+array-set-from-more c = search needs
 
 -- src/keeping.rt:56:9
 add-i : tie.Need-add-i Inv-loop μ-loop
@@ -62,12 +62,12 @@ loop-again c =
     (omega arith, rw (l .inv .1, fill-copy blankPosition blankPosition 51 (l .i) (s .args .t1 .kept) k (omega arith)))
 
 -- src/keeping.rt:58:5
-mul-kept-3 : tie.Need-mul-kept-3 Inv-loop μ-loop
-mul-kept-3 c = search needs
+mul-more-3 : tie.Need-mul-more-3 Inv-loop μ-loop
+mul-more-3 c = search needs
 
 -- src/keeping.rt:58:5
-array-set-from-kept-2 : tie.Need-array-set-from-kept-2 Inv-loop μ-loop
-array-set-from-kept-2 c = search needs
+array-set-from-more-2 : tie.Need-array-set-from-more-2 Inv-loop μ-loop
+array-set-from-more-2 c = search needs
 
 -- src/keeping.rt:61:14
 add-t17 : tie.Need-add-t17 Inv-loop μ-loop
@@ -94,15 +94,15 @@ appended-spec =
     μ-loop
     blank-requires
     loop-holds
-    mul-kept
-    element-copy-out-kept
-    mul-kept-2
-    array-set-from-kept
+    mul-more
+    element-copy-out-more
+    mul-more-2
+    array-set-from-more
     add-i
     loop-less
     loop-again
-    mul-kept-3
-    array-set-from-kept-2
+    mul-more-3
+    array-set-from-more-2
     add-t17
     add-t22
     returns)

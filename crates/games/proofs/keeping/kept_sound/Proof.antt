@@ -14,12 +14,15 @@ use Rattle.games.proofs.keeping.kept_sound.Lts as lts
 use Rattle.positions.proofs.position.Position.sound.Reads as sound-reads
 
 abbrev Inv-loop : tie.InvT-loop
-Inv-loop g n i₀ i = (i ≤ g .len) × (allSound (take i (g .kept)) ≡ true)
+Inv-loop g last at₀ at = (at ≤ g .len) × (allSound (take at (g .kept)) ≡ true)
 
 abbrev μ-loop : tie.MeasureT-loop
-μ-loop g n i₀ i = n - i
+μ-loop g last at₀ at = g .len - at
 
 -- src/keeping.rt:74:5
+cast-last : tie.Need-cast-last Inv-loop μ-loop
+cast-last c = search needs
+
 loop-holds : tie.Need-loop-holds Inv-loop μ-loop
 loop-holds c = (omega arith, all-none (c .args .t1 .kept))
 
@@ -36,8 +39,8 @@ sound-requires : tie.Need-sound-requires Inv-loop μ-loop
 sound-requires c κs = search needs
 
 -- src/keeping.rt:77:13
-add-i : tie.Need-add-i Inv-loop μ-loop
-add-i c = search needs
+add-at : tie.Need-add-at Inv-loop μ-loop
+add-at c = search needs
 
 -- src/keeping.rt:74:5
 loop-less : tie.Need-loop-less Inv-loop μ-loop
@@ -50,7 +53,7 @@ loop-again c =
     let g = l .before .args .t1 in
     let k : length (g .kept) ≡ 51 = search (needs, length-of-map) in
     let s = sym (c .before .sound .ensures) ∙ c .if1 .taken in
-    (omega arith, all-more blankPosition (g .kept) (l .loop .i) (omega arith) (l .loop .inv .1) s)
+    (omega arith, all-more blankPosition (g .kept) (l .loop .at) (omega arith) (l .loop .inv .1) s)
 
 -- src/keeping.rt:79:13
 returns : tie.Need-returns Inv-loop μ-loop
@@ -60,13 +63,13 @@ returns c =
     let g = l .before .args .t1 in
     let k : length (g .kept) ≡ 51 = search (needs, length-of-map) in
     let s = sym (c .before .sound .ensures) ∙ c .if1 .left in
-    sym (all-fails blankPosition (g .kept) (g .len) (l .loop .i) (omega arith) (omega arith) s)
+    sym (all-fails blankPosition (g .kept) (g .len) (l .loop .at) (omega arith) (omega arith) s)
 
 -- src/keeping.rt:68:1
 returns-2 : tie.Need-returns-2 Inv-loop μ-loop
 unfolding windowOf
 returns-2 c =
-    let e : c .before .loop .i ≡ c .before .before .args .t1 .len = omega arith in
+    let e : c .before .loop .at ≡ c .before .before .args .t1 .len = omega arith in
     sym (rw e at (c .before .loop .inv .1))
 
 pub kept-sound-spec : {M : Type 1} → statement M
@@ -75,11 +78,12 @@ kept-sound-spec =
     (tie.spec
     Inv-loop
     μ-loop
+    cast-last
     loop-holds
     mul-p
     element-copy-out-p
     sound-requires
-    add-i
+    add-at
     loop-less
     loop-again
     returns

@@ -18,10 +18,11 @@ use Rattle.games.proofs.keeping.last.Reads as last-reads
 use Rattle.positions.proofs.position.Position.same.Reads as same-reads
 
 abbrev Inv-loop : tie.InvT-loop
-Inv-loop g p n times₀ i₀ count i = (i ≤ g .len) × (count ≤ i) × (count ≡ times samePosition (take i (g .kept)) p)
+Inv-loop g p window times₀ k₀ count k =
+    (k ≤ g .len) × (count ≤ k) × (count ≡ times samePosition (take k (g .kept)) p)
 
 abbrev μ-loop : tie.MeasureT-loop
-μ-loop g p n times₀ i₀ times i = n - i
+μ-loop g p window times₀ k₀ times k = window - k
 
 -- src/keeping.rt:99:9
 last-requires : tie.Need-last-requires Inv-loop μ-loop
@@ -55,8 +56,8 @@ add-times c =
     omega (arith, v, c .before .before .before .before .loop .inv)
 
 -- src/keeping.rt:108:9
-add-i : tie.Need-add-i Inv-loop μ-loop
-add-i c =
+add-k : tie.Need-add-k Inv-loop μ-loop
+add-k c =
     let s = c .before .before .before .before .before .before in
     let v = valid-says (s .args .t1) (s .pre) in
     omega (arith, v, c .before .before .before .before .loop .inv)
@@ -72,7 +73,7 @@ loop-again c =
     let s = n .before .before in
     let v = valid-says (s .args .t1) (s .pre) in
     let l = s .args .t1 .kept in
-    let i = n .loop .i in
+    let i = n .loop .k in
     let p = n .before .last .result in
     let k : length l ≡ 51 = search (needs, length-of-map) in
     let h : i < length l = omega (arith, k, n .loop .inv) in
@@ -94,7 +95,7 @@ returns : tie.Need-returns Inv-loop μ-loop
 unfolding windowOf stood
 returns c =
     let s = c .before .before in
-    let e : c .before .loop .i ≡ s .before .args .t1 .len = omega arith in
+    let e : c .before .loop .k ≡ s .before .args .t1 .len = omega arith in
     let p : s .last .result ≡ lastOf (s .before .args .t1) = s .last .ensures in
     rw (e, p) at (c .before .loop .inv .2)
 
@@ -110,7 +111,7 @@ stood-spec =
     element-copy-out-q
     same-requires
     add-times
-    add-i
+    add-k
     loop-less
     loop-again
     returns)
