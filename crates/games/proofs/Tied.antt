@@ -30,29 +30,39 @@ abbrev pub OutcomeMeets : (Game → Judged) → Type 0
 OutcomeMeets outcome = (g : Game) → outcome-reads.Learnt tt (g, tt) (outcome g) (g, tt)
 
 module _ (play : Game → Move → Played) (q : PlayMeets play) where
+  -- what the contract must say: all of the answer and of the game handed back
+  play-said : (g : Game) (m : Move) → play g m ≡ playOf g m
+  play-said g m = search (q g m)
+
   same-answers : (g : Game) (ms : List Move) → answersTo play g ms ≡ answersTo playOf g ms
   unfolding answersTo
   same-answers g [] = refl
   same-answers g (m ∷ ms) =
-      ap₂ (λ (r : Played) (l : List ℕ). answerNumberOf (r .answer) ∷ l) (q g m)
-      (same-answers (play g m .game) ms ∙ ap (λ (r : Played). answersTo playOf (r .game) ms) (q g m))
+      ap₂ (λ (r : Played) (l : List ℕ). answerNumberOf (r .answer) ∷ l) (play-said g m)
+      (same-answers (play g m .game) ms ∙ ap (λ (r : Played). answersTo playOf (r .game) ms) (play-said g m))
 
   same-game : (g : Game) (ms : List Move) → gameAfter play g ms ≡ gameAfter playOf g ms
   unfolding gameAfter
   same-game g [] = refl
-  same-game g (m ∷ ms) = same-game (play g m .game) ms ∙ ap (λ (r : Played). gameAfter playOf (r .game) ms) (q g m)
+  same-game g (m ∷ ms) = same-game (play g m .game) ms ∙ ap (λ (r : Played). gameAfter playOf (r .game) ms) (play-said g m)
 
 module _ (new : Position → Begun) (play : Game → Move → Played) (outcome : Game → Judged) (n : NewMeets new) (q : PlayMeets play) (o : OutcomeMeets outcome) where
+  new-said : (p : Position) → new p ≡ newOf p
+  new-said p = search (n p)
+
+  outcome-said : (g : Game) → outcome g ≡ outcomeOf g
+  outcome-said g = search (o g)
+
   same-heard : (start : Position) (moves : List Move) → heardOf new play outcome start moves ≡ heard start moves
   unfolding heardOf
   same-heard start moves =
       let e : gameAfter play (new start .game) moves ≡ gameAfter playOf (newOf start .game) moves =
-      same-game play q (new start .game) moves ∙ ap (λ (r : Begun). gameAfter playOf (r .game) moves) (n start) in
+      same-game play q (new start .game) moves ∙ ap (λ (r : Begun). gameAfter playOf (r .game) moves) (new-said start) in
       let told : answersTo play (new start .game) moves ≡ answersTo playOf (newOf start .game) moves =
-      same-answers play q (new start .game) moves ∙ ap (λ (r : Begun). answersTo playOf (r .game) moves) (n start) in
+      same-answers play q (new start .game) moves ∙ ap (λ (r : Begun). answersTo playOf (r .game) moves) (new-said start) in
       let out : outcome (gameAfter play (new start .game) moves) ≡ outcomeOf (gameAfter playOf (newOf start .game) moves) =
-      o (gameAfter play (new start .game) moves) ∙ ap outcomeOf e in
-      ap₂ (λ (b : Begun) (a : List ℕ). record { begun = b; answers = a; game = gameAfter play (new start .game) moves; outcome = outcome (gameAfter play (new start .game) moves) }) (n start) told
+      outcome-said (gameAfter play (new start .game) moves) ∙ ap outcomeOf e in
+      ap₂ (λ (b : Begun) (a : List ℕ). record { begun = b; answers = a; game = gameAfter play (new start .game) moves; outcome = outcome (gameAfter play (new start .game) moves) }) (new-said start) told
       ∙ ap₂ (λ (g : Game) (j : Judged). record { begun = newOf start; answers = answersTo playOf (newOf start .game) moves; game = g; outcome = j }) e out
 
   pub tied : (start : Position) → sound start ≡ true → (moves : List Move) → Demand3 start moves (heardOf new play outcome start moves)
