@@ -5,6 +5,7 @@ use mathlib.Core.Bool.{true}
 use mathlib.Core.List.{List, [], _∷_}
 use Prim.Native.Nat.{ℕ}
 use Rattle.squares.specs.Refusals.{answerNumberOf}
+use Rattle.squares.specs.declared.refusal.Answer.{Answer}
 use Rattle.positions.specs.Acceptance.{sound}
 use Rattle.positions.specs.declared.moves.Move.{Move}
 use Rattle.positions.specs.declared.position.Position.{Position}
@@ -29,10 +30,21 @@ PlayMeets play = (g : Game) (m : Move) → play-reads.Learnt tt (g, (m, tt)) (pl
 abbrev pub OutcomeMeets : (Game → Judged) → Type 0
 OutcomeMeets outcome = (g : Game) → outcome-reads.Learnt tt (g, tt) (outcome g) (g, tt)
 
+-- ---- what the contracts must say, whole or part by part
+game-parts : (g h : Game) → g .kept ≡ h .kept → g .len ≡ h .len → g .reversible ≡ h .reversible → g .material ≡ h .material → g ≡ h
+game-parts g h k l r m =
+    ap₂ (λ (x : List Position) (n : ℕ). record { kept = x; len = n; reversible = g .reversible; material = g .material }) k l
+    ∙ ap₂ (λ (x n : ℕ). record { kept = h .kept; len = h .len; reversible = x; material = n }) r m
+
+played-parts : (r s : Played) → r .answer ≡ s .answer → r .game ≡ s .game → r ≡ s
+played-parts r s a g = ap₂ (λ (x : Answer) (y : Game). record { answer = x; game = y }) a g
+
+begun-parts : (r s : Begun) → r .answer ≡ s .answer → r .game ≡ s .game → r ≡ s
+begun-parts r s a g = ap₂ (λ (x : Answer) (y : Game). record { answer = x; game = y }) a g
+
 module _ (play : Game → Move → Played) (q : PlayMeets play) where
-  -- what the contract must say: all of the answer and of the game handed back
   play-said : (g : Game) (m : Move) → play g m ≡ playOf g m
-  play-said g m = search (q g m)
+  play-said g m = search (q g m, played-parts, game-parts)
 
   same-answers : (g : Game) (ms : List Move) → answersTo play g ms ≡ answersTo playOf g ms
   unfolding answersTo
@@ -48,7 +60,7 @@ module _ (play : Game → Move → Played) (q : PlayMeets play) where
 
 module _ (new : Position → Begun) (play : Game → Move → Played) (outcome : Game → Judged) (n : NewMeets new) (q : PlayMeets play) (o : OutcomeMeets outcome) where
   new-said : (p : Position) → new p ≡ newOf p
-  new-said p = search (n p)
+  new-said p = search (n p, begun-parts, game-parts)
 
   outcome-said : (g : Game) → outcome g ≡ outcomeOf g
   outcome-said g = search (o g)
