@@ -3,7 +3,7 @@
 use mathlib.Core.Path.{_≡_, refl, sym, ap, ap₂, _∙_}
 use Prim.Native.Nat.{ℕ, suc, _+_}
 use native.Mathlib.Omega.{arith}
-use mathlib.Core.Bool.{Bool, true, false, not, cond, true≢false, false≢true}
+use mathlib.Core.Bool.{Bool, true, false, not, cond}
 use mathlib.Core.List.{List, [], _∷_}
 use lib.Dec.{eqb, ltb}
 use lib.ListN.{length}
@@ -13,7 +13,7 @@ use Rattle.squares.specs.Sets.{size}
 use Rattle.squares.specs.declared.refusal.Refusal.{Refusal}
 use Rattle.squares.specs.declared.refusal.Refusal.the-variants.{NoSuchSquare, BadPosition, BadGame, GameOver, NoMoveFits, TooManyMoves}
 use Rattle.squares.specs.declared.refusal.Answer.the-variants as answer
-use Rattle.positions.specs.Acceptance.{Accepted, sound, Sound}
+use Rattle.positions.specs.Acceptance.{sound}
 use Rattle.positions.specs.Boards.{Board, boardOf, menOf, kingsOf}
 use Rattle.positions.specs.Hash.{positionOf}
 use Rattle.positions.specs.Moves.{isCapture, squaresOf}
@@ -24,7 +24,7 @@ use Rattle.positions.specs.declared.position.Placed.the-variants as placed
 use Rattle.positions.proofs.Accepts.{says-sound, position-sound}
 use Rattle.positions.proofs.Kept.{successor-accepted}
 use Rattle.rules.specs.Ordered.{legal, listed}
-use Rattle.rules.specs.Rules.{Legal, AtMost, NoJump}
+use Rattle.rules.specs.Rules.{Legal}
 use Rattle.rules.proofs.Laws.{fair-of-accepted, listed-legal, legal-playable, legal-most, legal-quiet}
 use Rattle.movegen.specs.Lists.{afterOf}
 use Rattle.movegen.proofs.Answers.{after-many, after-none, after-one}
@@ -32,7 +32,6 @@ use Rattle.games.specs.Book.{Book, tallyOf, standing, begunBook, Verdict
 use Rattle.games.specs.Demand3.{answersTo, gameAfter, heardOf, heard, toldAs, bookOf, AtAccepted, TakesMost, NoneOpen, Demand3}
 use Rattle.games.specs.Games.{blankPosition, lastOf, valid, stood, judgedOf, ended}
 use Rattle.games.specs.Play.{freshOf, newOf, movedOf, refusedPlay, reachedOf, playOf, outcomeOf}
-use Rattle.games.specs.declared.game.Begun.{Begun}
 use Rattle.games.specs.declared.game.Game.{Game}
 use Rattle.games.specs.declared.game.Judged.the-variants as judged
 use Rattle.games.specs.declared.game.Played.{Played}

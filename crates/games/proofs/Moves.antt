@@ -8,20 +8,20 @@ use lib.Bits.{bitAnd}
 use lib.Dec.{eqb, ltb}
 use borrow.Author.Tests.{lt-ltb, le-ltb, eqb-true, eqb-false, eq-eqb, not-true, not-false}
 use Rattle.squares.specs.Sets.{has, size, without}
-use Rattle.squares.specs.Squares.{bitOf, containsOf, promotion}
+use Rattle.squares.specs.Squares.{bitOf, promotion}
 use Rattle.squares.specs.Pieces.{other}
 use Rattle.squares.specs.declared.piece.Color.{Color}
 use Rattle.squares.specs.declared.piece.Color.the-variants.{White, Black}
 use Rattle.squares.proofs.Bools.{not-so}
 use Rattle.squares.proofs.Numbers.{bit-lt}
-use Rattle.squares.proofs.Pointwise.{has-and, has-without, has-zero, and-lt, without-lt, ext, none-zero}
+use Rattle.squares.proofs.Pointwise.{has-and, has-without, and-lt, without-lt, ext, none-zero}
 use Rattle.squares.proofs.Sizes.{size-zero, size-some}
 use Rattle.positions.specs.Acceptance.{Accepted}
 use Rattle.positions.specs.Boards.{Board, colored, own, enemy, menOf, kingsOf, sameColor}
 use Rattle.positions.specs.Measure.{Ply, capture, man, king, Smaller, fewer, nearer, Level}
 use Rattle.positions.specs.Moves.{isCapture}
 use Rattle.positions.specs.Standing.{promoted, menTaken, kingsTaken}
-use Rattle.positions.specs.Successor.{promotes, successor, Playable}
+use Rattle.positions.specs.Successor.{promotes, Playable}
 use Rattle.positions.specs.declared.moves.Move.{Move}
 use Rattle.positions.proofs.Measures.{capture-falls, man-falls, king-stays}
 use Rattle.positions.proofs.Plays.{contains-is, promotes-is}

@@ -1,11 +1,10 @@
 -- The game stands for the book: the book's positions are older ones and then the kept window; every older one has a larger
 -- measure, so it cannot come back; every kept one is sound; the counters agree, the second up to 32; the pieces add up.
-use mathlib.Core.Path.{_≡_, refl, sym, ap, ap₂, _∙_, subst}
-use mathlib.Core.Logic.{_⊎_, inl, inr}
+use mathlib.Core.Path.{_≡_, refl, sym, ap, ap₂, _∙_}
 use Prim.Native.Nat.{ℕ, _+_, _<_, _≤_, min}
 use native.Mathlib.Nat.{min-eq-left, min-eq-right}
 use native.Mathlib.Omega.{arith}
-use mathlib.Core.Bool.{Bool, true, false, not, cond, _&&_, _||_, true≢false, false≢true}
+use mathlib.Core.Bool.{Bool, true, false, cond, _||_, true≢false}
 use mathlib.Core.List.{List, [], _∷_, _++_, map, map-append, append-assoc}
 use lib.Dec.{leb}
 use lib.ListN.{length}
@@ -16,18 +15,15 @@ use Rattle.squares.specs.declared.piece.Color.{Color}
 use Rattle.squares.specs.declared.piece.Color.the-variants.{White, Black}
 use Rattle.positions.specs.Acceptance.{Accepted, sound, Sound}
 use Rattle.positions.specs.Boards.{Board, boardOf, menOf, kingsOf}
-use Rattle.positions.specs.Hash.{positionOf}
-use Rattle.positions.specs.Measure.{Ply, capture, man, king, Smaller, fewer, nearer, Level}
-use Rattle.positions.specs.Moves.{isCapture}
+use Rattle.positions.specs.Measure.{Smaller, Level}
 use Rattle.positions.specs.Successor.{Playable}
 use Rattle.positions.specs.declared.moves.Move.{Move}
 use Rattle.positions.specs.declared.position.Position.{Position}
-use Rattle.positions.proofs.Accepts.{sound-says, says-sound, position-sound}
-use Rattle.positions.proofs.Kept.{successor-accepted}
-use Rattle.positions.proofs.Measures.{capture-falls, man-falls, king-stays, smaller-trans}
+use Rattle.positions.proofs.Accepts.{sound-says}
+use Rattle.positions.proofs.Measures.{smaller-trans}
 use Rattle.rules.specs.Rules.{Legal}
 use Rattle.rules.proofs.Laws.{fair-of-accepted, legal-playable}
-use Rattle.games.specs.Book.{Tally, Book, tallyOf, lastIn, standing, begunBook, timesIn, firstToHold, testsAt, bookOutcome, takes, manMove, isPromotion, tallied, reached, bookPlayed}
+use Rattle.games.specs.Book.{Tally, Book, tallyOf, lastIn, standing, begunBook, timesIn, firstToHold, testsAt, bookOutcome, takes, isPromotion, tallied, reached, bookPlayed}
 use Rattle.games.specs.Demand3.{toldAs}
 use Rattle.games.specs.Games.{windowOf, lastOf, valid, stood, irreversible, materialAfter, canMove, won, drawn, kingEnding, judge, judgedOf, ended}
 use Rattle.games.specs.declared.game.Termination.the-variants.{Repetition, TwentyFiveMoves}
@@ -36,7 +32,7 @@ use Rattle.games.specs.declared.game.Game.{Game}
 use Rattle.games.proofs.Boards.{last-snoc, Each, each-none, each-one, each-append, each-from, level-refl, level-trans, smaller-level, level-smaller, times-append, times-none, times-boards}
 use Rattle.games.proofs.Moves.{man-agrees, promotion-agrees, taking-agrees, men-add, kings-add, Measured, falls, stays, measured}
 use Rattle.games.proofs.Tests.{outcome-agrees}
-use Rattle.games.proofs.Valid.{Valid, valid-says, material-fits, alone-window, alone-last, alone-long, alone-first, alone-second, alone-valid, more-window, more-last, more-long, more-first, more-second, more-valid}
+use Rattle.games.proofs.Valid.{valid-says, material-fits, alone-window, alone-last, alone-long, alone-first, alone-second, alone-valid, more-window, more-last, more-long, more-first, more-second, more-valid}
 
 -- the window as boards
 abbrev pub boards : Game → List Board

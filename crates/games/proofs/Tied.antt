@@ -9,7 +9,7 @@ use Rattle.squares.specs.declared.refusal.Answer.{Answer}
 use Rattle.positions.specs.Acceptance.{sound}
 use Rattle.positions.specs.declared.moves.Move.{Move}
 use Rattle.positions.specs.declared.position.Position.{Position}
-use Rattle.games.specs.Demand3.{answersTo, gameAfter, Heard, heardOf, heard, Demand3}
+use Rattle.games.specs.Demand3.{answersTo, gameAfter, heardOf, heard, Demand3}
 use Rattle.games.specs.Play.{newOf, playOf, outcomeOf}
 use Rattle.games.specs.declared.game.Begun.{Begun}
 use Rattle.games.specs.declared.game.Game.{Game}

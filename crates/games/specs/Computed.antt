@@ -1,5 +1,4 @@
 -- What a computed row opens.
-use lib.ListN.{take, getD, replicate}
 use Rattle.movegen.specs.Computed as movegen
 use Rattle.games.specs.Book as book
 use Rattle.games.specs.Book.{lastIn, begunBook, timesIn, against, threePieces, twoPieces, firstToHold, testsAt, bookOutcome, numbersSquare, onTheBoard, bookAnswer, takes, manMove, isPromotion, tallied, reached, bookPlayed, bookNext, bookAnswers, bookAfter}
