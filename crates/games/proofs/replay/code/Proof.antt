@@ -1,11 +1,9 @@
+-- No refusal has a number above 19.
 use Rattle.games.proofs.Runs.{number-fits}
 use borrow.Author.Needs.{needs}
 use native.Mathlib.Omega.{arith}
 use Rattle.games.proofs.replay.code.Statement.{statement}
 use Rattle.games.proofs.replay.code.Tie as tie
-use Rattle.games.proofs.replay.code.Reads as reads
-use Rattle.games.proofs.replay.code.Lts as lts
-use Rattle.squares.proofs.refusal.Answer.number.Reads as number-reads
 
 number-requires : tie.Need-number-requires
 number-requires c κs = search needs

@@ -1,10 +1,7 @@
+-- Each square is what its call ensures.
 use borrow.Author.Needs.{needs}
-use native.Mathlib.Omega.{arith}
 use Rattle.games.proofs.replay.move_in.Statement.{statement}
 use Rattle.games.proofs.replay.move_in.Tie as tie
-use Rattle.games.proofs.replay.move_in.Reads as reads
-use Rattle.games.proofs.replay.move_in.Lts as lts
-use Rattle.games.proofs.replay.square_in.Reads as square-in-reads
 
 square-in-requires : tie.Need-square-in-requires
 square-in-requires c κs = search needs

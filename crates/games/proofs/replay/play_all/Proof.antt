@@ -1,4 +1,5 @@
-use mathlib.Core.Path.{_≡_, refl, sym, ap, ap₂, _∙_}
+-- After i plays the first i answers are written, the later ones are as they were, and the game is that of the first i moves.
+use mathlib.Core.Path.{_≡_, sym, ap, ap₂, _∙_}
 use mathlib.Core.List.{_++_}
 use Prim.Native.Nat.{_≤_, _<_, _-_, _+_, _*_, _/_}
 use lib.ListN.{length, take, drop, getD, length-set}
@@ -12,11 +13,6 @@ use borrow.Author.Needs.{needs}
 use native.Mathlib.Omega.{arith}
 use Rattle.games.proofs.replay.play_all.Statement.{statement}
 use Rattle.games.proofs.replay.play_all.Tie as tie
-use Rattle.games.proofs.replay.play_all.Reads as reads
-use Rattle.games.proofs.replay.play_all.Lts as lts
-use Rattle.games.proofs.game.Game.play.Reads as play-reads
-use Rattle.games.proofs.replay.code.Reads as code-reads
-use Rattle.games.proofs.replay.move_in.Reads as move-in-reads
 
 abbrev Inv-loop : tie.InvT-loop
 Inv-loop moves answers₀ n g₀ i₀ answers g i =

@@ -1,3 +1,4 @@
+-- Refusals in order; otherwise the plays from the fresh game, of which demand 3 holds.
 use mathlib.Core.Path.{_≡_, sym, ap, _∙_}
 use borrow.Author.Tests.{eq-eqb, ne-eqb, le-leb, lt-leb}
 use Rattle.squares.specs.declared.refusal.Refusal.the-variants.{NoSuchSquare, BadPosition, SpaceTooShort}
@@ -7,15 +8,8 @@ use Rattle.games.specs.Replay.{movesIn, replayOf, writtenOf}
 use Rattle.games.specs.declared.game.Begun.{Begun}
 use Rattle.games.proofs.Replays.{demand-held, not-done}
 use borrow.Author.Needs.{needs}
-use native.Mathlib.Omega.{arith}
 use Rattle.games.proofs.replay.replay.Statement.{statement}
 use Rattle.games.proofs.replay.replay.Tie as tie
-use Rattle.games.proofs.replay.replay.Reads as reads
-use Rattle.games.proofs.replay.replay.Lts as lts
-use Rattle.games.proofs.game.not_begun.Reads as not-begun-reads
-use Rattle.games.proofs.keeping.alone.Reads as alone-reads
-use Rattle.games.proofs.replay.play_all.Reads as play-all-reads
-use Rattle.positions.proofs.position.Position.sound.Reads as sound-reads
 
 sound-requires : tie.Need-sound-requires
 sound-requires c κs = search needs

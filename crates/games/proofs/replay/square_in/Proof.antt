@@ -1,11 +1,9 @@
+-- What is at most 50 stays, and 51 stands for the rest.
 use borrow.Author.Tests.{le-leb, lt-leb}
 use Rattle.games.specs.Replay.{squareIn}
 use borrow.Author.Needs.{needs}
-use native.Mathlib.Omega.{arith}
 use Rattle.games.proofs.replay.square_in.Statement.{statement}
 use Rattle.games.proofs.replay.square_in.Tie as tie
-use Rattle.games.proofs.replay.square_in.Reads as reads
-use Rattle.games.proofs.replay.square_in.Lts as lts
 
 cast-result : tie.Need-cast-result
 cast-result c = search needs
