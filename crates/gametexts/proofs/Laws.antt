@@ -1,13 +1,15 @@
 -- What playing a text comes to: an accepted text is the play of a listed move, and Hub's text of a legal move plays that move.
 use mathlib.Core.Path.{_≡_, refl, ap, _∙_}
-use Prim.Native.Nat.{ℕ}
+use Prim.Native.Nat.{ℕ, _≤_}
 use native.Mathlib.Omega.{arith}
 use mathlib.Core.Bool.{Bool, true, false}
 use mathlib.Core.List.{List}
+use lib.ListN.{length}
 use borrow.Author.Tests.{le-ltb}
 use Rattle.squares.specs.declared.refusal.Answer.the-variants.{Done, Refused}
 use Rattle.squares.specs.declared.refusal.Refusal.{Refusal}
 use Rattle.squares.specs.declared.refusal.Refusal.the-variants.{BadGame, GameOver}
+use Rattle.positions.specs.Acceptance.{Sound}
 use Rattle.positions.specs.Boards.{boardOf}
 use Rattle.positions.specs.Hash.{positionOf}
 use Rattle.positions.specs.Moves.{squaresOf}
@@ -28,11 +30,17 @@ use Rattle.notation.specs.declared.notation.Heard.{Heard}
 use Rattle.notation.specs.declared.notation.Heard.the-variants as heard
 use Rattle.notation.specs.declared.notation.Said.{Said}
 use Rattle.notation.proofs.Fitted.{Fitted, fit-says}
-use Rattle.notation.proofs.MoveTrip.{Listed, listed-squares, move-back}
+use Rattle.notation.proofs.MoveTrip.{listed-squares, move-back}
 use Rattle.games.specs.Games.{lastOf, valid, judgedOf, ended}
 use Rattle.games.specs.Play.{refusedPlay, movedOf, reachedOf, playOf}
 use Rattle.games.specs.declared.game.Game.{Game}
 use Rattle.gametexts.specs.Texts.{playSaid, playHeard, playStrOf}
+
+-- a listed move of a sound position with at most 256 moves
+pub record Listed (p : Position) (m : Move) : Type 0 where
+  pub sound : Sound p
+  pub few : length (legal (boardOf p)) ≤ 256
+  pub inList : listed (legal (boardOf p)) m ≡ true
 
 -- ---- the record of a listed move is accepted on a game that goes on
 module _ (g : Game) (v : valid g ≡ true) (o : ended (judgedOf g) ≡ false) (m : Move) (l : Listed (lastOf g) m) where
@@ -42,8 +50,8 @@ module _ (g : Game) (v : valid g ≡ true) (o : ended (judgedOf g) ≡ false) (m
 
   pub listed-played : playOf g m ≡ record { answer = Done; game = movedOf g m (positionOf (successor (boardOf (lastOf g)) m)) }
   listed-played =
-      let q = listed-squares (lastOf g) m l in
-      reached q ∙ ap (reachedOf g m) (after-one (lastOf g) (says-sound (lastOf g) (l .sound)) m q (le-ltb _ _ (l .few)) (l .listed))
+      let q = listed-squares (lastOf g) m (l .sound) (l .few) (l .inList) in
+      reached q ∙ ap (reachedOf g m) (after-one (lastOf g) (says-sound (lastOf g) (l .sound)) m q (le-ltb _ _ (l .few)) (l .inList))
 
 -- ---- an accepted text
 
@@ -77,7 +85,7 @@ accepted-says g text e = go (valid g) refl (readMoveOf text) refl
 
 told : (p : Position) (m : Move) → Listed p m → fitHeard p (readMoveOf (moveText m)) ≡ found.Move m
 unfolding parseMoveOf
-told p m l = rw (says-sound p (l .sound)) at (move-back p m l)
+told p m l = rw (says-sound p (l .sound)) at (move-back p m (l .sound) (l .few) (l .inList))
 
 pub hub-played : (g : Game) (m : Move) → valid g ≡ true → ended (judgedOf g) ≡ false → Listed (lastOf g) m → playStrOf g (moveText m) ≡ playOf g m
 unfolding playStrOf playSaid
