@@ -3,7 +3,7 @@ use mathlib.Core.Path.{_≡_, refl, sym, ap, ap₂, _∙_}
 use Prim.Native.Nat.{ℕ, zero, suc, _+_, _*_, _/_, _<_}
 use native.Mathlib.Omega.{arith}
 use native.Mathlib.Numerals.{add-one}
-use mathlib.Core.Bool.{Bool, true, false, cond, and-false}
+use mathlib.Core.Bool.{Bool, true, false, cond}
 use mathlib.Core.List.{List, [], _∷_, _++_}
 use lib.Dec.{leb}
 use lib.ListN.{length, take, drop, getD, set}
@@ -21,6 +21,7 @@ use Rattle.games.specs.Play.{refusedPlay, playOf}
 use Rattle.games.specs.Demand3.{answersTo, gameAfter}
 use Rattle.games.specs.Replay.{movesIn, squareIn}
 use Rattle.games.specs.declared.game.Game.{Game}
+use Rattle.games.proofs.Lower.{high, off-from, off-to}
 
 -- ---- one play more
 
@@ -86,20 +87,8 @@ unfolding squareIn
 in-low n e = rw e
 
 in-high : (n : ℕ) → leb n 50 ≡ false → isSquare (squareIn n) ≡ false
-unfolding squareIn isSquare
-in-high n e = rw e
-
-high : (n : ℕ) → leb n 50 ≡ false → isSquare n ≡ false
-unfolding isSquare
-high n e = rw e (and-false (leb 1 n))
-
-off-from : (a b c : ℕ) → isSquare a ≡ false → squaresOf (move a b c) ≡ false
-unfolding squaresOf
-off-from a b c e = rw e
-
-off-to : (a b c : ℕ) → isSquare b ≡ false → squaresOf (move a b c) ≡ false
-unfolding squaresOf
-off-to a b c e = rw e (and-false (isSquare a))
+unfolding squareIn
+in-high n e = rw e (high 51 refl)
 
 off-play : (g : Game) (m : Move) → squaresOf m ≡ false → playOf g m ≡ cond (valid g) (refusedPlay g NoSuchSquare) (refusedPlay g BadGame)
 unfolding playOf

@@ -1,6 +1,8 @@
 -- Each part is what its call ensures.
-use Rattle.positions.specs.Successor.{promotes}
+use mathlib.Core.Path.{_∙_}
+use Rattle.positions.specs.Boards.{boardOf}
 use Rattle.games.specs.Games.{manMoves}
+use Rattle.games.proofs.Lower.{promotes-is}
 use borrow.Author.Needs.{needs}
 use Rattle.games.proofs.keeping.promotes.Statement.{statement}
 use Rattle.games.proofs.keeping.promotes.Tie as tie
@@ -15,8 +17,10 @@ contains-requires : tie.Need-contains-requires
 contains-requires c κs = search needs
 
 returns : tie.Need-returns
-unfolding promotes manMoves
-returns c = cc
+unfolding manMoves
+returns c =
+    let a = c .before .before .before .args in
+    rw (c .before .before .man-moves .ensures, c .contains .ensures, c .before .promotion-row .ensures) (promotes-is (boardOf (a .p)) (a .mv))
 
 pub promotes-spec : {M : Type 1} → statement M
 promotes-spec =
