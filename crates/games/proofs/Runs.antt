@@ -1,27 +1,28 @@
 -- Laws on a list of plays, one play at a time, and on the numbers that records are lent as.
 use mathlib.Core.Path.{_≡_, refl, sym, ap, ap₂, _∙_}
-use Prim.Native.Nat.{ℕ, zero, suc, _+_, _*_, _/_, _<_, _≤_}
+use Prim.Native.Nat.{ℕ, zero, suc, _+_, _*_, _/_, _<_}
 use native.Mathlib.Omega.{arith}
 use native.Mathlib.Numerals.{add-one}
-use mathlib.Core.Bool.{Bool, true, false, cond, and-false}
+use mathlib.Core.Bool.{Bool, true, false, cond, _&&_, and-false}
 use mathlib.Core.List.{List, [], _∷_, _++_}
-use lib.Dec.{leb}
+use lib.Dec.{eqb, leb}
 use lib.ListN.{length, take, drop, getD, set}
 use lib.Seq.{append-snoc, take-suc, drop-cons, set-at}
 use Rattle.squares.specs.Refusals.{numberOf, answerNumberOf}
-use Rattle.squares.specs.Squares.{isSquare}
+use Rattle.squares.specs.Sets.{without}
+use Rattle.squares.specs.Squares.{all, isSquare}
 use Rattle.squares.specs.declared.refusal.Answer.{Answer}
 use Rattle.squares.specs.declared.refusal.Answer.the-variants.{Done, Refused}
 use Rattle.squares.specs.declared.refusal.Refusal.{Refusal}
 use Rattle.squares.specs.declared.refusal.Refusal.the-variants.{TextTooLong, NoSide, NoColor, BadSquare, BadHubByte, NotFifty, Overlap, ManOnPromotionRow, BadMoveText, BeyondLimit, NoSuchSquare, BadPosition, BadGame, GameOver, NoMoveFits, SeveralFit, TooManyMoves, FenTooLong, SpaceTooShort}
 use Rattle.positions.specs.Moves.{move, squaresOf}
 use Rattle.positions.specs.declared.moves.Move.{Move}
+use Rattle.movegen.proofs.Plies.{on-board-is}
 use Rattle.games.specs.Games.{valid}
 use Rattle.games.specs.Play.{refusedPlay, playOf}
 use Rattle.games.specs.Demand3.{answersTo, gameAfter}
 use Rattle.games.specs.Replay.{movesIn, squareIn}
 use Rattle.games.specs.declared.game.Game.{Game}
-use Rattle.games.specs.declared.game.Played.{Played}
 
 -- ---- one play more
 
@@ -95,12 +96,10 @@ unfolding isSquare
 high n e = rw e (and-false (leb 1 n))
 
 off-from : (a b c : ℕ) → isSquare a ≡ false → squaresOf (move a b c) ≡ false
-unfolding squaresOf
-off-from a b c e = rw e
+off-from a b c e = on-board-is (move a b c) ∙ ap (λ (t : Bool). t && (isSquare b && eqb (without c all) 0)) e
 
 off-to : (a b c : ℕ) → isSquare b ≡ false → squaresOf (move a b c) ≡ false
-unfolding squaresOf
-off-to a b c e = rw e (and-false (isSquare a))
+off-to a b c e = on-board-is (move a b c) ∙ ap (λ (t : Bool). isSquare a && (t && eqb (without c all) 0)) e ∙ and-false (isSquare a)
 
 off-play : (g : Game) (m : Move) → squaresOf m ≡ false → playOf g m ≡ cond (valid g) (refusedPlay g NoSuchSquare) (refusedPlay g BadGame)
 unfolding playOf

@@ -1,5 +1,6 @@
 -- Both tests hold on a sound position, so that what they say is what the rules say.
-use Rattle.movegen.specs.Lists.{hasCapturesOf, hasQuietMovesOf}
+use mathlib.Core.Path.{_∙_}
+use Rattle.movegen.proofs.Answers.{captures-told, quiets-told}
 use Rattle.games.specs.Games.{canMove}
 use borrow.Author.Needs.{needs}
 use Rattle.games.proofs.endings.can_move.Statement.{statement}
@@ -18,13 +19,13 @@ says-requires-2 : tie.Need-says-requires-2
 says-requires-2 c κs = search needs
 
 returns : tie.Need-returns
-unfolding canMove hasCapturesOf hasQuietMovesOf
+unfolding canMove
 returns c =
     let t = c .before .before in
     let p = t .before .before .args .p in
     let s = t .before .before .pre in
-    let a = rw s at (t .before .has-captures .ensures) in
-    let b = rw s at (c .before .has-quiet-moves .ensures) in
+    let a = t .before .has-captures .ensures ∙ captures-told p s in
+    let b = c .before .has-quiet-moves .ensures ∙ quiets-told p s in
     rw (t .says .ensures, a, c .says2 .ensures, b)
 
 pub can-move-spec : {M : Type 1} → statement M

@@ -1,5 +1,6 @@
 -- Each part is what its call ensures.
-use Rattle.positions.specs.Successor.{promotes}
+use Rattle.positions.specs.Boards.{boardOf}
+use Rattle.movegen.proofs.Plies.{promotes-when}
 use Rattle.games.specs.Games.{manMoves}
 use borrow.Author.Needs.{needs}
 use Rattle.games.proofs.keeping.promotes.Statement.{statement}
@@ -15,8 +16,11 @@ contains-requires : tie.Need-contains-requires
 contains-requires c κs = search needs
 
 returns : tie.Need-returns
-unfolding promotes manMoves
-returns c = cc
+unfolding manMoves
+returns c =
+    let a = c .before .before .before .args in
+    let e = promotes-when (boardOf (a .p)) (a .mv) in
+    cc
 
 pub promotes-spec : {M : Type 1} → statement M
 promotes-spec =
