@@ -12,6 +12,7 @@ use Rattle.rules.specs.Lists.{times}
 use Rattle.movegen.proofs.Plies.{same-board}
 use Rattle.games.specs.Book.{lastIn, timesIn}
 use Rattle.games.specs.Games.{samePosition}
+use Rattle.games.proofs.Lower as lists
 
 -- ---- the last one
 pub last-snoc : (l : List Board) (p : Board) → lastIn (l ++ (p ∷ [])) ≡ p
@@ -83,11 +84,13 @@ times-none p (q ∷ l) a = go (sameBoard q p) refl (times-none p l (a .1))
 
 -- the game counts positions, the book boards
 pub times-boards : (p : Position) (l : List Position) → timesIn (boardOf p) (map boardOf l) ≡ times samePosition l p
-unfolding timesIn times
-times-boards p [] = refl
-times-boards p (q ∷ l) = go (sameBoard (boardOf q) (boardOf p)) (times-boards p l)
+unfolding timesIn
+times-boards p [] = lists.times-none samePosition p
+times-boards p (q ∷ l) =
+    go (samePosition q p) (times-boards p l) (lists.times-one samePosition p q (samePosition q p) refl) (lists.times-append samePosition p (q ∷ []) l)
   where
-    go : (t : Bool) → timesIn (boardOf p) (map boardOf l) ≡ times samePosition l p
-        → elim t [ true ↦ suc (timesIn (boardOf p) (map boardOf l)) | false ↦ timesIn (boardOf p) (map boardOf l) ] ≡ cond t 1 0 + times samePosition l p
-    go true ih = omega (arith, ih)
-    go false ih = omega (arith, ih)
+    go : (t : Bool) → timesIn (boardOf p) (map boardOf l) ≡ times samePosition l p → times samePosition (q ∷ []) p ≡ cond t 1 0
+        → times samePosition (q ∷ l) p ≡ times samePosition (q ∷ []) p + times samePosition l p
+        → _≡_ {A = ℕ} (elim t [ true ↦ suc (timesIn (boardOf p) (map boardOf l)) | false ↦ timesIn (boardOf p) (map boardOf l) ]) (times samePosition (q ∷ l) p)
+    go true ih o a = omega (arith, ih, o, a)
+    go false ih o a = omega (arith, ih, o, a)

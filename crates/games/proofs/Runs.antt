@@ -3,26 +3,25 @@ use mathlib.Core.Path.{_≡_, refl, sym, ap, ap₂, _∙_}
 use Prim.Native.Nat.{ℕ, zero, suc, _+_, _*_, _/_, _<_}
 use native.Mathlib.Omega.{arith}
 use native.Mathlib.Numerals.{add-one}
-use mathlib.Core.Bool.{Bool, true, false, cond, _&&_, and-false}
+use mathlib.Core.Bool.{Bool, true, false, cond}
 use mathlib.Core.List.{List, [], _∷_, _++_}
-use lib.Dec.{eqb, leb}
+use lib.Dec.{leb}
 use lib.ListN.{length, take, drop, getD, set}
 use lib.Seq.{append-snoc, take-suc, drop-cons, set-at}
 use Rattle.squares.specs.Refusals.{numberOf, answerNumberOf}
-use Rattle.squares.specs.Sets.{without}
-use Rattle.squares.specs.Squares.{all, isSquare}
+use Rattle.squares.specs.Squares.{isSquare}
 use Rattle.squares.specs.declared.refusal.Answer.{Answer}
 use Rattle.squares.specs.declared.refusal.Answer.the-variants.{Done, Refused}
 use Rattle.squares.specs.declared.refusal.Refusal.{Refusal}
 use Rattle.squares.specs.declared.refusal.Refusal.the-variants.{TextTooLong, NoSide, NoColor, BadSquare, BadHubByte, NotFifty, Overlap, ManOnPromotionRow, BadMoveText, BeyondLimit, NoSuchSquare, BadPosition, BadGame, GameOver, NoMoveFits, SeveralFit, TooManyMoves, FenTooLong, SpaceTooShort}
 use Rattle.positions.specs.Moves.{move, squaresOf}
 use Rattle.positions.specs.declared.moves.Move.{Move}
-use Rattle.movegen.proofs.Plies.{on-board-is}
 use Rattle.games.specs.Games.{valid}
 use Rattle.games.specs.Play.{refusedPlay, playOf}
 use Rattle.games.specs.Demand3.{answersTo, gameAfter}
 use Rattle.games.specs.Replay.{movesIn, squareIn}
 use Rattle.games.specs.declared.game.Game.{Game}
+use Rattle.games.proofs.Lower.{high, off-from, off-to}
 
 -- ---- one play more
 
@@ -88,18 +87,8 @@ unfolding squareIn
 in-low n e = rw e
 
 in-high : (n : ℕ) → leb n 50 ≡ false → isSquare (squareIn n) ≡ false
-unfolding squareIn isSquare
-in-high n e = rw e
-
-high : (n : ℕ) → leb n 50 ≡ false → isSquare n ≡ false
-unfolding isSquare
-high n e = rw e (and-false (leb 1 n))
-
-off-from : (a b c : ℕ) → isSquare a ≡ false → squaresOf (move a b c) ≡ false
-off-from a b c e = on-board-is (move a b c) ∙ ap (λ (t : Bool). t && (isSquare b && eqb (without c all) 0)) e
-
-off-to : (a b c : ℕ) → isSquare b ≡ false → squaresOf (move a b c) ≡ false
-off-to a b c e = on-board-is (move a b c) ∙ ap (λ (t : Bool). isSquare a && (t && eqb (without c all) 0)) e ∙ and-false (isSquare a)
+unfolding squareIn
+in-high n e = rw e (high 51 refl)
 
 off-play : (g : Game) (m : Move) → squaresOf m ≡ false → playOf g m ≡ cond (valid g) (refusedPlay g NoSuchSquare) (refusedPlay g BadGame)
 unfolding playOf

@@ -1,5 +1,5 @@
 -- Laws on what a game keeps: the window position by position, entries still blank.
-use mathlib.Core.Path.{_≡_, refl, sym, ap, _∙_}
+use mathlib.Core.Path.{_≡_, refl, sym, _∙_}
 use Prim.Native.Nat.{ℕ, zero, suc, _+_, _-_, _<_, _≤_}
 use native.Mathlib.Omega.{arith}
 use native.Mathlib.Numerals.{add-one}
@@ -17,6 +17,7 @@ use Rattle.positions.specs.declared.position.Position.{Position}
 use Rattle.rules.specs.Lists.{times}
 use Rattle.games.specs.Games.{blankPosition, windowOf, lastOf, allSound, samePosition, canMove, won, drawn, kingEnding, judge, ended}
 use Rattle.games.specs.declared.game.Game.{Game}
+use Rattle.games.proofs.Lower.{times-append, times-one}
 use Rattle.games.proofs.Valid.{Valid, sound-append, sound-one}
 use Rattle.games.specs.declared.game.Termination.the-variants.{Repetition, TwentyFiveMoves}
 
@@ -51,25 +52,12 @@ last-sound g v k =
 
 -- ---- how often a position stands
 
-pub times-append : (p : Position) (xs ys : List Position) → times samePosition (xs ++ ys) p ≡ times samePosition xs p + times samePosition ys p
-unfolding times
-times-append p [] ys = omega arith
-times-append p (x ∷ xs) ys = let ih = times-append p xs ys in omega arith
-
-pub times-none : (p : Position) (l : List Position) → 0 ≡ times samePosition (take 0 l) p
-unfolding times
-times-none p l = refl
-
-times-one : (p q : Position) (b : Bool) → b ≡ samePosition q p → times samePosition (q ∷ []) p ≡ cond b 1 0
-unfolding times
-times-one p q b e = let h = ap {B = ℕ} (λ (t : Bool). cond t 1 0) e in omega arith
-
 -- one more is looked at
 pub times-more : (p d : Position) (l : List Position) (i n n' : ℕ) (b : Bool) → i < length l → n ≡ times samePosition (take i l) p
     → b ≡ samePosition (getD l i d) p → n' ≡ n + cond b 1 0 → n' ≡ times samePosition (take (i + 1) l) p
 times-more p d l i n n' b h e q r =
-    let a = times-append p (take i l) (getD l i d ∷ []) in
-    let o = times-one p (getD l i d) b q in
+    let a = times-append samePosition p (take i l) (getD l i d ∷ []) in
+    let o = times-one samePosition p (getD l i d) b q in
     rw (add-one, take-suc l i d) (omega arith)
 
 -- ---- entries still blank

@@ -230,7 +230,7 @@ impl Game {
 }
 
 // No game: the one begun from the empty board with White to move.
-pub(crate) fn not_begun(e: Refusal) -> Begun
+pub fn not_begun(e: Refusal) -> Begun
     ensures { λ r. ⌜ r ≡ notBegun e ⌝ }
 {
     let game = keeping::alone(keeping::blank(), 0);

@@ -1,4 +1,5 @@
 -- Each part is what its call ensures.
+use mathlib.Core.Path.{sym}
 use Rattle.positions.specs.Boards.{boardOf}
 use Rattle.movegen.proofs.Plies.{promotes-when}
 use Rattle.games.specs.Games.{manMoves}
@@ -19,8 +20,7 @@ returns : tie.Need-returns
 unfolding manMoves
 returns c =
     let a = c .before .before .before .args in
-    let e = promotes-when (boardOf (a .p)) (a .mv) in
-    cc
+    rw (c .before .before .man-moves .ensures, c .contains .ensures, c .before .promotion-row .ensures) (sym (promotes-when (boardOf (a .p)) (a .mv)))
 
 pub promotes-spec : {M : Type 1} → statement M
 promotes-spec =
