@@ -16,7 +16,7 @@ use Rattle.squares.specs.declared.refusal.Answer.the-variants as answer
 use Rattle.positions.specs.Acceptance.{sound}
 use Rattle.positions.specs.Boards.{Board, boardOf, menOf, kingsOf}
 use Rattle.positions.specs.Hash.{positionOf}
-use Rattle.positions.specs.Moves.{isCapture, squaresOf}
+use Rattle.positions.specs.Moves.{squaresOf}
 use Rattle.positions.specs.Successor.{successor}
 use Rattle.positions.specs.declared.moves.Move.{Move}
 use Rattle.positions.specs.declared.position.Position.{Position}
@@ -28,6 +28,7 @@ use Rattle.rules.specs.Rules.{Legal}
 use Rattle.rules.proofs.Laws.{fair-of-accepted, listed-legal, legal-playable, legal-most, legal-quiet}
 use Rattle.movegen.specs.Lists.{afterOf}
 use Rattle.movegen.proofs.Answers.{after-many, after-none, after-one}
+use Rattle.movegen.proofs.Plies.{capture-is}
 use Rattle.games.specs.Book.{Book, tallyOf, standing, begunBook, Verdict, goesOn, ends, bookOutcome, over, onTheBoard, bookAnswer, reached, bookPlayed, bookNext, bookAnswers, bookAfter}
 use Rattle.games.specs.Demand3.{answersTo, gameAfter, heardOf, heard, toldAs, bookOf, AtAccepted, TakesMost, NoneOpen, Demand3}
 use Rattle.games.specs.Games.{blankPosition, lastOf, valid, stood, judgedOf, ended}
@@ -146,7 +147,7 @@ module _ (start : Board) (g : Game) (b : Book) (r : Stands start g b) (m : Move)
   none-at e z =
       let fair = fair-of-accepted (standing b) (now-accepted start g b r) in
       legal-quiet (standing b) fair m (listed-legal (standing b) fair m .0 (accepted-listed b m e))
-      (unfold isCapture in ap not (eq-eqb (m .captured) 0 z)) .0
+      (capture-is m ∙ ap not (eq-eqb (m .captured) 0 z)) .0
 
 -- ---- a list of plays
 record Run (start : Board) (g : Game) (b : Book) (ms : List Move) : Type 0 where

@@ -1,17 +1,15 @@
--- Laws on definitions of the crates below: each belongs where its definition stands, and is stated here so that no other proof of
--- this crate opens one.
+-- Laws on squares and on lists: each belongs where its definition stands, and is stated here so that no other proof of this crate
+-- opens one.
 use mathlib.Core.Path.{_≡_, refl, ap}
 use Prim.Native.Nat.{ℕ, _+_}
 use native.Mathlib.Omega.{arith}
-use mathlib.Core.Bool.{Bool, false, not, cond, _&&_, and-false}
+use mathlib.Core.Bool.{Bool, false, cond, and-false}
 use mathlib.Core.List.{List, [], _∷_, _++_}
 use lib.Dec.{leb}
-use Rattle.squares.specs.Squares.{isSquare, containsOf, promotion}
-use Rattle.positions.specs.Boards.{Board}
+use Rattle.squares.specs.Squares.{isSquare}
 use Rattle.positions.specs.Moves.{move, squaresOf}
-use Rattle.positions.specs.Successor.{promotes}
-use Rattle.positions.specs.declared.moves.Move.{Move}
 use Rattle.rules.specs.Lists.{times}
+use Rattle.movegen.proofs.Plies.{on-board-is}
 
 -- ---- squares: a number above 50 is none
 pub high : (n : ℕ) → leb n 50 ≡ false → isSquare n ≡ false
@@ -20,17 +18,10 @@ high n e = rw e (and-false (leb 1 n))
 
 -- ---- positions: a record with a number that is no square
 pub off-from : (a b c : ℕ) → isSquare a ≡ false → squaresOf (move a b c) ≡ false
-unfolding squaresOf
-off-from a b c e = rw e
+off-from a b c e = rw (on-board-is (move a b c), e)
 
 pub off-to : (a b c : ℕ) → isSquare b ≡ false → squaresOf (move a b c) ≡ false
-unfolding squaresOf
-off-to a b c e = rw e (and-false (isSquare a))
-
--- a man that ends on its promotion row
-pub promotes-is : (b : Board) (m : Move) → (not (containsOf (b .kings) (m .from)) && containsOf (promotion (b .side)) (m .to)) ≡ promotes b m
-unfolding promotes
-promotes-is b m = refl
+off-to a b c e = rw (on-board-is (move a b c), e) (and-false (isSquare a))
 
 -- ---- rules: how often an entry stands
 module _ {A : Type 0} (same : A → A → Bool) (x : A) where

@@ -4,11 +4,11 @@ use Prim.Native.Nat.{ℕ, zero, suc, _+_, _-_, _^_, _<_, _≤_, min}
 use native.Mathlib.Nat.{min-eq-left, min-eq-right}
 use native.Mathlib.Omega.{arith}
 use mathlib.Core.Bool.{Bool, true, false, not, cond, _&&_, _||_}
-use mathlib.Core.List.{List, [], _∷_}
+use mathlib.Core.List.{[], _∷_}
 use lib.Bits.{bitAnd, and-le-l}
 use lib.Dec.{eqb, leb, ltb}
 use lib.ListN.{length}
-use borrow.Author.Tests.{ltb-true, lt-ltb, leb-true, leb-false, le-leb, lt-leb, eqb-true, eqb-false, eq-eqb, ne-eqb}
+use borrow.Author.Tests.{ltb-true, lt-ltb, leb-true, leb-false, le-leb, lt-leb, eqb-true, eqb-false, eq-eqb}
 use Rattle.squares.specs.Sets.{size, without}
 use Rattle.squares.specs.Squares.{all, isSquare}
 use Rattle.squares.specs.Pieces.{other}
@@ -23,8 +23,7 @@ use Rattle.positions.specs.Boards.{Board, colored, menOf, kingsOf}
 use Rattle.positions.specs.Moves.{squaresOf}
 use Rattle.positions.specs.declared.moves.Move.{Move}
 use Rattle.rules.specs.Ordered.{legal}
-use Rattle.rules.specs.Lists.{some}
-use Rattle.quiet_laws.proofs.HasMove.{some-legal}
+use Rattle.movegen.proofs.Plies.{on-board-is, none-open}
 use Rattle.games.specs.Book as book
 use Rattle.games.specs.Book.{against, threePieces, twoPieces, firstToHold, testsAt, numbersSquare, onTheBoard}
 use Rattle.games.specs.Demand3.{toldAs}
@@ -49,9 +48,10 @@ within-agrees s a =
     (λ e. let k = eqb-true (bitAnd s a) s e in eq-eqb (s - bitAnd s a) 0 (omega arith))
 
 pub squares-agree : (m : Move) → squaresOf m ≡ onTheBoard m
-unfolding squaresOf onTheBoard
+unfolding onTheBoard
 squares-agree m =
-    ap₂ (λ (x y : Bool). x && (y && eqb (without (m .captured) all) 0)) (square-agrees (m .from)) (square-agrees (m .to))
+    on-board-is m
+    ∙ ap₂ (λ (x y : Bool). x && (y && eqb (without (m .captured) all) 0)) (square-agrees (m .from)) (square-agrees (m .to))
     ∙ ap (λ (z : Bool). numbersSquare (m .from) && (numbersSquare (m .to) && z)) (within-agrees (m .captured) all)
     ∙ assoc (numbersSquare (m .from)) (numbersSquare (m .to)) (eqb (bitAnd (m .captured) all) (m .captured))
   where
@@ -60,14 +60,9 @@ squares-agree m =
     assoc false y z = refl
 
 -- ---- whether a move is legal
-none-length : {A : Type 0} (l : List A) → eqb (length l) 0 ≡ not (some l)
-unfolding some
-none-length [] = refl
-none-length (x ∷ l) = ne-eqb (length (x ∷ l)) 0 (λ e. omega arith)
-
 none-agrees : (p : Board) → eqb (length (legal p)) 0 ≡ not (canMove p)
 unfolding canMove
-none-agrees p = none-length (legal p) ∙ ap not (some-legal p)
+none-agrees p = none-open p
 
 -- ---- lone kings
 -- the pieces s of a colour, with the kings k marked

@@ -4,4 +4,6 @@ pub mod Counted
 pub mod Divided
 pub mod LastPly
 pub mod Answers
+pub mod Plies
+pub mod Taken
 pub mod Rows

@@ -1,8 +1,8 @@
 -- Each part is what its call ensures.
-use mathlib.Core.Path.{_∙_}
+use mathlib.Core.Path.{sym}
 use Rattle.positions.specs.Boards.{boardOf}
+use Rattle.movegen.proofs.Plies.{promotes-when}
 use Rattle.games.specs.Games.{manMoves}
-use Rattle.games.proofs.Lower.{promotes-is}
 use borrow.Author.Needs.{needs}
 use Rattle.games.proofs.keeping.promotes.Statement.{statement}
 use Rattle.games.proofs.keeping.promotes.Tie as tie
@@ -20,7 +20,7 @@ returns : tie.Need-returns
 unfolding manMoves
 returns c =
     let a = c .before .before .before .args in
-    rw (c .before .before .man-moves .ensures, c .contains .ensures, c .before .promotion-row .ensures) (promotes-is (boardOf (a .p)) (a .mv))
+    rw (c .before .before .man-moves .ensures, c .contains .ensures, c .before .promotion-row .ensures) (sym (promotes-when (boardOf (a .p)) (a .mv)))
 
 pub promotes-spec : {M : Type 1} → statement M
 promotes-spec =
