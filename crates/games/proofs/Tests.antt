@@ -23,7 +23,7 @@ use Rattle.positions.specs.Boards.{Board, colored, menOf, kingsOf}
 use Rattle.positions.specs.Moves.{squaresOf}
 use Rattle.positions.specs.declared.moves.Move.{Move}
 use Rattle.rules.specs.Ordered.{legal}
-use Rattle.quiet_laws.specs.Some.{some}
+use Rattle.rules.specs.Lists.{some}
 use Rattle.quiet_laws.proofs.HasMove.{some-legal}
 use Rattle.games.specs.Book as book
 use Rattle.games.specs.Book.{against, threePieces, twoPieces, firstToHold, testsAt, numbersSquare, onTheBoard}

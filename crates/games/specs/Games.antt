@@ -18,7 +18,7 @@ use Rattle.positions.specs.declared.moves.Move.{Move}
 use Rattle.positions.specs.declared.position.Position.{Position}
 use Rattle.rules.specs.Lists.{times}
 use Rattle.rules.specs.Ordered.{captures, quiets}
-use Rattle.quiet_laws.specs.Some.{some}
+use Rattle.rules.specs.Lists.{some}
 use Rattle.movegen.specs.declared.movegen.Tested.{Tested}
 use Rattle.movegen.specs.declared.movegen.Tested.the-variants as tested
 use Rattle.games.specs.declared.game.Game.{Game}

@@ -13,7 +13,7 @@ use Rattle.positions.specs.declared.moves.Move.{Move}
 use Rattle.positions.specs.declared.position.Position.{Position}
 use Rattle.positions.specs.declared.position.Placed.the-variants as placed
 use Rattle.rules.specs.Ordered.{captures, quiets, legal, listed}
-use Rattle.quiet_laws.specs.Some.{some}
+use Rattle.rules.specs.Lists.{some}
 use Rattle.movegen.specs.Lists.{hasCapturesOf, hasQuietMovesOf, playedOf, afterOf}
 use Rattle.movegen.specs.declared.movegen.Tested.the-variants as tested
 use Rattle.movegen.proofs.Listed.{played-many, played-none, after-at}
