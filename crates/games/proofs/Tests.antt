@@ -88,14 +88,14 @@ module _ (s k : ℕ) (sFits : s < 2 ^ 64) (kFits : k < 2 ^ 64) where
   one-king : (eqb (size s) 1 && eqb s (bitAnd s k)) ≡ (eqb (size (without s k)) 0 && eqb (size (bitAnd s k)) 1)
   one-king = bool-ext _ _
       (λ e.
-        let o = eqb-true (size s) 1 (and-left _ _ e) in
-        let q = eqb-true s (bitAnd s k) (and-right (eqb (size s) 1) _ e) in
-        let n = men-none q in
-        and-both _ _ (eq-eqb _ _ n) (eq-eqb (size (bitAnd s k)) 1 (omega (arith, parts-size))))
+      let o = eqb-true (size s) 1 (and-left _ _ e) in
+      let q = eqb-true s (bitAnd s k) (and-right (eqb (size s) 1) _ e) in
+      let n = men-none q in
+      and-both _ _ (eq-eqb _ _ n) (eq-eqb (size (bitAnd s k)) 1 (omega (arith, parts-size))))
       (λ e.
-        let n = eqb-true (size (without s k)) 0 (and-left _ _ e) in
-        let o = eqb-true (size (bitAnd s k)) 1 (and-right (eqb (size (without s k)) 0) _ e) in
-        and-both _ _ (eq-eqb (size s) 1 (omega (arith, parts-size))) (eq-eqb s (bitAnd s k) (no-men n)))
+      let n = eqb-true (size (without s k)) 0 (and-left _ _ e) in
+      let o = eqb-true (size (bitAnd s k)) 1 (and-right (eqb (size (without s k)) 0) _ e) in
+      and-both _ _ (eq-eqb (size s) 1 (omega (arith, parts-size))) (eq-eqb s (bitAnd s k) (no-men n)))
 
   some-king : not (eqb (bitAnd s k) 0) ≡ leb 1 (size (bitAnd s k))
   some-king = go (eqb (bitAnd s k) 0) refl
