@@ -21,7 +21,6 @@ use Rattle.texts.specs.Bytes.{blank, is, trimStart, keepEnd, trimEnd, tr
 use Rattle.texts.specs.Parts.{added, withSquares, begun}
 use Rattle.texts.specs.Fen.{itemText, listText, fenText, fenColorOf, endOf, rangeOf, itemOf, itemsOf, fieldOf, fieldsOf, sideOf, fenFields, body, fenParts}
 use Rattle.texts.specs.declared.parts.Parts.{Parts}
-use Rattle.texts.specs.declared.parts.Reading.{Reading}
 use Rattle.texts.specs.declared.parts.Reading.the-variants as reading
 use Rattle.texts.proofs.ListLaws.{each, each-map, each-imp, lacks, lacks-cons, lacks-joined, trim-lacks, trimEnd-lacks, split-joined}
 use Rattle.texts.proofs.Marks.{marks, always, put-members, mark-kings, each-members}

@@ -23,7 +23,6 @@ use Rattle.texts.specs.Bytes.{ascii}
 use Rattle.texts.specs.Parts.{added, withSquares, begun}
 use Rattle.texts.specs.Hub.{squaresFrom, standingChar, hubChar, hubText, hubByteOf, hubFrom, hubParts}
 use Rattle.texts.specs.declared.parts.Parts.{Parts}
-use Rattle.texts.specs.declared.parts.Reading.{Reading}
 use Rattle.texts.specs.declared.parts.Reading.the-variants as reading
 use Rattle.texts.proofs.ListLaws.{each}
 use Rattle.texts.proofs.Marks.{elem, marks, has-marks, marks-lt}

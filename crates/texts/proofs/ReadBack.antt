@@ -15,7 +15,7 @@ use Rattle.squares.proofs.Bools.{and-left, and-right, and-both}
 use Rattle.squares.proofs.Pointwise.{ext, has-and, has-or, and-lt}
 use Rattle.positions.specs.Boards.{Board, boardOf}
 use Rattle.positions.specs.Hash.{positionOf}
-use Rattle.positions.specs.Acceptance.{squaresOnly, acceptedSets, accepted, sound, Accepted, Sound, placeOf, fromPartsOf}
+use Rattle.positions.specs.Acceptance.{squaresOnly, acceptedSets, accepted, Accepted, Sound, placeOf, fromPartsOf}
 use Rattle.positions.specs.declared.position.Position.{Position}
 use Rattle.positions.specs.declared.position.Placed.the-variants as placed
 use Rattle.positions.proofs.Accepts.{from-parts-sound, says-accepted, says-sound, sound-position, say-squares}
@@ -103,7 +103,7 @@ hub-reads p s =
     rw (hub-readable b) (ap placing (hub-back b (s .accepted)) ∙ parts-back b (s .accepted) ∙ ap placed.Position (sym (sound-position p s)))
 
 -- ---- through lent space: n is the length that the writer told
-lent-front : (t out : List ℕ) (n : ℕ) → emitOf t out ≡ wrote.Length n → take n (emitted t out) ≡ t
+pub lent-front : (t out : List ℕ) (n : ℕ) → emitOf t out ≡ wrote.Length n → take n (emitted t out) ≡ t
 unfolding emitOf emitted
 lent-front t out n = go (leb (length t) (length out))
   where

@@ -2,7 +2,6 @@
 use Prim.Native.Nat.{_-_}
 use borrow.Author.Tests.{ne-eqb}
 use Rattle.texts.specs.Fen.{fenColorOf}
-use Rattle.texts.specs.Bytes.{is}
 use Prim.Native.Char.{code}
 use Rattle.texts.proofs.fen.fen_color.Statement.{statement}
 use Rattle.texts.proofs.fen.fen_color.Tie as tie

@@ -4,7 +4,6 @@ use Prim.Native.Nat.{_-_}
 use lib.Seq.{length-take-le}
 use denote.Ref.{now}
 use Rattle.texts.proofs.Readers as laws
-use Rattle.texts.specs.Bytes.{behind}
 use borrow.Author.Needs.{needs}
 use native.Mathlib.Omega.{arith}
 use Rattle.texts.proofs.fen.fen_parts.Statement.{statement}

@@ -1,0 +1,10 @@
+pub mod Rows
+pub mod Reading
+pub mod Search
+pub mod Fitted
+pub mod Chosen
+pub mod MoveTexts
+pub mod MoveSays
+pub mod MoveTrip
+pub mod MoveRows
+pub mod MoveRoom

@@ -1,0 +1,1 @@
+// The rows P1 to P12 of document 01, one table of theorems: proofs/Table.antt. No code.
