@@ -3,10 +3,10 @@
 use mathlib.Core.Path.{_≡_, refl, sym, ap, ap₂, _∙_}
 use Prim.Native.Nat.{ℕ, _+_, _^_, _<_}
 use native.Mathlib.Omega.{arith}
-use mathlib.Core.Bool.{Bool, true, false, not, cond, _&&_, _||_, true≢false, false≢true}
+use mathlib.Core.Bool.{Bool, true, false, not, cond, _&&_, _||_, or-true, true≢false, false≢true}
 use lib.Bits.{bitAnd}
 use lib.Dec.{eqb, ltb}
-use borrow.Author.Tests.{lt-ltb, le-ltb, eqb-true, eqb-false, not-true, not-false}
+use borrow.Author.Tests.{lt-ltb, le-ltb, eqb-true, eqb-false, eq-eqb, not-true, not-false}
 use Rattle.squares.specs.Sets.{has, size, without}
 use Rattle.squares.specs.Squares.{bitOf, containsOf, promotion}
 use Rattle.squares.specs.Pieces.{other}
@@ -18,17 +18,18 @@ use Rattle.squares.proofs.Pointwise.{has-and, has-without, has-zero, and-lt, wi
 use Rattle.squares.proofs.Sizes.{size-zero, size-some}
 use Rattle.positions.specs.Acceptance.{Accepted}
 use Rattle.positions.specs.Boards.{Board, colored, own, enemy, menOf, kingsOf, sameColor}
-use Rattle.positions.specs.Measure.{Ply, capture, man, king}
+use Rattle.positions.specs.Measure.{Ply, capture, man, king, Smaller, fewer, nearer, Level}
 use Rattle.positions.specs.Moves.{isCapture}
 use Rattle.positions.specs.Standing.{promoted, menTaken, kingsTaken}
 use Rattle.positions.specs.Successor.{promotes, successor, Playable}
 use Rattle.positions.specs.declared.moves.Move.{Move}
+use Rattle.positions.proofs.Measures.{capture-falls, man-falls, king-stays}
 use Rattle.positions.proofs.Plays.{contains-is, promotes-is}
 use Rattle.positions.proofs.Standings.{Standing, standing}
 use Rattle.rules.specs.Rules.{Legal, Fair}
 use Rattle.rules.proofs.Laws.{fair-of-accepted, legal-playable, man-nearer}
 use Rattle.games.specs.Book as book
-use Rattle.games.specs.Book.{Tally, takes, manMove, promotion?, tallied}
+use Rattle.games.specs.Book.{Tally, takes, manMove, isPromotion, tallied}
 use Rattle.games.specs.Games.{manMoves, irreversible, materialAfter}
 use Rattle.games.proofs.Tests.{fits}
 
@@ -83,8 +84,8 @@ module _ (p : Board) (m : Move) (a : Accepted p) (y : Playable p m) where
   pub man-agrees : manMoves p m ≡ manMove p m
   man-agrees = man-is ∙ sym man-book
 
-  pub promotion-agrees : promotes p m ≡ promotion? p m
-  unfolding promotion?
+  pub promotion-agrees : promotes p m ≡ isPromotion p m
+  unfolding isPromotion
   promotion-agrees = promotes-is p m y ∙ ap (λ (x : Bool). x && has (promotion (p .side)) (bitOf (m .to))) (sym man-book)
 
   pub taking-agrees : isCapture m ≡ takes m
@@ -96,7 +97,7 @@ module _ (p : Board) (m : Move) (a : Accepted p) (y : Playable p m) where
       go false e = sym (lt-ltb 0 (size (m .captured)) (size-some (m .captured) (y .setFits) (let n = eqb-false (m .captured) 0 e in omega arith)))
 
   -- ---- the tallies
-  promoted-is : (c : Color) → cond (sameColor c (p .side) && promotion? p m) 1 0 ≡ promoted c p m
+  promoted-is : (c : Color) → cond (sameColor c (p .side) && isPromotion p m) 1 0 ≡ promoted c p m
   unfolding promoted
   promoted-is c = ap (λ (x : Bool). cond (sameColor c (p .side) && x) 1 0) (sym promotion-agrees)
 
@@ -184,3 +185,25 @@ ply-of p m a h = go (isCapture m) refl
     go : (t : Bool) → isCapture m ≡ t → Ply p m
     go true e = capture (size-some (m .captured) (y .setFits) (let n = eqb-false (m .captured) 0 (not-true (eqb (m .captured) 0) (unfold isCapture in e)) in omega arith))
     go false e = still e (has (p .kings) (bitOf (m .from))) refl
+
+-- ---- a capture or a man move lowers the measure, a quiet king move keeps it
+pub data Measured (p : Board) (m : Move) : Type 0 where
+  falls : irreversible p m ≡ true → Smaller (successor p m) p → Measured p m
+  stays : irreversible p m ≡ false → Level (successor p m) p → Measured p m
+
+pub measured : (p : Board) (m : Move) → Accepted p → Legal p m → Measured p m
+unfolding irreversible takes isCapture
+measured p m a h = go (ply-of p m a h)
+  where
+    y : Playable p m
+    y = legal-playable p (fair-of-accepted p a) m h
+
+    go : Ply p m → Measured p m
+    go (capture n) =
+        falls (ap (λ (t : Bool). t || manMoves p m) (taking-agrees p m a y ∙ lt-ltb 0 (size (m .captured)) n))
+        (fewer (capture-falls p m a y n))
+    go (man z k n) =
+        let f = man-falls p m a y z k n in
+        falls (ap (λ (t : Bool). isCapture m || t) (man-is p m a y ∙ ap not k) ∙ or-true (isCapture m)) (nearer (f .0) (f .1))
+    go (king z k) =
+        stays (ap₂ (λ (s t : Bool). s || t) (ap not (eq-eqb (m .captured) 0 z)) (man-is p m a y ∙ ap not k)) (king-stays p m a y z k)

@@ -142,14 +142,14 @@ unfoldable pub manMove : Board → Move → Bool
 manMove p m = has (menOf (p .side) p) (bitOf (m .from))
 
 -- a man that ends on its promotion row
-unfoldable pub promotion? : Board → Move → Bool
-promotion? p m = manMove p m && has (promotion (p .side)) (bitOf (m .to))
+unfoldable pub isPromotion : Board → Move → Bool
+isPromotion p m = manMove p m && has (promotion (p .side)) (bitOf (m .to))
 
 -- each piece taken counts for its own colour, as the man or king that it was
 unfoldable pub tallied : Color → Board → Move → Tally → Tally
 tallied c p m t =
     record {
-      promotions = t .promotions + cond (sameColor c (p .side) && promotion? p m) 1 0;
+      promotions = t .promotions + cond (sameColor c (p .side) && isPromotion p m) 1 0;
       menTaken = t .menTaken + size (bitAnd (m .captured) (menOf c p));
       kingsTaken = t .kingsTaken + size (bitAnd (m .captured) (kingsOf c p));
     }
@@ -160,7 +160,7 @@ bookPlayed b m =
     record {
       positions = b .positions ++ (successor (standing b) m ∷ []);
       first = cond (takes m || manMove (standing b) m) 0 (b .first + 1);
-      second = cond (takes m || promotion? (standing b) m) 0 (b .second + 1);
+      second = cond (takes m || isPromotion (standing b) m) 0 (b .second + 1);
       white = tallied White (standing b) m (b .white);
       black = tallied Black (standing b) m (b .black);
     }

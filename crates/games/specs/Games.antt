@@ -16,9 +16,8 @@ use Rattle.positions.specs.Moves.{isCapture}
 use Rattle.positions.specs.Successor.{promotes}
 use Rattle.positions.specs.declared.moves.Move.{Move}
 use Rattle.positions.specs.declared.position.Position.{Position}
-use Rattle.rules.specs.Lists.{times}
+use Rattle.rules.specs.Lists.{times, some}
 use Rattle.rules.specs.Ordered.{captures, quiets}
-use Rattle.rules.specs.Lists.{some}
 use Rattle.movegen.specs.declared.movegen.Tested.{Tested}
 use Rattle.movegen.specs.declared.movegen.Tested.the-variants as tested
 use Rattle.games.specs.declared.game.Game.{Game}

@@ -2,7 +2,7 @@
 -- contract is demand 3 of the list as lent.
 use mathlib.Core.Path.{_≡_}
 use Prim.Native.Nat.{ℕ, _/_, _%_}
-use mathlib.Core.Bool.{Bool, cond, _&&_}
+use mathlib.Core.Bool.{cond}
 use mathlib.Core.List.{List, [], _∷_, _++_}
 use lib.Dec.{eqb, leb}
 use lib.ListN.{length, take, drop}
@@ -13,7 +13,7 @@ use Rattle.positions.specs.Moves.{move}
 use Rattle.positions.specs.declared.moves.Move.{Move}
 use Rattle.positions.specs.declared.position.Position.{Position}
 use Rattle.games.specs.Play.{freshOf, notBegun, newOf, playOf, outcomeOf}
-use Rattle.games.specs.Demand3.{answersTo, gameAfter, Demand3}
+use Rattle.games.specs.Demand3.{answersTo, gameAfter, Heard, Demand3}
 use Rattle.games.specs.declared.game.Begun.{Begun}
 use Rattle.games.specs.declared.game.Game.{Game}
 
@@ -55,6 +55,12 @@ pub record PlayedAll (g : Game) (numbers before after : List ℕ) (r : Game) : T
   pub result : r ≡ gameAfter playOf g (movesIn numbers)
   pub written : after ≡ answersTo playOf g (movesIn numbers) ++ drop (length numbers / 3) before
 
+-- what is heard through it: the new game of the start, the answers as written, the game handed back, and its outcome
+abbrev pub heardBy : Position → List Move → List ℕ → Game → Heard
+heardBy start moves out g = record { begun = newOf start; answers = take (length moves) out; game = g; outcome = outcomeOf g }
+
 pub record Replayed (start : Position) (numbers before after : List ℕ) (r : Begun) : Type 0 where
   pub result : r ≡ replayOf start numbers (length before)
   pub written : after ≡ writtenOf start numbers before
+  -- not refused, demand 3 holds of the list as lent
+  pub demand : r .answer ≡ Done → Demand3 start (movesIn numbers) (heardBy start (movesIn numbers) after (r .game))

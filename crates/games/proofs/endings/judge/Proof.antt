@@ -1,38 +1,26 @@
+-- The branches are the tests of the definition, in its order.
 use mathlib.Core.Path.{sym, ap, _∙_}
 use borrow.Author.Tests.{le-leb, lt-leb}
 use Rattle.games.specs.Games.{won, judge}
 use borrow.Author.Needs.{needs}
-use native.Mathlib.Omega.{arith}
 use Rattle.games.proofs.endings.judge.Statement.{statement}
 use Rattle.games.proofs.endings.judge.Tie as tie
-use Rattle.games.proofs.endings.judge.Reads as reads
-use Rattle.games.proofs.endings.judge.Lts as lts
-use Rattle.games.proofs.endings.can_move.Reads as can-move-reads
-use Rattle.games.proofs.endings.draw.Reads as draw-reads
-use Rattle.games.proofs.endings.king_ending.Reads as king-ending-reads
-use Rattle.games.proofs.endings.win.Reads as win-reads
-use Rattle.squares.proofs.piece.Color.not.Reads as not-reads
 
--- src/endings.rt:93:8
 can-move-requires : tie.Need-can-move-requires
 can-move-requires c κs = search needs
 
--- src/endings.rt:95:13
 draw-requires : tie.Need-draw-requires
 draw-requires c κs = search needs
 
--- src/endings.rt:95:13
 returns : tie.Need-returns
 unfolding judge
 returns c =
     let t = c .before .before in
     rw (sym (t .before .can-move .ensures) ∙ t .if1 .taken, le-leb _ _ (c .before .if2 .taken)) (c .draw .ensures)
 
--- src/endings.rt:98:13
 draw-requires-2 : tie.Need-draw-requires-2
 draw-requires-2 c κs = search needs
 
--- src/endings.rt:98:13
 returns-2 : tie.Need-returns-2
 unfolding judge
 returns-2 c =
@@ -40,11 +28,9 @@ returns-2 c =
     let t = e .before in
     rw (sym (t .before .can-move .ensures) ∙ t .if1 .taken, lt-leb _ _ (e .if2 .left), le-leb _ _ (c .before .if3 .taken)) (c .draw2 .ensures)
 
--- src/endings.rt:100:9
 king-ending-requires : tie.Need-king-ending-requires
 king-ending-requires c κs = search needs
 
--- src/endings.rt:100:9
 returns-3 : tie.Need-returns-3
 unfolding judge
 returns-3 c =
@@ -52,15 +38,12 @@ returns-3 c =
     let t = e .before in
     rw (sym (t .before .can-move .ensures) ∙ t .if1 .taken, lt-leb _ _ (e .if2 .left), lt-leb _ _ (c .before .if3 .left)) (c .king-ending .ensures)
 
--- src/endings.rt:103:9
 not-requires : tie.Need-not-requires
 not-requires c κs = search needs
 
--- src/endings.rt:103:5
 win-requires : tie.Need-win-requires
 win-requires c κs = search needs
 
--- src/endings.rt:89:1
 returns-4 : tie.Need-returns-4
 unfolding judge
 returns-4 c =

@@ -1,13 +1,7 @@
+-- What `after` answers decides: a position is put into the game, a refusal is handed on with the game as it came.
 use borrow.Author.Needs.{needs}
-use native.Mathlib.Omega.{arith}
 use Rattle.games.proofs.game.moved.Statement.{statement}
 use Rattle.games.proofs.game.moved.Tie as tie
-use Rattle.games.proofs.game.moved.Reads as reads
-use Rattle.games.proofs.game.moved.Lts as lts
-use Rattle.games.proofs.game.refused.Reads as refused-reads
-use Rattle.games.proofs.keeping.last.Reads as last-reads
-use Rattle.games.proofs.keeping.next.Reads as next-reads
-use Rattle.movegen.proofs.movegen.after.Reads as after-reads
 
 last-requires : tie.Need-last-requires
 last-requires c κs = search needs

@@ -1,3 +1,4 @@
+-- Below 32 one more is counted, and at 32 the smaller of 32 and 33 is 32.
 use Prim.Native.Nat.{_≤_, _+_}
 use native.Mathlib.Nat.{min-eq-left, min-eq-right}
 use Rattle.games.specs.Games.{materialAfter}
@@ -5,29 +6,20 @@ use borrow.Author.Needs.{needs}
 use native.Mathlib.Omega.{arith}
 use Rattle.games.proofs.keeping.material_after.Statement.{statement}
 use Rattle.games.proofs.keeping.material_after.Tie as tie
-use Rattle.games.proofs.keeping.material_after.Reads as reads
-use Rattle.games.proofs.keeping.material_after.Lts as lts
-use Rattle.games.proofs.keeping.promotes.Reads as promotes-reads
-use Rattle.positions.proofs.moves.Move.is_capture.Reads as is-capture-reads
 
--- src/keeping.rt:132:8
 is-capture-requires : tie.Need-is-capture-requires
 is-capture-requires c κs = search needs
 
--- src/keeping.rt:132:26
 promotes-requires : tie.Need-promotes-requires
 promotes-requires c κs = search needs
 
--- src/keeping.rt:133:9
 returns : tie.Need-returns
 unfolding materialAfter
 returns c = rw (← c .before .before .is-capture .ensures, ← c .before .promotes .ensures, c .if1 .taken)
 
--- src/keeping.rt:136:16
 add-result : tie.Need-add-result
 add-result c = search needs
 
--- src/keeping.rt:136:9
 returns-2 : tie.Need-returns-2
 unfolding materialAfter
 returns-2 c =
@@ -35,7 +27,6 @@ returns-2 c =
     let m : c .before .before .before .before .args .material + 1 ≤ 32 = omega arith in
     rw (← c .before .before .before .is-capture .ensures, ← c .before .before .promotes .ensures, c .before .if1 .left, min-eq-right m)
 
--- src/keeping.rt:129:1
 returns-3 : tie.Need-returns-3
 unfolding materialAfter
 returns-3 c =

@@ -1,3 +1,4 @@
+-- The branch is the test of the definition; a game that 13 lets pass and whose first counter is below 50 has room.
 use Rattle.games.specs.Games.{irreversible}
 use Rattle.games.specs.Play.{movedOf}
 use Rattle.games.proofs.Valid.{valid-says}
@@ -5,14 +6,6 @@ use borrow.Author.Needs.{needs}
 use native.Mathlib.Omega.{arith}
 use Rattle.games.proofs.keeping.next.Statement.{statement}
 use Rattle.games.proofs.keeping.next.Tie as tie
-use Rattle.games.proofs.keeping.next.Reads as reads
-use Rattle.games.proofs.keeping.next.Lts as lts
-use Rattle.games.proofs.keeping.alone.Reads as alone-reads
-use Rattle.games.proofs.keeping.appended.Reads as appended-reads
-use Rattle.games.proofs.keeping.last.Reads as last-reads
-use Rattle.games.proofs.keeping.man_moves.Reads as man-moves-reads
-use Rattle.games.proofs.keeping.material_after.Reads as material-after-reads
-use Rattle.positions.proofs.moves.Move.is_capture.Reads as is-capture-reads
 
 last-requires : tie.Need-last-requires
 last-requires c κs = search needs

@@ -1,11 +1,7 @@
+-- What `ended` says of the outcome.
 use borrow.Author.Needs.{needs}
-use native.Mathlib.Omega.{arith}
 use Rattle.games.proofs.game.Game.has_ended.Statement.{statement}
 use Rattle.games.proofs.game.Game.has_ended.Tie as tie
-use Rattle.games.proofs.game.Game.has_ended.Reads as reads
-use Rattle.games.proofs.game.Game.has_ended.Lts as lts
-use Rattle.games.proofs.endings.ended.Reads as ended-reads
-use Rattle.games.proofs.game.Game.judged.Reads as judged-reads
 
 judged-requires : tie.Need-judged-requires
 judged-requires c κs = search needs

@@ -1,13 +1,9 @@
-use mathlib.Core.Path.{_≡_, sym, ap, _∙_}
+-- 13, else whether there is an outcome.
+use mathlib.Core.Path.{sym, _∙_}
 use Rattle.games.specs.Play.{isOverOf}
 use borrow.Author.Needs.{needs}
-use native.Mathlib.Omega.{arith}
 use Rattle.games.proofs.game.Game.is_over.Statement.{statement}
 use Rattle.games.proofs.game.Game.is_over.Tie as tie
-use Rattle.games.proofs.game.Game.is_over.Reads as reads
-use Rattle.games.proofs.game.Game.is_over.Lts as lts
-use Rattle.games.proofs.game.Game.has_ended.Reads as has-ended-reads
-use Rattle.games.proofs.game.Game.valid.Reads as valid-reads
 
 valid-requires : tie.Need-valid-requires
 valid-requires c κs = search needs

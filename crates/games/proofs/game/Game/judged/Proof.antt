@@ -1,18 +1,13 @@
-use mathlib.Core.Path.{_≡_, sym, ap, _∙_}
+-- The current position is sound, since it is one of those kept.
+use mathlib.Core.Path.{_≡_}
 use lib.ListN.{length}
 use Rattle.captures.proofs.Listed.{length-of-map}
 use Rattle.games.specs.Games.{judgedOf}
 use Rattle.games.proofs.Valid.{valid-says}
 use Rattle.games.proofs.Window.{last-sound}
 use borrow.Author.Needs.{needs}
-use native.Mathlib.Omega.{arith}
 use Rattle.games.proofs.game.Game.judged.Statement.{statement}
 use Rattle.games.proofs.game.Game.judged.Tie as tie
-use Rattle.games.proofs.game.Game.judged.Reads as reads
-use Rattle.games.proofs.game.Game.judged.Lts as lts
-use Rattle.games.proofs.endings.judge.Reads as judge-reads
-use Rattle.games.proofs.keeping.last.Reads as last-reads
-use Rattle.games.proofs.keeping.stood.Reads as stood-reads
 
 last-requires : tie.Need-last-requires
 last-requires c κs = search needs

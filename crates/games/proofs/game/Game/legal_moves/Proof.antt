@@ -1,17 +1,10 @@
-use mathlib.Core.Path.{_≡_, sym, ap, _∙_}
+-- Refusals in the paper's order; no moves once there is an outcome.
+use mathlib.Core.Path.{sym, _∙_}
 use borrow.Author.Tests.{le-leb, lt-leb}
 use Rattle.games.specs.Play.{legalMovesOf}
 use borrow.Author.Needs.{needs}
-use native.Mathlib.Omega.{arith}
 use Rattle.games.proofs.game.Game.legal_moves.Statement.{statement}
 use Rattle.games.proofs.game.Game.legal_moves.Tie as tie
-use Rattle.games.proofs.game.Game.legal_moves.Reads as reads
-use Rattle.games.proofs.game.Game.legal_moves.Lts as lts
-use Rattle.games.proofs.game.Game.has_ended.Reads as has-ended-reads
-use Rattle.games.proofs.game.Game.valid.Reads as valid-reads
-use Rattle.games.proofs.game.no_moves.Reads as no-moves-reads
-use Rattle.games.proofs.keeping.last.Reads as last-reads
-use Rattle.movegen.proofs.movegen.legal_moves.Reads as legal-moves-reads
 
 valid-requires : tie.Need-valid-requires
 valid-requires c κs = search needs

@@ -1,13 +1,9 @@
-use mathlib.Core.Path.{_≡_, sym, ap, _∙_}
+-- 13, else the outcome.
+use mathlib.Core.Path.{sym, _∙_}
 use Rattle.games.specs.Play.{outcomeOf}
 use borrow.Author.Needs.{needs}
-use native.Mathlib.Omega.{arith}
 use Rattle.games.proofs.game.Game.outcome.Statement.{statement}
 use Rattle.games.proofs.game.Game.outcome.Tie as tie
-use Rattle.games.proofs.game.Game.outcome.Reads as reads
-use Rattle.games.proofs.game.Game.outcome.Lts as lts
-use Rattle.games.proofs.game.Game.judged.Reads as judged-reads
-use Rattle.games.proofs.game.Game.valid.Reads as valid-reads
 
 valid-requires : tie.Need-valid-requires
 valid-requires c κs = search needs

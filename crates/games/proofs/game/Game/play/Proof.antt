@@ -1,19 +1,12 @@
-use mathlib.Core.Path.{_≡_, sym, ap, _∙_}
+-- Refusals in the paper's order; a game that goes on has its first counter below 50, so that one more position fits.
+use mathlib.Core.Path.{sym, _∙_}
 use Rattle.positions.specs.Boards.{boardOf}
 use Rattle.games.specs.Games.{lastOf, stood, judgedOf}
 use Rattle.games.specs.Play.{playOf}
 use Rattle.games.proofs.Window.{going-below}
 use borrow.Author.Needs.{needs}
-use native.Mathlib.Omega.{arith}
 use Rattle.games.proofs.game.Game.play.Statement.{statement}
 use Rattle.games.proofs.game.Game.play.Tie as tie
-use Rattle.games.proofs.game.Game.play.Reads as reads
-use Rattle.games.proofs.game.Game.play.Lts as lts
-use Rattle.games.proofs.game.Game.has_ended.Reads as has-ended-reads
-use Rattle.games.proofs.game.Game.valid.Reads as valid-reads
-use Rattle.games.proofs.game.moved.Reads as moved-reads
-use Rattle.games.proofs.game.refused.Reads as refused-reads
-use Rattle.positions.proofs.moves.Move.on_board.Reads as on-board-reads
 
 valid-requires : tie.Need-valid-requires
 valid-requires c κs = search needs

@@ -1,13 +1,9 @@
-use mathlib.Core.Path.{_≡_, sym, ap, _∙_}
+-- 13, else the current position.
+use mathlib.Core.Path.{sym, _∙_}
 use Rattle.games.specs.Play.{standsOf}
 use borrow.Author.Needs.{needs}
-use native.Mathlib.Omega.{arith}
 use Rattle.games.proofs.game.Game.position.Statement.{statement}
 use Rattle.games.proofs.game.Game.position.Tie as tie
-use Rattle.games.proofs.game.Game.position.Reads as reads
-use Rattle.games.proofs.game.Game.position.Lts as lts
-use Rattle.games.proofs.game.Game.valid.Reads as valid-reads
-use Rattle.games.proofs.keeping.last.Reads as last-reads
 
 valid-requires : tie.Need-valid-requires
 valid-requires c κs = search needs

@@ -1,13 +1,9 @@
-use mathlib.Core.Path.{_≡_, sym, ap, _∙_}
+-- 13, else the number.
+use mathlib.Core.Path.{sym, _∙_}
 use Rattle.games.specs.Play.{repetitionsOf}
 use borrow.Author.Needs.{needs}
-use native.Mathlib.Omega.{arith}
 use Rattle.games.proofs.game.Game.repetitions.Statement.{statement}
 use Rattle.games.proofs.game.Game.repetitions.Tie as tie
-use Rattle.games.proofs.game.Game.repetitions.Reads as reads
-use Rattle.games.proofs.game.Game.repetitions.Lts as lts
-use Rattle.games.proofs.game.Game.valid.Reads as valid-reads
-use Rattle.games.proofs.keeping.stood.Reads as stood-reads
 
 valid-requires : tie.Need-valid-requires
 valid-requires c κs = search needs

@@ -1,12 +1,9 @@
-use mathlib.Core.Path.{_≡_, sym, ap, _∙_}
+-- 13, else the counter.
+use mathlib.Core.Path.{sym, _∙_}
 use Rattle.games.specs.Play.{reversiblePliesOf}
 use borrow.Author.Needs.{needs}
-use native.Mathlib.Omega.{arith}
 use Rattle.games.proofs.game.Game.reversible_plies.Statement.{statement}
 use Rattle.games.proofs.game.Game.reversible_plies.Tie as tie
-use Rattle.games.proofs.game.Game.reversible_plies.Reads as reads
-use Rattle.games.proofs.game.Game.reversible_plies.Lts as lts
-use Rattle.games.proofs.game.Game.valid.Reads as valid-reads
 
 valid-requires : tie.Need-valid-requires
 valid-requires c κs = search needs

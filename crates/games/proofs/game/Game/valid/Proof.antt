@@ -1,12 +1,9 @@
+-- The tests of refusal 13 in the order of the definition.
 use borrow.Author.Tests.{le-leb, lt-leb, eq-eqb, ne-eqb}
 use Rattle.games.specs.Games.{valid}
 use borrow.Author.Needs.{needs}
-use native.Mathlib.Omega.{arith}
 use Rattle.games.proofs.game.Game.valid.Statement.{statement}
 use Rattle.games.proofs.game.Game.valid.Tie as tie
-use Rattle.games.proofs.game.Game.valid.Reads as reads
-use Rattle.games.proofs.game.Game.valid.Lts as lts
-use Rattle.games.proofs.keeping.kept_sound.Reads as kept-sound-reads
 
 cast-if3 : tie.Need-cast-if3
 cast-if3 c = search needs

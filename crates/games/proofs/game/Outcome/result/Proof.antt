@@ -1,35 +1,26 @@
+-- The text of each winner.
 use borrow.Author.Needs.{needs}
-use native.Mathlib.Omega.{arith}
 use Rattle.games.proofs.game.Outcome.result.Statement.{statement}
 use Rattle.games.proofs.game.Outcome.result.Tie as tie
-use Rattle.games.proofs.game.Outcome.result.Reads as reads
-use Rattle.games.proofs.game.Outcome.result.Lts as lts
 
--- src/game.rt:85:26
 enum-known-winner : tie.Need-enum-known-winner
 enum-known-winner c = search needs
 
--- src/game.rt:86:34
 enum-told : tie.Need-enum-told
 enum-told c = search needs
 
--- src/game.rt:87:34
 enum-told-2 : tie.Need-enum-told-2
 enum-told-2 c = search needs
 
--- src/game.rt:89:32
 enum-told-3 : tie.Need-enum-told-3
 enum-told-3 c = search needs
 
--- src/game.rt:80:5
 returns : tie.Need-returns
 returns c = rw (c .before .before .before .before .before .winner .given .1, c .before .before .enum-told .given .1)
 
--- src/game.rt:80:5
 returns-2 : tie.Need-returns-2
 returns-2 c = rw (c .before .before .before .before .before .winner .given .1, c .before .before .enum-told2 .given .1)
 
--- src/game.rt:80:5
 returns-3 : tie.Need-returns-3
 returns-3 c = rw (c .before .before .enum-told3 .given .1)
 
