@@ -159,10 +159,14 @@ pub(crate) fn crowning() -> Position {
     with_hash(on(6), on(13), 0, Color::White)
 }
 
-pub(crate) fn quiet(from: Square, to: Square) -> Move {
+pub(crate) fn capture(from: Square, to: Square, captured: Bitboard) -> Move {
     Move {
-        captured: 0,
+        captured: captured,
         from: from,
         to: to,
     }
+}
+
+pub(crate) fn quiet(from: Square, to: Square) -> Move {
+    capture(from, to, 0)
 }

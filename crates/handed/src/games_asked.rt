@@ -7,18 +7,12 @@ use crate::games_made;
 use crate::show;
 use crate::show_games;
 use games::game::Game;
-use positions::moves::Move;
 use squares::bitboard::Bitboard;
 use squares::square::Square;
 
 pub(crate) fn play(case: &[u8], g: Game, from: Square, to: Square, captured: Bitboard) {
-    let m = Move {
-        captured: captured,
-        from: from,
-        to: to,
-    };
     show::asked(b"play", case);
-    show_games::played(g, g.play(m));
+    show_games::played(g, g.play(boards::capture(from, to, captured)));
 }
 
 pub(crate) fn outcome(case: &[u8], g: Game) {

@@ -10,12 +10,14 @@ mod lent;
 mod limits;
 mod positions_asked;
 mod records;
+mod replays;
 mod show;
 mod show_games;
 mod weights;
 
 fn main() {
     positions_asked::cases();
+    positions_asked::move_texts();
     positions_asked::parts();
     records::cases();
     limits::cases();
@@ -24,4 +26,5 @@ fn main() {
     games_faulty::cases();
     games_asked::cases();
     games_ended::cases();
+    replays::cases();
 }

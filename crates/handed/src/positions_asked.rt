@@ -48,6 +48,11 @@ fn scored(case: &[u8], p: Position) {
     show::scored(w.evaluate(p));
 }
 
+fn parsed(case: &[u8], p: Position, text: &[u8]) {
+    show::asked(b"parse_move", case);
+    show::found(notation::notation::parse_move(p, text));
+}
+
 fn begun(case: &[u8], p: Position) {
     show::asked(b"from_position", case);
     show_games::begun(Game::from_position(p));
@@ -59,8 +64,8 @@ fn every_entry(case: &[u8], p: Position) {
     moved(case, p);
     counted(case, p);
     scored(case, p);
-    lent::fen_roomy(case, p);
-    lent::hub_roomy(case, p);
+    lent::roomy(case, p);
+    parsed(case, p, b"32-28");
     begun(case, p);
 }
 
@@ -75,6 +80,18 @@ pub(crate) fn cases() {
     every_entry(b"white man on 3", boards::white_man_home());
     every_entry(b"black man on 48", boards::black_man_home());
     every_entry(b"both colours on 32", boards::both_colors());
+}
+
+// 12, 9, 17 in this order.
+pub(crate) fn move_texts() {
+    parsed(b"wrong hash and no move text", boards::wrong_hash(), b"32");
+    parsed(b"257 moves and no move text", boards::over(), b"32");
+    parsed(
+        b"257 moves and a text that fits none",
+        boards::over(),
+        b"1-50",
+    );
+    parsed(b"a text that fits none", boards::good(), b"1-50");
 }
 
 fn placed(case: &[u8], white: Bitboard, black: Bitboard, kings: Bitboard) {

@@ -3,8 +3,8 @@ use crate::boards;
 use crate::boards::BIT_10;
 use crate::boards::on;
 use crate::show;
-use positions::moves::Move;
 use positions::position::Position;
+use squares::bitboard;
 use squares::bitboard::Bitboard;
 use squares::square;
 use squares::square::Square;
@@ -18,16 +18,25 @@ fn squares(case: &[u8], n: Square) {
     show::numbered(square::row(n));
     show::asked(b"square file", case);
     show::numbered(square::file(n));
+    show::asked(b"piece_at", case);
+    show::standing(boards::good().piece_at(n));
+}
+
+fn set(case: &[u8], bits: u64) {
+    show::asked(b"from_bits", case);
+    show::gathered(bitboard::from_bits(bits));
+}
+
+fn sets() {
+    set(b"bit 9", 0x200);
+    set(b"bit 10", BIT_10);
+    set(b"bit 53", 1 << 53);
+    set(b"bit 54", 1 << 54);
 }
 
 fn after(case: &[u8], p: Position, from: Square, to: Square, captured: Bitboard) {
-    let m = Move {
-        captured: captured,
-        from: from,
-        to: to,
-    };
     show::asked(b"after", case);
-    show::placed(movegen::movegen::after(p, m));
+    show::placed(movegen::movegen::after(p, boards::capture(from, to, captured)));
 }
 
 fn no_squares() {
@@ -65,6 +74,7 @@ pub(crate) fn cases() {
     squares(b"1", 1);
     squares(b"50", 50);
     squares(b"51", 51);
+    sets();
     no_squares();
     not_listed();
     orders();

@@ -5,10 +5,13 @@ use movegen::movegen::Listed;
 use movegen::movegen::Tested;
 use movegen::perft::Counted;
 use movegen::perft::Divided;
+use notation::notation::Found;
 use positions::moves::Move;
 use positions::position::Placed;
 use positions::position::Position;
+use positions::position::Standing;
 use scores::eval::Scored;
+use squares::bitboard::Gathered;
 use squares::refusal::Answer;
 use squares::refusal::Refusal;
 use squares::square::Numbered;
@@ -118,6 +121,40 @@ pub(crate) fn numbered(n: Numbered) {
     match n {
         Numbered::Number(k) => number(k as u64),
         Numbered::Refused(e) => refusal(e),
+    }
+    end();
+}
+
+pub(crate) fn standing(s: Standing) {
+    match s {
+        Standing::Piece(_) => write(b"a piece"),
+        Standing::Nothing => write(b"nothing"),
+        Standing::Refused(e) => refusal(e),
+    }
+    end();
+}
+
+pub(crate) fn gathered(g: Gathered) {
+    match g {
+        Gathered::Set(set) => number(set),
+        Gathered::Refused(e) => refusal(e),
+    }
+    end();
+}
+
+// The first and last square and the set's number.
+fn record(m: Move) {
+    number(m.from as u64);
+    write(b" ");
+    number(m.to as u64);
+    write(b" ");
+    number(m.captured);
+}
+
+pub(crate) fn found(f: Found) {
+    match f {
+        Found::Move(m) => record(m),
+        Found::Refused(e) => refusal(e),
     }
     end();
 }

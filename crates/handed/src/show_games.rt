@@ -71,11 +71,36 @@ fn write_numbers(len: usize, reversible: u32, material: u32) {
     show::number(material as u64);
 }
 
-pub(crate) fn begun(b: Begun) {
+fn answered(b: Begun) {
     let told = b.answer;
     let g = b.game;
     show::answer(told);
     game(g);
+}
+
+pub(crate) fn begun(b: Begun) {
+    answered(b);
+    show::end();
+}
+
+fn wide(code: u8) -> u64 {
+    code as u64
+}
+
+fn codes(answers: &[u8]) {
+    let mut i: usize = 0;
+    while i < answers.len() {
+        show::write(b" ");
+        show::number(wide(answers[i]));
+        i += 1;
+    }
+}
+
+// The lent answers as they are afterwards stand behind the game.
+pub(crate) fn begun_with(b: Begun, answers: &[u8]) {
+    answered(b);
+    show::write(b", answers");
+    codes(answers);
     show::end();
 }
 

@@ -17,63 +17,44 @@ fn score(case: &[u8], w: Classical, p: Position) {
     show::scored(w.evaluate(p));
 }
 
-fn man(case: &[u8], z: i32) {
-    let mut w = Classical::new();
-    w.man = z;
-    score(case, w, board());
-}
-
-fn king(case: &[u8], z: i32) {
-    let mut w = Classical::new();
-    w.king = z;
-    score(case, w, board());
-}
-
-fn advance(case: &[u8], z: i32) {
-    let mut w = Classical::new();
-    w.advance = z;
-    score(case, w, board());
-}
-
-fn center(case: &[u8], z: i32) {
-    let mut w = Classical::new();
-    w.center = z;
-    score(case, w, board());
-}
-
-fn guard(case: &[u8], z: i32) {
-    let mut w = Classical::new();
-    w.guard = z;
+fn weigh(case: &[u8], man: i32, king: i32, advance: i32, center: i32, guard: i32) {
+    let w = Classical {
+        man: man,
+        king: king,
+        advance: advance,
+        center: center,
+        guard: guard,
+    };
     score(case, w, board());
 }
 
 fn beyond() {
-    man(b"man 10001", 10001);
-    man(b"man -10001", -10001);
-    king(b"king 10001", 10001);
-    king(b"king -10001", -10001);
-    advance(b"advance 10001", 10001);
-    advance(b"advance -10001", -10001);
-    center(b"center 10001", 10001);
-    center(b"center -10001", -10001);
-    guard(b"guard 10001", 10001);
-    guard(b"guard -10001", -10001);
-    man(b"man 2147483647", 2147483647);
-    man(b"man -2147483648", -2147483648);
+    weigh(b"man 10001", 10001, 300, 2, 6, 5);
+    weigh(b"man -10001", -10001, 300, 2, 6, 5);
+    weigh(b"king 10001", 100, 10001, 2, 6, 5);
+    weigh(b"king -10001", 100, -10001, 2, 6, 5);
+    weigh(b"advance 10001", 100, 300, 10001, 6, 5);
+    weigh(b"advance -10001", 100, 300, -10001, 6, 5);
+    weigh(b"center 10001", 100, 300, 2, 10001, 5);
+    weigh(b"center -10001", 100, 300, 2, -10001, 5);
+    weigh(b"guard 10001", 100, 300, 2, 6, 10001);
+    weigh(b"guard -10001", 100, 300, 2, 6, -10001);
+    weigh(b"man 2147483647", 2147483647, 300, 2, 6, 5);
+    weigh(b"man -2147483648", -2147483648, 300, 2, 6, 5);
 }
 
 fn within() {
-    man(b"man 10000", 10000);
-    man(b"man -10000", -10000);
-    king(b"king 10000", 10000);
-    king(b"king -10000", -10000);
-    advance(b"advance 10000", 10000);
-    advance(b"advance -10000", -10000);
-    center(b"center 10000", 10000);
-    center(b"center -10000", -10000);
-    guard(b"guard 10000", 10000);
-    guard(b"guard -10000", -10000);
-    man(b"man 100", 100);
+    weigh(b"man 10000", 10000, 300, 2, 6, 5);
+    weigh(b"man -10000", -10000, 300, 2, 6, 5);
+    weigh(b"king 10000", 100, 10000, 2, 6, 5);
+    weigh(b"king -10000", 100, -10000, 2, 6, 5);
+    weigh(b"advance 10000", 100, 300, 10000, 6, 5);
+    weigh(b"advance -10000", 100, 300, -10000, 6, 5);
+    weigh(b"center 10000", 100, 300, 2, 10000, 5);
+    weigh(b"center -10000", 100, 300, 2, -10000, 5);
+    weigh(b"guard 10000", 100, 300, 2, 6, 10000);
+    weigh(b"guard -10000", 100, 300, 2, 6, -10000);
+    weigh(b"the defaults", 100, 300, 2, 6, 5);
 }
 
 fn order() {
