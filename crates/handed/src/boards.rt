@@ -85,11 +85,11 @@ pub(crate) fn bit_10_kings() -> Position {
     with_hash(on(32), on(13), BIT_10, Color::White)
 }
 
-pub(crate) fn white_man_home() -> Position {
+pub(crate) fn white_man_on_3() -> Position {
     with_hash(on(32) | on(3), on(13), 0, Color::White)
 }
 
-pub(crate) fn black_man_home() -> Position {
+pub(crate) fn black_man_on_48() -> Position {
     with_hash(on(32), on(13) | on(48), 0, Color::White)
 }
 
@@ -130,12 +130,8 @@ pub(crate) fn pairs() -> Position {
 
 // W:WK1:B20,45,K50, a lone king against three pieces.
 pub(crate) fn hunted() -> Position {
-    with_hash(
-        on(1),
-        on(20) | on(45) | on(50),
-        on(1) | on(50),
-        Color::White,
-    )
+    let black = on(20) | on(45) | on(50);
+    with_hash(on(1), black, on(1) | on(50), Color::White)
 }
 
 // W:WK1:B20,44,45, no king against the lone one.

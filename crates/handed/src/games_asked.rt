@@ -54,7 +54,7 @@ fn no_squares() {
     play(b"last square 0", g, 7, 0, 0);
     play(b"first square 51", g, 51, 1, 0);
     play(b"last square 51", g, 7, 51, 0);
-    play(b"first square 4294967295", g, 4294967295, 1, 0);
+    play(b"first square 2^32 - 1", g, 4294967295, 1, 0);
     play(b"bit 10 in the set", g, 7, 1, BIT_10);
     play(b"bit 63 in the set", g, 7, 1, 1 << 63);
     play(b"a record that is no move", g, 7, 3, 0);

@@ -47,11 +47,8 @@ fn fens() {
     fen_into(b"9 bytes lent", p, &mut exact);
     let mut short = [b'.'; 8];
     fen_into(b"8 bytes lent", p, &mut short);
-    fen_into(
-        b"wrong hash and 8 bytes lent",
-        boards::wrong_hash(),
-        &mut short,
-    );
+    let bad = boards::wrong_hash();
+    fen_into(b"wrong hash and 8 bytes lent", bad, &mut short);
     fen_into(b"0 bytes lent", p, &mut short[..0]);
 }
 
@@ -61,11 +58,8 @@ fn hubs() {
     hub_into(b"51 bytes lent", p, &mut exact);
     let mut short = [b'.'; 50];
     hub_into(b"50 bytes lent", p, &mut short);
-    hub_into(
-        b"wrong hash and 50 bytes lent",
-        boards::wrong_hash(),
-        &mut short,
-    );
+    let bad = boards::wrong_hash();
+    hub_into(b"wrong hash and 50 bytes lent", bad, &mut short);
     hub_into(b"0 bytes lent", p, &mut short[..0]);
 }
 
@@ -100,16 +94,10 @@ fn no_squares() {
     move_into(b"last square 0", boards::quiet(32, 0), &mut out);
     move_into(b"first square 51", boards::quiet(51, 28), &mut out);
     move_into(b"last square 51", boards::quiet(32, 51), &mut out);
-    move_into(
-        b"bit 10 in the set",
-        boards::capture(28, 8, on(13) | BIT_10),
-        &mut out,
-    );
-    move_into(
-        b"first square 0 and 0 bytes lent",
-        boards::quiet(0, 28),
-        &mut out[..0],
-    );
+    let stray = boards::capture(28, 8, on(13) | BIT_10);
+    move_into(b"bit 10 in the set", stray, &mut out);
+    let blank = boards::quiet(0, 0);
+    move_into(b"blank record, 0 bytes lent", blank, &mut out[..0]);
 }
 
 pub(crate) fn cases() {

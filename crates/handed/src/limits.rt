@@ -20,38 +20,49 @@ fn count(case: &[u8], p: Position, depth: u32) {
 fn lists() {
     let start = position::initial();
     list(b"start, L 257", start, 257);
-    list(
-        b"start, L 18446744073709551615",
-        start,
-        18446744073709551615,
-    );
+    list(b"start, L 2^64 - 1", start, 18446744073709551615);
     list(b"start, L 256", start, 256);
     list(b"start, L 9", start, 9);
     list(b"start, L 8", start, 8);
     list(b"start, L 0", start, 0);
-    list(b"no moves, L 0", boards::none(), 0);
-    list(b"no moves, L 257", boards::none(), 257);
-    list(b"257 moves, L 256", boards::over(), 256);
-    list(b"257 moves, L 257", boards::over(), 257);
-    list(b"wrong hash, L 257", boards::wrong_hash(), 257);
-    list(b"wrong hash, L 0", boards::wrong_hash(), 0);
+}
+
+fn other_lists() {
+    let none = boards::none();
+    let over = boards::over();
+    let wrong = boards::wrong_hash();
+    list(b"no moves, L 0", none, 0);
+    list(b"no moves, L 257", none, 257);
+    list(b"257 moves, L 256", over, 256);
+    list(b"257 moves, L 257", over, 257);
+    list(b"wrong hash, L 257", wrong, 257);
+    list(b"wrong hash, L 0", wrong, 0);
 }
 
 fn counts() {
-    count(b"W:W46:B5, depth 8", boards::far(), 8);
-    count(b"W:W46:B5, depth 4294967295", boards::far(), 4294967295);
-    count(b"W:W46:B5, depth 7", boards::far(), 7);
-    count(b"W:W46:B5, depth 0", boards::far(), 0);
-    count(b"no moves, depth 7", boards::none(), 7);
-    count(b"no moves, depth 8", boards::none(), 8);
-    count(b"257 moves, depth 8", boards::over(), 8);
-    count(b"257 moves, depth 1", boards::over(), 1);
-    count(b"257 moves, depth 0", boards::over(), 0);
-    count(b"wrong hash, depth 8", boards::wrong_hash(), 8);
-    count(b"wrong hash, depth 0", boards::wrong_hash(), 0);
+    let far = boards::far();
+    count(b"W:W46:B5, depth 8", far, 8);
+    count(b"W:W46:B5, depth 2^32 - 1", far, 4294967295);
+    count(b"W:W46:B5, depth 7", far, 7);
+    count(b"W:W46:B5, depth 0", far, 0);
+}
+
+fn other_counts() {
+    let none = boards::none();
+    let over = boards::over();
+    let wrong = boards::wrong_hash();
+    count(b"no moves, depth 7", none, 7);
+    count(b"no moves, depth 8", none, 8);
+    count(b"257 moves, depth 8", over, 8);
+    count(b"257 moves, depth 1", over, 1);
+    count(b"257 moves, depth 0", over, 0);
+    count(b"wrong hash, depth 8", wrong, 8);
+    count(b"wrong hash, depth 0", wrong, 0);
 }
 
 pub(crate) fn cases() {
     lists();
+    other_lists();
     counts();
+    other_counts();
 }

@@ -77,20 +77,17 @@ pub(crate) fn cases() {
     every_entry(b"bit 10 in white", boards::bit_10_white());
     every_entry(b"bit 10 in black", boards::bit_10_black());
     every_entry(b"bit 10 in kings", boards::bit_10_kings());
-    every_entry(b"white man on 3", boards::white_man_home());
-    every_entry(b"black man on 48", boards::black_man_home());
+    every_entry(b"white man on 3", boards::white_man_on_3());
+    every_entry(b"black man on 48", boards::black_man_on_48());
     every_entry(b"both colours on 32", boards::both_colors());
 }
 
 // 12, 9, 17 in this order.
 pub(crate) fn move_texts() {
+    let over = boards::over();
     parsed(b"wrong hash and no move text", boards::wrong_hash(), b"32");
-    parsed(b"257 moves and no move text", boards::over(), b"32");
-    parsed(
-        b"257 moves and a text that fits none",
-        boards::over(),
-        b"1-50",
-    );
+    parsed(b"257 moves and no move text", over, b"32");
+    parsed(b"257 moves and a text that fits none", over, b"1-50");
     parsed(b"a text that fits none", boards::good(), b"1-50");
 }
 
@@ -101,6 +98,7 @@ fn placed(case: &[u8], white: Bitboard, black: Bitboard, kings: Bitboard) {
 
 // One thing wrong.
 fn parts_once() {
+    let both = on(28) | on(33);
     placed(b"nothing wrong", on(32), on(13), 0);
     placed(b"king on an empty square", on(32), on(13), on(25));
     placed(b"bit 10 in white", on(32) | BIT_10, on(13), 0);
@@ -109,12 +107,7 @@ fn parts_once() {
     placed(b"bit 54 in white", on(32) | (1 << 54), on(13), 0);
     placed(b"bit 63 in black", on(32), on(13) | (1 << 63), 0);
     placed(b"both colours on 5", on(5), on(5), on(5));
-    placed(
-        b"both colours on 33 and 28",
-        on(33) | on(28),
-        on(28) | on(33),
-        0,
-    );
+    placed(b"both colours on 33 and 28", both, both, 0);
     placed(b"white man on 3", on(3), on(13), 0);
     placed(b"black man on 46", on(32), on(46), 0);
     placed(b"black man on 46, white man on 5", on(5), on(46), 0);
@@ -123,14 +116,10 @@ fn parts_once() {
 
 // Two things wrong: 11, 7, 8 in this order.
 fn parts_twice() {
+    let white = on(28) | on(3);
     placed(b"bit 10 and both colours on 28", on(28) | BIT_10, on(28), 0);
     placed(b"bit 10 and white man on 3", on(3), on(13) | BIT_10, 0);
-    placed(
-        b"both colours on 28 and white man on 3",
-        on(28) | on(3),
-        on(28),
-        0,
-    );
+    placed(b"both colours on 28, white man on 3", white, on(28), 0);
     placed(b"both colours on 5, both men", on(5), on(5), 0);
 }
 

@@ -45,8 +45,8 @@ fn no_squares() {
     after(b"last square 0", p, 32, 0, 0);
     after(b"first square 51", p, 51, 28, 0);
     after(b"last square 51", p, 32, 51, 0);
-    after(b"first square 4294967295", p, 4294967295, 28, 0);
-    after(b"last square 4294967295", p, 32, 4294967295, 0);
+    after(b"first square 2^32 - 1", p, 4294967295, 28, 0);
+    after(b"last square 2^32 - 1", p, 32, 4294967295, 0);
     after(b"bit 10 in the set", p, 32, 28, BIT_10);
     after(b"bit 54 in the set", p, 32, 28, 1 << 54);
     after(b"blank record", p, 0, 0, 0);

@@ -22,63 +22,28 @@ fn refused() {
     let mut answers = [46u8; 1];
     ask(b"wrong hash", wrong, &one, &mut answers);
     ask(b"four numbers", good, &four, &mut answers);
-    ask(b"two records and one answer", good, &two, &mut answers);
+    ask(b"two records, one answer", good, &two, &mut answers);
     ask(b"wrong hash and four numbers", wrong, &four, &mut answers);
-    ask(
-        b"four numbers and no answer",
-        good,
-        &four,
-        &mut answers[..0],
-    );
+    ask(b"four numbers, no answer", good, &four, &mut answers[..0]);
 }
 
 fn played() {
+    let good = boards::good();
     let two = [32u64, 28, 0, 13, 18, 0];
     let mut answers = [46u8; 3];
-    ask(
-        b"two records and three answers",
-        boards::good(),
-        &two,
-        &mut answers,
-    );
+    ask(b"two records, three answers", good, &two, &mut answers);
 }
 
-// The answers 11 five times, 15, and at last a move.
-fn records() {
-    let moves = [
-        0u64,
-        28,
-        0,
-        51,
-        28,
-        0,
-        4294967328,
-        28,
-        0,
-        32,
-        4294967324,
-        0,
-        32,
-        28,
-        0x400,
-        32,
-        37,
-        0,
-        32,
-        28,
-        0,
-    ];
-    let mut answers = [46u8; 8];
-    ask(
-        b"seven records and eight answers",
-        boards::good(),
-        &moves,
-        &mut answers,
-    );
+// 11 twice, then a move.
+fn large() {
+    let good = boards::good();
+    let moves = [4294967328u64, 28, 0, 32, 4294967324, 0, 32, 28, 0];
+    let mut answers = [46u8; 4];
+    ask(b"squares above 2^32", good, &moves, &mut answers);
 }
 
 pub(crate) fn cases() {
     refused();
     played();
-    records();
+    large();
 }
