@@ -1,5 +1,6 @@
 // What is written of games. Of a game handed back: its number of kept positions, the two counters, and how many of all 51
-// entries are blank; after a play also whether nothing at all differs from the game handed in, unused entries included.
+// entries are blank; after a play also the position standing, or, where nothing at all differs from the game handed in,
+// unused entries included, that it is as it came.
 use crate::show;
 use games::game::Begun;
 use games::game::Game;
@@ -110,9 +111,11 @@ pub(crate) fn played(came: Game, r: Played) {
     show::answer(told);
     game(g);
     if same(came, g) {
-        show::write(b", as it came");
+        show::write(b", as it came\n");
+    } else {
+        show::write(b", ");
+        show::placed(g.position());
     }
-    show::end();
 }
 
 fn termination(t: Termination) {
