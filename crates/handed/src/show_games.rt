@@ -1,0 +1,145 @@
+// What is written of games. Of a game handed back: its number of kept positions, the two counters, and how many of all 51
+// entries are blank; after a play also the position standing, or, where nothing at all differs from the game handed in,
+// unused entries included, that it is as it came.
+use crate::show;
+use games::game::Begun;
+use games::game::Game;
+use games::game::Judged;
+use games::game::Outcome;
+use games::game::Played;
+use games::game::Termination;
+use positions::position::Position;
+use squares::piece::Color;
+
+fn white(side: Color) -> bool {
+    match side {
+        Color::White => true,
+        Color::Black => false,
+    }
+}
+
+fn blank(p: Position) -> bool {
+    let side = p.side;
+    let sets = (p.white == 0) & ((p.black == 0) & (p.kings == 0));
+    sets & (white(side) & (p.hash == 0))
+}
+
+fn equal(p: Position, q: Position) -> bool {
+    p.same(q) & (p.hash == q.hash)
+}
+
+fn blanks(g: Game) -> u64 {
+    let mut n: u64 = 0;
+    let mut i: usize = 0;
+    while i < 51 {
+        n += show::one(blank(g.kept[i]));
+        i += 1;
+    }
+    n
+}
+
+// Whether all 51 entries are the same.
+fn same_entries(g: Game, h: Game) -> bool {
+    let mut i: usize = 0;
+    while i < 51 {
+        if equal(g.kept[i], h.kept[i]) {
+            i += 1;
+        } else {
+            return false;
+        }
+    }
+    true
+}
+
+fn same(g: Game, h: Game) -> bool {
+    let counters = (g.reversible == h.reversible) & (g.material == h.material);
+    same_entries(g, h) & (counters & (g.len == h.len))
+}
+
+fn game(g: Game) {
+    write_numbers(g.len, g.reversible, g.material);
+    show::write(b", ");
+    show::number(blanks(g));
+    show::write(b" blank");
+}
+
+fn write_numbers(len: usize, reversible: u32, material: u32) {
+    show::write(b", kept ");
+    show::number(len as u64);
+    show::write(b", counters ");
+    show::number(reversible as u64);
+    show::write(b" ");
+    show::number(material as u64);
+}
+
+fn answered(b: Begun) {
+    let told = b.answer;
+    let g = b.game;
+    show::answer(told);
+    game(g);
+}
+
+pub(crate) fn begun(b: Begun) {
+    answered(b);
+    show::end();
+}
+
+fn wide(code: u8) -> u64 {
+    code as u64
+}
+
+fn codes(answers: &[u8]) {
+    let mut i: usize = 0;
+    while i < answers.len() {
+        show::write(b" ");
+        show::number(wide(answers[i]));
+        i += 1;
+    }
+}
+
+// The lent answers as they are afterwards stand behind the game.
+pub(crate) fn begun_with(b: Begun, answers: &[u8]) {
+    answered(b);
+    show::write(b", answers");
+    codes(answers);
+    show::end();
+}
+
+pub(crate) fn played(came: Game, r: Played) {
+    let told = r.answer;
+    let g = r.game;
+    show::answer(told);
+    game(g);
+    if same(came, g) {
+        show::write(b", as it came\n");
+    } else {
+        show::write(b", ");
+        show::placed(g.position());
+    }
+}
+
+fn termination(t: Termination) {
+    match t {
+        Termination::NoMoves => show::write(b" no moves"),
+        Termination::Repetition => show::write(b" repetition"),
+        Termination::TwentyFiveMoves => show::write(b" 25 moves"),
+        Termination::SixteenMoves => show::write(b" 16 moves"),
+        Termination::FiveMoves => show::write(b" 5 moves"),
+    }
+}
+
+fn outcome(o: Outcome) {
+    let text = o.result();
+    let why = o.termination;
+    show::write(&text);
+    termination(why);
+}
+
+pub(crate) fn judged(j: Judged) {
+    match j {
+        Judged::Outcome(o) => outcome(o),
+        Judged::Going => show::write(b"going"),
+        Judged::Refused(e) => show::refusal(e),
+    }
+    show::end();
+}
