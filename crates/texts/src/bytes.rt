@@ -111,7 +111,7 @@ pub(crate) fn trim_end_matches(s: &[u8], c: u8) -> &[u8]
 }
 
 // Where the first c stands, or the length.
-pub(crate) fn find(s: &[u8], c: u8) -> usize
+pub fn find(s: &[u8], c: u8) -> usize
     ensures { λ r. ⌜ (r ≡ indexOf (is c) (now (s .entry))) × (r ≤ length (now (s .entry))) ⌝ }
 {
     let mut i = 0;
@@ -125,7 +125,7 @@ pub(crate) fn find(s: &[u8], c: u8) -> usize
 }
 
 // What stands before the first c: the whole where there is none.
-pub(crate) fn up_to(s: &[u8], c: u8) -> &[u8]
+pub fn up_to(s: &[u8], c: u8) -> &[u8]
     ensures { λ r. ⌜ now r ≡ upTo c (now (s .entry)) ⌝ }
 {
     let n = find(s, c);
@@ -140,14 +140,14 @@ pub(crate) fn behind(s: &[u8], c: u8) -> &[u8]
     if n < s.len() { &s[n + 1..] } else { s }
 }
 
-pub(crate) fn starts_with(s: &[u8], c: u8) -> bool
+pub fn starts_with(s: &[u8], c: u8) -> bool
     ensures { λ r. ⌜ r ≡ startsWith c (now (s .entry)) ⌝ }
 {
     if 0 < s.len() { s[0] == c } else { false }
 }
 
 // Without one c at the start.
-pub(crate) fn strip(s: &[u8], c: u8) -> &[u8]
+pub fn strip(s: &[u8], c: u8) -> &[u8]
     ensures { λ r. ⌜ now r ≡ strip c (now (s .entry)) ⌝ }
 {
     if 0 < s.len() {
