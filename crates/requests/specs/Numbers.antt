@@ -5,7 +5,7 @@ use mathlib.Core.List.{List, [], _∷_}
 use mathlib.Core.Bool.{Bool, true, false, cond, _&&_}
 use lib.Dec.{eqb, leb, ltb}
 use lib.IntN.{ℤ, pos, negℤ}
-use Rattle.texts.specs.Bytes.{startsWith, strip}
+use Rattle.texts.specs.Bytes.{strip}
 use Rattle.requests.specs.declared.numbers.Parsed.{Parsed}
 use Rattle.requests.specs.declared.numbers.Parsed.the-variants as parsed
 use Rattle.requests.specs.declared.numbers.Signed.{Signed}
@@ -55,6 +55,7 @@ negativeOf parsed.Bad = signed.Bad
 
 -- a signed number of 32 bits
 unfoldable pub signedOf : List ℕ → Signed
-signedOf s =
-    cond (startsWith (code "-") s) (negativeOf (numberIn 10 4294967295 (strip (code "-") s)))
-    (positiveOf (numberIn 10 4294967295 (strip (code "+") s)))
+signedOf [] = signed.Bad
+signedOf (b ∷ s) =
+    cond (eqb b (code "-")) (negativeOf (numberIn 10 4294967295 s))
+    (positiveOf (numberIn 10 4294967295 (strip (code "+") (b ∷ s))))

@@ -134,8 +134,11 @@ fn negative(n: Parsed) -> Signed
 pub(crate) fn read_signed(s: &[u8]) -> Signed
     ensures { λ r. ⌜ r ≡ signedOf (now (s .entry)) ⌝ }
 {
-    if bytes::starts_with(s, b'-') {
-        return negative(number(bytes::strip(s, b'-'), 10, 0xFFFF_FFFF));
+    if s.len() == 0 {
+        return Signed::Bad;
+    }
+    if s[0] == b'-' {
+        return negative(number(&s[1..], 10, 0xFFFF_FFFF));
     }
     positive(number(bytes::strip(s, b'+'), 10, 0xFFFF_FFFF))
 }

@@ -121,15 +121,14 @@ unfolding behind
 behind-none c s h = behind-out s c s h
 
 -- ---- the first byte
-pub first-is : (c : ℕ) (s : List ℕ) → 0 < length s → startsWith c s ≡ eqb (getD s 0 0) c
-unfolding startsWith
-first-is c [] h = absurd (omega arith)
-first-is c (b ∷ s) h = refl
-
-pub first-none : (c : ℕ) (s : List ℕ) → length s ≤ 0 → startsWith c s ≡ false
-unfolding startsWith
-first-none c [] h = refl
-first-none c (b ∷ s) h = absurd (omega arith)
+pub first-at : (c : ℕ) (s : List ℕ) → (length s ≡ 0 → ⊥) → eqb (indexOf (is c) s) 0 ≡ startsWith c s
+unfolding startsWith indexOf is
+first-at c [] h = absurd (h refl)
+first-at c (b ∷ s) h = go (eqb b c)
+  where
+    go : (t : Bool) → eqb (cond t 0 (suc (indexOf (is c) s))) 0 ≡ t
+    go true = refl
+    go false = ne-eqb (suc (indexOf (is c) s)) 0 (λ e. omega arith)
 
 pub strip-hit : (c : ℕ) (s : List ℕ) → 0 < length s → getD s 0 0 ≡ c → strip c s ≡ drop 1 s
 unfolding strip

@@ -103,7 +103,7 @@ hub-reads p s =
     rw (hub-readable b) (ap placing (hub-back b (s .accepted)) ∙ parts-back b (s .accepted) ∙ ap placed.Position (sym (sound-position p s)))
 
 -- ---- through lent space: n is the length that the writer told
-lent-front : (t out : List ℕ) (n : ℕ) → emitOf t out ≡ wrote.Length n → take n (emitted t out) ≡ t
+pub lent-front : (t out : List ℕ) (n : ℕ) → emitOf t out ≡ wrote.Length n → take n (emitted t out) ≡ t
 unfolding emitOf emitted
 lent-front t out n = go (leb (length t) (length out))
   where

@@ -26,7 +26,7 @@ use Rattle.texts.specs.Hub.{hubByteOf, hubFrom, hubParts}
 use Rattle.texts.specs.declared.parts.Parts.{Parts}
 use Rattle.texts.specs.declared.parts.Reading.{Reading}
 use Rattle.texts.specs.declared.parts.Reading.the-variants as reading
-use Rattle.texts.proofs.Cuts.{rest, split-step, parts-step, parts-none}
+use Rattle.texts.proofs.Cuts.{first-at, rest, split-step, parts-step, parts-none}
 use Rattle.texts.proofs.SquareTexts.{read-on-square}
 
 -- ---- a run of squares, one more at its end
@@ -105,10 +105,14 @@ unfolding itemOf
 item-none c p [] e = refl
 item-none c p (b ∷ s) e = absurd (omega arith)
 
-pub item-some : (c : Color) (p : Parts) (s u : List ℕ) (k : Bool) → (length s ≡ 0 → ⊥) → u ≡ strip 75 s → k ≡ startsWith 75 s → itemOf c p s ≡ rangeOf c k p u
+item-king : (c : Color) (p : Parts) (s u : List ℕ) (k : Bool) → (length s ≡ 0 → ⊥) → u ≡ strip 75 s → k ≡ startsWith 75 s → itemOf c p s ≡ rangeOf c k p u
 unfolding itemOf
-item-some c p [] u k h d e = absurd (h refl)
-item-some c p (b ∷ s) u k h d e = rw (e, d)
+item-king c p [] u k h d e = absurd (h refl)
+item-king c p (b ∷ s) u k h d e = rw (e, d)
+
+-- r is where the first K stands
+pub item-some : (c : Color) (p : Parts) (s u : List ℕ) (r : ℕ) → (length s ≡ 0 → ⊥) → u ≡ strip 75 s → r ≡ indexOf (is 75) s → itemOf c p s ≡ rangeOf c (eqb r 0) p u
+item-some c p s u r h d e = item-king c p s u (eqb r 0) h d (ap (λ (n : ℕ). eqb n 0) e ∙ first-at 75 s h)
 
 pub side-one : (s : List ℕ) → length s ≡ 1 → sideOf s ≡ fenColorOf (getD s 0 0)
 unfolding sideOf

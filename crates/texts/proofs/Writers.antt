@@ -1,12 +1,12 @@
--- A text that grows by value: room, what was put on, and the loops over squares.
+-- A text that grows by value: what was put on, and the loops over squares.
 use Prim.Native.Nat.{ℕ, suc, _+_, _-_, _≤_, _<_, _^_, _/_, _%_}
-use mathlib.Core.Path.{_≡_, refl, ap, sym, _∙_, subst}
+use mathlib.Core.Path.{_≡_, refl, ap, ap₂, sym, _∙_, subst}
 use mathlib.Core.List.{List, [], _∷_, _++_, map, append-assoc, append-nil}
 use mathlib.Core.Bool.{Bool, true, false, cond}
 use native.Mathlib.Omega.{arith}
 use native.Mathlib.Numerals.{add-one}
-use lib.ListN.{length, take, drop, getD, set, length-append}
-use lib.Seq.{drop-cons, take-suc, set-at, length-take-le, append-snoc, take-length}
+use lib.ListN.{length, take, drop, getD, set, length-set, length-replicate}
+use lib.Seq.{drop-cons, take-suc, take-suc-set, set-at, length-take-le, append-snoc, take-length}
 use lib.Bits.{bitAnd, and-comm, and-le-l}
 use borrow.Author.Tests.{lt-ltb, le-ltb}
 use Rattle.squares.specs.Sets.{members, lowest}
@@ -19,7 +19,7 @@ use Rattle.texts.specs.Bytes.{joined, digits}
 use Rattle.texts.specs.Fen.{itemText, listText, separator, fieldText, fenText}
 use Rattle.texts.specs.Hub.{squaresFrom, hubChar, hubText}
 use Rattle.texts.specs.declared.bytes.Text.{Text}
-use Rattle.texts.specs.Lent.{content, Whole, Room, Grew}
+use Rattle.texts.specs.Lent.{content, noTextOf, pushOf, put}
 
 -- one byte more of s over o
 pub write-step : (s o : List ℕ) (i : ℕ) → i < length s → length s ≤ length o
@@ -31,49 +31,72 @@ write-step s o i h l =
 pub write-done : (s o : List ℕ) (i : ℕ) → i ≡ length s → take i s ++ drop i o ≡ s ++ drop (length s) o
 write-done s o i e = rw (e, take-length)
 
--- a text's length is its content's
-pub len-is : {t : Text} → Whole t → length (content t) ≡ t .len
+-- ---- a text that grows by value
+
+-- bytes put on in two steps
+pub put-two : (t : Text) (xs ys : List ℕ) → put (put t xs) ys ≡ put t (xs ++ ys)
+unfolding put
+put-two t [] ys = refl
+put-two t (b ∷ xs) ys = put-two (pushOf t b) xs ys
+
+pub put-one : (t : Text) (b : ℕ) → pushOf t b ≡ put t (b ∷ [])
+unfolding put
+put-one t b = refl
+
+pub put-none : (t : Text) → t ≡ put t []
+unfolding put
+put-none t = refl
+
+-- put on a text that has the room
+record Room (t : Text) (xs : List ℕ) : Type 0 where
+  size : length (t .bytes) ≡ 200
+  room : t .len + length xs ≤ 200
+
+push-is : (t : Text) (b : ℕ) → t .len < 200 → pushOf t b ≡ record { bytes = set (t .bytes) (t .len) b; len = t .len + 1 }
+unfolding pushOf
+push-is t b h = rw (lt-ltb (t .len) 200 h)
+
+push-room : (t : Text) (b : ℕ) (xs : List ℕ) → Room t (b ∷ xs) → Room (pushOf t b) xs
+push-room t b xs o =
+    rw (push-is t b (omega (arith, o .room)))
+    (record { size = length-set (t .bytes) (t .len) b ∙ o .size; room = omega (arith, o .room) })
+
+push-content : (t : Text) (b : ℕ) (xs : List ℕ) → Room t (b ∷ xs) → content (pushOf t b) ≡ content t ++ (b ∷ [])
 unfolding content
-len-is {t} w = length-take-le (t .len) (t .bytes) (omega (arith, w .size, w .fits))
+push-content t b xs o =
+    ap (λ (u : Text). take (u .len) (u .bytes)) (push-is t b (omega (arith, o .room)))
+    ∙ rw add-one (take-suc-set (t .bytes) (t .len) b (omega (arith, o .room, o .size)))
 
-pub grown-len : {t r : Text} {xs : List ℕ} → Whole t → Grew t r xs → r .len ≡ t .len + length xs
-grown-len {t} {r} {xs} w g = sym (len-is (g .whole)) ∙ ap length (g .text) ∙ length-append (content t) xs ∙ ap (λ (n : ℕ). n + length xs) (len-is w)
+put-content : (t : Text) (xs : List ℕ) → Room t xs → content (put t xs) ≡ content t ++ xs
+unfolding put
+put-content t [] o = sym (append-nil (content t))
+put-content t (b ∷ xs) o =
+    put-content (pushOf t b) xs (push-room t b xs o) ∙ ap (λ (s : List ℕ). s ++ xs) (push-content t b xs o) ∙ append-assoc (content t) (b ∷ []) xs
 
--- the room that is left after xs
-pub room-left : {t r : Text} {xs : List ℕ} (ys : List ℕ) → Room t (xs ++ ys) → Grew t r xs → Room r ys
-room-left {t} {r} {xs} ys o g =
-    record { whole = g .whole; room = omega (arith, o .room, length-append xs ys, grown-len (o .whole) g) }
+put-room : (t : Text) (xs : List ℕ) → Room t xs → Room (put t xs) []
+unfolding put
+put-room t [] o = o
+put-room t (b ∷ xs) o = put-room (pushOf t b) xs (push-room t b xs o)
 
-pub room-first : {t : Text} (xs ys : List ℕ) → Room t (xs ++ ys) → Room t xs
-room-first {t} xs ys o = record { whole = o .whole; room = omega (arith, o .room, length-append xs ys) }
+room-all : (s : List ℕ) → length s ≤ 200 → Room noTextOf s
+unfolding noTextOf
+room-all s h = record { size = length-replicate {A = ℕ} 200 0; room = omega arith }
 
--- text put on in two steps
-pub grew-two : {t u r : Text} {xs ys : List ℕ} → Grew t u xs → Grew u r ys → Grew t r (xs ++ ys)
-grew-two {t} {u} {r} {xs} {ys} a b =
-    record { text = b .text ∙ ap (λ (x : List ℕ). x ++ ys) (a .text) ∙ append-assoc (content t) xs ys; whole = b .whole }
+no-content : (s : List ℕ) → content noTextOf ++ s ≡ s
+unfolding noTextOf content
+no-content s = refl
 
-pub grew-none : {t : Text} → Whole t → Grew t t []
-grew-none {t} w = record { text = sym (append-nil (content t)); whole = w }
+-- what a writer has to know of the text that it built of s
+pub record Filled (t : Text) (s : List ℕ) : Type 0 where
+  pub text : content t ≡ s
+  pub fits : t .len ≤ 200
+  pub size : length (t .bytes) ≡ 200
 
--- ---- the same text in other words
-pub room-as : {t : Text} {xs ys : List ℕ} → xs ≡ ys → Room t xs → Room t ys
-room-as {t} e o = subst (λ (x : List ℕ). Room t x) e o
-
-pub grew-as : {t r : Text} {xs ys : List ℕ} → xs ≡ ys → Grew t r xs → Grew t r ys
-grew-as {t} {r} e g = subst (λ (x : List ℕ). Grew t r x) e g
-
-pub one-byte : {t r : Text} {x y : ℕ} → x ≡ y → Grew t r (x ∷ []) → Grew t r (y ∷ [])
-one-byte e g = grew-as (ap (λ (z : ℕ). z ∷ []) e) g
-
-pub room-empty : {t : Text} (xs : List ℕ) → content t ≡ [] → Whole t → length xs ≤ 200 → Room t xs
-room-empty {t} xs e w h = record { whole = w; room = omega (arith, len-is w, ap length e) }
-
-pub room-same : {t u : Text} {xs ys : List ℕ} → Whole t → Room u ys → content t ++ xs ≡ content u ++ ys → Room t xs
-room-same {t} {u} {xs} {ys} w o e =
-    record { whole = w; room = omega (arith, o .room, sym (length-append (content t) xs) ∙ ap length e ∙ length-append (content u) ys, len-is w, len-is (o .whole)) }
-
-pub grew-then : {t r : Text} {xs : List ℕ} (ys z : List ℕ) → Grew t r xs → content t ++ (xs ++ ys) ≡ z → content r ++ ys ≡ z
-grew-then {t} {r} {xs} ys z g e = ap (λ (x : List ℕ). x ++ ys) (g .text) ∙ append-assoc (content t) xs ys ∙ e
+pub filled : {t : Text} (s : List ℕ) → length s ≤ 200 → t ≡ put noTextOf s → Filled t s
+filled {t} s h e =
+    let o = room-all s h in
+    subst (λ (u : Text). Filled u s) (sym e)
+    (record { text = put-content noTextOf s o ∙ no-content s; fits = omega (arith, put-room noTextOf s o .room); size = put-room noTextOf s o .size })
 
 pub cleared : (m : ℕ) → 0 < m → bitAnd m (m - 1) < m
 cleared m p = omega (arith, subst (λ (u : ℕ). u ≤ m - 1) (and-comm (m - 1) m) (and-le-l (m - 1) m))
@@ -87,21 +110,28 @@ pub digits-large : (n : ℕ) → 10 ≤ n → digits n ≡ ((48 + n / 10) ∷ []
 unfolding digits
 digits-large n h = rw (le-ltb n 10 h)
 
-pub item-king : (kings n : ℕ) (k : Bool) → k ≡ containsOf kings n → k ≡ true → itemText kings n ≡ (75 ∷ []) ++ digits n
+pub put-small : (t : Text) (n : ℕ) → n < 10 → pushOf t (48 + n) ≡ put t (digits n)
+put-small t n h = put-one t (48 + n) ∙ ap (put t) (sym (digits-small n h))
+
+pub put-large : (t : Text) (n : ℕ) → 10 ≤ n → pushOf (pushOf t (48 + n / 10)) (48 + n % 10) ≡ put t (digits n)
+unfolding put
+put-large t n h = ap (put t) (sym (digits-large n h))
+
+pub put-king : (t : Text) (kings n : ℕ) (k : Bool) → k ≡ containsOf kings n → k ≡ true → put (pushOf t 75) (digits n) ≡ put t (itemText kings n)
+unfolding itemText put
+put-king t kings n k q e = rw (← q, e)
+
+pub put-man : (t : Text) (kings n : ℕ) (k : Bool) → k ≡ containsOf kings n → k ≡ false → put t (digits n) ≡ put t (itemText kings n)
 unfolding itemText
-item-king kings n k q e = rw (← q, e)
+put-man t kings n k q e = rw (← q, e)
 
-pub item-man : (kings n : ℕ) (k : Bool) → k ≡ containsOf kings n → k ≡ false → itemText kings n ≡ digits n
-unfolding itemText
-item-man kings n k q e = rw (← q, e)
+pub put-first : (t : Text) (f : Bool) → f ≡ true → t ≡ put t (separator f)
+unfolding separator put
+put-first t f e = rw e
 
-pub first-none : (f : Bool) → f ≡ true → separator f ≡ []
-unfolding separator
-first-none f e = rw e
-
-pub later-comma : (f : Bool) → f ≡ false → separator f ≡ 44 ∷ []
-unfolding separator
-later-comma f e = rw e
+pub put-later : (t : Text) (f : Bool) → f ≡ false → pushOf t 44 ≡ put t (separator f)
+unfolding separator put
+put-later t f e = rw e
 
 pub square-lt : (i : ℕ) → squareAtBit i < 100
 unfolding squareAtBit
@@ -141,38 +171,50 @@ pub remaining-end : (kings : ℕ) (first : Bool) (s : ℕ) → s ≡ 0 → remai
 unfolding remaining
 remaining-end kings first s e = ap (λ (x : ℕ). remaining kings first (members x)) e ∙ ap (remaining kings first) members-none
 
--- the room of the loop's turn
-pub loop-room : {t u : Text} (kings set s n : ℕ) (first : Bool) → Whole t → Room u (listText kings set)
-    → content t ++ remaining kings first (members s) ≡ content u ++ listText kings set → 0 < s → s < 2 ^ 64 → n ≡ squareAtBit (lowest s)
-    → Room t (separator first ++ itemText kings n)
-loop-room {t} {u} kings set s n first w o e p h q =
-    room-first (separator first ++ itemText kings n) (remaining kings false (members (bitAnd s (s - 1)))) (room-as (remaining-next kings first s n p h q) (room-same {t = t} {u = u} w o e))
+-- one turn of the loop
+pub list-turn : (t u v : Text) (kings : ℕ) (first : Bool) (s n : ℕ) → 0 < s → s < 2 ^ 64 → n ≡ squareAtBit (lowest s)
+    → u ≡ put t (separator first) → v ≡ put u (itemText kings n)
+    → put v (remaining kings false (members (bitAnd s (s - 1)))) ≡ put t (remaining kings first (members s))
+list-turn t u v kings first s n p h q e f =
+    let r = remaining kings false (members (bitAnd s (s - 1))) in
+    ap (λ (x : Text). put x r) (f ∙ ap (λ (x : Text). put x (itemText kings n)) e ∙ put-two t (separator first) (itemText kings n))
+    ∙ put-two t (separator first ++ itemText kings n) r
+    ∙ ap (put t) (sym (remaining-next kings first s n p h q))
+
+pub list-done : (t : Text) (kings : ℕ) (first : Bool) (s : ℕ) → s ≡ 0 → t ≡ put t (remaining kings first (members s))
+list-done t kings first s e = put-none t ∙ ap (put t) (sym (remaining-end kings first s e))
 
 -- ---- the whole text
-pub fen-parts : (b : Board) → fenText b ≡ ((colorChar (b .side) ∷ []) ++ fieldText 87 (b .kings) (b .white)) ++ fieldText 66 (b .kings) (b .black)
+pub put-field : (t u v r : Text) (letter kings s : ℕ) → u ≡ pushOf t 58 → v ≡ pushOf u letter → r ≡ put v (listText kings s) → r ≡ put t (fieldText letter kings s)
+unfolding fieldText put
+put-field t u v r letter kings s a b c = c ∙ ap (λ (x : Text). put x (listText kings s)) (b ∙ ap (λ (x : Text). pushOf x letter) a)
+
+fen-parts : (b : Board) → ((colorChar (b .side) ∷ []) ++ fieldText 87 (b .kings) (b .white)) ++ fieldText 66 (b .kings) (b .black) ≡ fenText b
 unfolding fenText joined fieldText
 fen-parts b = refl
 
-pub field-parts : (letter kings s : ℕ) → fieldText letter kings s ≡ ((58 ∷ []) ++ (letter ∷ [])) ++ listText kings s
-unfolding fieldText
-field-parts letter kings s = refl
-
-pub fen-room : {e : Text} (b : Board) → content e ≡ [] → Whole e → length (fenText b) ≤ 200
-    → Room e (((colorChar (b .side) ∷ []) ++ fieldText 87 (b .kings) (b .white)) ++ fieldText 66 (b .kings) (b .black))
-fen-room {e} b n w h = room-as (fen-parts b) (room-empty (fenText b) n w h)
+pub put-fen : (e t u r : Text) (b : Board) (x : ℕ) → e ≡ noTextOf → x ≡ colorChar (b .side) → t ≡ pushOf e x → u ≡ put t (fieldText 87 (b .kings) (b .white))
+    → r ≡ put u (fieldText 66 (b .kings) (b .black)) → r ≡ put noTextOf (fenText b)
+put-fen e t u r b x n q a c d =
+    d ∙ ap (λ (y : Text). put y (fieldText 66 (b .kings) (b .black)))
+    (c ∙ ap (λ (y : Text). put y (fieldText 87 (b .kings) (b .white))) (a ∙ ap₂ pushOf n q ∙ put-one noTextOf (colorChar (b .side)))
+    ∙ put-two noTextOf (colorChar (b .side) ∷ []) (fieldText 87 (b .kings) (b .white)))
+    ∙ put-two noTextOf ((colorChar (b .side) ∷ []) ++ fieldText 87 (b .kings) (b .white)) (fieldText 66 (b .kings) (b .black))
+    ∙ ap (put noTextOf) (fen-parts b)
 
 -- ---- Hub, square by square
-pub hub-next : (b : Board) (n : ℕ) → n ≤ 50 → map (hubChar b) (squaresFrom (51 - n) n) ≡ (hubChar b n ∷ []) ++ map (hubChar b) (squaresFrom (51 - (n + 1)) (n + 1))
-unfolding squaresFrom
-hub-next b n h = let q : 51 - n ≡ suc (51 - (n + 1)) = omega arith in rw q
+pub hub-start : (e t : Text) (b : Board) (x : ℕ) → e ≡ noTextOf → x ≡ colorChar (b .side) → t ≡ pushOf e x
+    → put t (map (hubChar b) (squaresFrom 50 1)) ≡ put noTextOf (hubText b)
+unfolding hubText put
+hub-start e t b x n q a = ap (λ (y : Text). put y (map (hubChar b) (squaresFrom 50 1))) (a ∙ ap₂ pushOf n q)
 
-pub hub-none : (b : Board) (n : ℕ) → n ≡ 51 → map (hubChar b) (squaresFrom (51 - n) n) ≡ []
-unfolding squaresFrom
-hub-none b n e = rw e
+pub hub-turn : (t u : Text) (b : Board) (n x : ℕ) → n ≤ 50 → x ≡ hubChar b n → u ≡ pushOf t x
+    → put u (map (hubChar b) (squaresFrom (51 - (n + 1)) (n + 1))) ≡ put t (map (hubChar b) (squaresFrom (51 - n) n))
+unfolding squaresFrom put
+hub-turn t u b n x h q a =
+    let k : 51 - n ≡ suc (51 - (n + 1)) = omega arith in
+    rw k (ap (λ (y : Text). put y (map (hubChar b) (squaresFrom (51 - (n + 1)) (n + 1)))) (a ∙ ap (pushOf t) q))
 
-pub hub-begun : {e t : Text} (b : Board) (x : ℕ) → x ≡ colorChar (b .side) → content e ≡ [] → Grew e t (x ∷ [])
-    → content t ++ map (hubChar b) (squaresFrom 50 1) ≡ hubText b
-unfolding hubText
-hub-begun {e} {t} b x q n g =
-    ap (λ (y : List ℕ). y ++ map (hubChar b) (squaresFrom 50 1)) (g .text ∙ ap (λ (y : List ℕ). y ++ (x ∷ [])) n)
-    ∙ ap (λ (y : ℕ). y ∷ map (hubChar b) (squaresFrom 50 1)) q
+pub hub-done : (t : Text) (b : Board) (n : ℕ) → n ≡ 51 → t ≡ put t (map (hubChar b) (squaresFrom (51 - n) n))
+unfolding squaresFrom put
+hub-done t b n e = rw e

@@ -1,10 +1,9 @@
 -- Writing into lent space (document 01: bytes after a written text stay; refused, every byte stays).
-use mathlib.Core.Path.{_≡_}
-use Prim.Native.Nat.{ℕ, _+_, _≤_}
+use Prim.Native.Nat.{ℕ, _+_}
 use mathlib.Core.List.{List, [], _∷_, _++_}
 use mathlib.Core.Bool.{cond}
-use lib.ListN.{length, take, drop}
-use lib.Dec.{leb}
+use lib.ListN.{length, take, drop, set, replicate}
+use lib.Dec.{leb, ltb}
 use Rattle.squares.specs.declared.refusal.Refusal.the-variants.{SpaceTooShort}
 use Rattle.texts.specs.declared.bytes.Text.{Text}
 use Rattle.texts.specs.declared.bytes.Wrote.{Wrote}
@@ -18,20 +17,18 @@ emitOf t out = cond (leb (length t) (length out)) (wrote.Length (length t)) (wro
 unfoldable pub emitted : List ℕ → List ℕ → List ℕ
 emitted t out = cond (leb (length t) (length out)) (t ++ drop (length t) out) out
 
--- ---- a text that the code builds by value
+-- ---- a text that the code builds by value: 200 bytes, of which the first count
 unfoldable pub content : Text → List ℕ
 content t = take (t .len) (t .bytes)
 
-pub record Whole (t : Text) : Type 0 where
-  pub size : length (t .bytes) ≡ 200
-  pub fits : t .len ≤ 200
+unfoldable pub noTextOf : Text
+noTextOf = record { bytes = replicate 200 0; len = 0 }
 
--- t has room for xs
-pub record Room (t : Text) (xs : List ℕ) : Type 0 where
-  pub whole : Whole t
-  pub room : t .len + length xs ≤ 200
+-- t with b behind it; a full text stays as it is
+unfoldable pub pushOf : Text → ℕ → Text
+pushOf t b = cond (ltb (t .len) 200) (record { bytes = set (t .bytes) (t .len) b; len = t .len + 1 }) t
 
--- r is t with xs after it
-pub record Grew (t r : Text) (xs : List ℕ) : Type 0 where
-  pub text : content r ≡ content t ++ xs
-  pub whole : Whole r
+-- t with the bytes of s behind it, as far as there is room
+unfoldable pub put : Text → List ℕ → Text
+put t [] = t
+put t (b ∷ s) = put (pushOf t b) s

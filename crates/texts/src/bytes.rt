@@ -1,11 +1,10 @@
 // Bytes of texts: trimming, cutting, and writing into lent space.
 use squares::refusal::Refusal;
 ghost use mathlib.Core.Path.{_≡_};
-ghost use mathlib.Core.List.{_∷_, []};
-ghost use Prim.Native.Nat.{_≤_, _<_};
+ghost use Prim.Native.Nat.{_≤_};
 ghost use lib.ListN.{length};
-ghost use Rattle.texts.specs.Bytes.{ascii, readable, blank, is, trimStart, trimEnd, trim, upTo, behind, startsWith, strip, digits, cuts, indexOf};
-ghost use Rattle.texts.specs.Lent.{emitOf, emitted, content, Whole, Room, Grew};
+ghost use Rattle.texts.specs.Bytes.{ascii, readable, blank, is, trimStart, trimEnd, trim, upTo, behind, strip, digits, cuts, indexOf};
+ghost use Rattle.texts.specs.Lent.{emitOf, emitted, noTextOf, pushOf, put};
 
 // The length of a written text, or the refusal.
 pub enum Wrote {
@@ -33,7 +32,7 @@ fn is_ascii(s: &[u8]) -> bool
 }
 
 // What refusal 1 asks of a text.
-pub(crate) fn is_readable(s: &[u8]) -> bool
+pub fn is_readable(s: &[u8]) -> bool
     ensures { λ r. ⌜ r ≡ readable (now (s .entry)) ⌝ }
 {
     if s.len() <= 4096 { is_ascii(s) } else { false }
@@ -85,19 +84,13 @@ fn cut_end(s: &[u8], blanks: bool, c: u8) -> &[u8]
 }
 
 // Without blanks at both ends.
-pub(crate) fn trim(s: &[u8]) -> &[u8]
+pub fn trim(s: &[u8]) -> &[u8]
     ensures { λ r. ⌜ now r ≡ trim blank (now (s .entry)) ⌝ }
 {
     cut_end(cut_start(s, true, 0), true, 0)
 }
 
-// Without every c at both ends, at the start, at the end.
-pub(crate) fn trim_matches(s: &[u8], c: u8) -> &[u8]
-    ensures { λ r. ⌜ now r ≡ trim (is c) (now (s .entry)) ⌝ }
-{
-    cut_end(cut_start(s, false, c), false, c)
-}
-
+// Without every c at the start, at the end.
 pub(crate) fn trim_start_matches(s: &[u8], c: u8) -> &[u8]
     ensures { λ r. ⌜ now r ≡ trimStart (is c) (now (s .entry)) ⌝ }
 {
@@ -140,12 +133,6 @@ pub(crate) fn behind(s: &[u8], c: u8) -> &[u8]
     if n < s.len() { &s[n + 1..] } else { s }
 }
 
-pub fn starts_with(s: &[u8], c: u8) -> bool
-    ensures { λ r. ⌜ r ≡ startsWith c (now (s .entry)) ⌝ }
-{
-    if 0 < s.len() { s[0] == c } else { false }
-}
-
 // Without one c at the start.
 pub fn strip(s: &[u8], c: u8) -> &[u8]
     ensures { λ r. ⌜ now r ≡ strip c (now (s .entry)) ⌝ }
@@ -159,7 +146,7 @@ pub fn strip(s: &[u8], c: u8) -> &[u8]
 }
 
 // The text s at the start of out, where it fits: the bytes after it stay. Where it does not, 19, and every byte stays.
-pub(crate) fn emit(s: &[u8], out: &mut [u8]) -> Wrote
+pub fn emit(s: &[u8], out: &mut [u8]) -> Wrote
     ensures { λ r. ⌜ r ≡ emitOf (now (s .entry)) (now (out .entry)) ⌝ }
     ensures { λ r. ⌜ now (out .exit) ≡ emitted (now (s .entry)) (now (out .entry)) ⌝ }
 {
@@ -174,8 +161,8 @@ pub(crate) fn emit(s: &[u8], out: &mut [u8]) -> Wrote
     Wrote::Length(i)
 }
 
-pub(crate) fn no_text() -> Text
-    ensures { λ r. ⌜ (content r ≡ []) × Whole r ⌝ }
+pub fn no_text() -> Text
+    ensures { λ r. ⌜ r ≡ noTextOf ⌝ }
 {
     Text {
         bytes: [0u8; 200],
@@ -183,20 +170,21 @@ pub(crate) fn no_text() -> Text
     }
 }
 
-pub(crate) fn push(mut t: Text, b: u8) -> Text
-    requires { ⌜ Room t (b ∷ []) ⌝ }
-    ensures { λ r. ⌜ Grew t r (b ∷ []) ⌝ }
+// One byte more, where there is room. A full text stays as it is.
+pub fn push(mut t: Text, b: u8) -> Text
+    ensures { λ r. ⌜ r ≡ pushOf t b ⌝ }
 {
     let at = t.len;
-    t.bytes[at] = b;
-    t.len = at + 1;
+    if at < 200 {
+        t.bytes[at] = b;
+        t.len = at + 1;
+    }
     t
 }
 
-// A number below 100 in decimal.
-pub(crate) fn push_number(t: Text, n: u8) -> Text
-    requires { ⌜ Room t (digits n) × (n < 100) ⌝ }
-    ensures { λ r. ⌜ Grew t r (digits n) ⌝ }
+// A number below 100 in decimal, as far as there is room.
+pub fn push_number(t: Text, n: u8) -> Text
+    ensures { λ r. ⌜ r ≡ put t (digits n) ⌝ }
 {
     if n < 10 {
         push(t, b'0' + n)

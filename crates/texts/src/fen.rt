@@ -22,7 +22,7 @@ ghost use Rattle.squares.specs.Squares.{run};
 ghost use Rattle.positions.specs.Boards.{boardOf};
 ghost use Rattle.texts.specs.Bytes.{splitOn, partsFrom};
 ghost use Rattle.texts.specs.Parts.{OnSquare};
-ghost use Rattle.texts.specs.Lent.{content, Whole, Room, Grew};
+ghost use Rattle.texts.specs.Lent.{noTextOf, put};
 ghost use Rattle.texts.specs.Fen.{atComma, atColon, fenColorOf, endOf, endsOf, rangeOf, itemOf, itemsOf, fieldOf, fieldsOf, sideOf, body, fenParts, fromFenOf, itemText, listText, separator, fieldText, fenText, fenOf, fenLent};
 
 // The letter of a colour: W, w, B or b.
@@ -83,14 +83,15 @@ fn range_of(s: &[u8], color: Color, king: bool, p: Parts) -> Reading
     ends(p, color, king, from, to)
 }
 
-// A trimmed item.
+// A trimmed item. One leading K makes it a king; a later one, as that of a range's end, does not.
 fn item(s: &[u8], color: Color, p: Parts) -> Reading
     ensures { λ r. ⌜ r ≡ itemOf color p (now (s .entry)) ⌝ }
 {
     if s.len() == 0 {
         return Reading::Parts(p);
     }
-    range_of(bytes::strip(s, b'K'), color, bytes::starts_with(s, b'K'), p)
+    let king = bytes::find(s, b'K') == 0;
+    range_of(bytes::strip(s, b'K'), color, king, p)
 }
 
 // The items of a field behind its colour, split at commas.
@@ -162,10 +163,13 @@ fn side(s: &[u8]) -> Sided
     }
 }
 
+// Without blanks at both ends, then quotes at both ends, then dots at the end.
 fn body(s: &[u8]) -> &[u8]
     ensures { λ r. ⌜ now r ≡ body (now (s .entry)) ⌝ }
 {
-    bytes::trim_end_matches(bytes::trim_matches(bytes::trim(s), b'"'), b'.')
+    let inside = bytes::trim_start_matches(bytes::trim(s), b'"');
+    let unquoted = bytes::trim_end_matches(inside, b'"');
+    bytes::trim_end_matches(unquoted, b'.')
 }
 
 fn fen_parts(s: &[u8]) -> Reading
@@ -192,8 +196,8 @@ pub fn from_fen(text: &[u8]) -> Placed
 
 // The number of a square, K before a king.
 fn put_item(t: Text, kings: Bitboard, n: Square) -> Text
-    requires { ⌜ Room t (itemText kings n) × (n < 100) ⌝ }
-    ensures { λ r. ⌜ Grew t r (itemText kings n) ⌝ }
+    requires { ⌜ n < 100 ⌝ }
+    ensures { λ r. ⌜ r ≡ put t (itemText kings n) ⌝ }
 {
     let number = n as u8;
     if bitboard::contains(kings, n) {
@@ -205,16 +209,14 @@ fn put_item(t: Text, kings: Bitboard, n: Square) -> Text
 }
 
 fn put_separator(t: Text, first: bool) -> Text
-    requires { ⌜ Room t (separator first) ⌝ }
-    ensures { λ r. ⌜ Grew t r (separator first) ⌝ }
+    ensures { λ r. ⌜ r ≡ put t (separator first) ⌝ }
 {
     if first { t } else { bytes::push(t, b',') }
 }
 
 // The squares of a set, rising.
 fn put_list(start: Text, kings: Bitboard, set: Bitboard) -> Text
-    requires { ⌜ Room start (listText kings set) ⌝ }
-    ensures { λ r. ⌜ Grew start r (listText kings set) ⌝ }
+    ensures { λ r. ⌜ r ≡ put start (listText kings set) ⌝ }
 {
     let mut t = start;
     let mut first = true;
@@ -230,8 +232,7 @@ fn put_list(start: Text, kings: Bitboard, set: Bitboard) -> Text
 }
 
 fn put_field(t: Text, letter: u8, kings: Bitboard, set: Bitboard) -> Text
-    requires { ⌜ Room t (fieldText letter kings set) ⌝ }
-    ensures { λ r. ⌜ Grew t r (fieldText letter kings set) ⌝ }
+    ensures { λ r. ⌜ r ≡ put t (fieldText letter kings set) ⌝ }
 {
     let u = bytes::push(t, b':');
     let v = bytes::push(u, letter);
@@ -239,8 +240,7 @@ fn put_field(t: Text, letter: u8, kings: Bitboard, set: Bitboard) -> Text
 }
 
 fn fen_text(p: Position) -> Text
-    requires { ⌜ length (fenText (boardOf p)) ≤ 200 ⌝ }
-    ensures { λ r. ⌜ (content r ≡ fenText (boardOf p)) × Whole r ⌝ }
+    ensures { λ r. ⌜ r ≡ put noTextOf (fenText (boardOf p)) ⌝ }
 {
     let side = p.side;
     let t = bytes::push(bytes::no_text(), side.to_char());

@@ -21,7 +21,7 @@ ghost use Prim.Native.Nat.{_≤_, _<_};
 ghost use lib.ListN.{length, drop};
 ghost use Rattle.positions.specs.Boards.{boardOf};
 ghost use Rattle.texts.specs.Parts.{begun};
-ghost use Rattle.texts.specs.Lent.{content, Whole};
+ghost use Rattle.texts.specs.Lent.{noTextOf, put};
 ghost use Rattle.texts.specs.Hub.{isKing, hubByteOf, hubFrom, hubParts, fromHubOf, hubChar, hubText, hubOf, hubLent};
 
 fn is_king(kind: PieceKind) -> bool
@@ -114,7 +114,7 @@ fn hub_char(p: Position, square: Square) -> u8
 }
 
 fn hub_text(p: Position) -> Text
-    ensures { λ r. ⌜ (content r ≡ hubText (boardOf p)) × Whole r ⌝ }
+    ensures { λ r. ⌜ r ≡ put noTextOf (hubText (boardOf p)) ⌝ }
 {
     let side = p.side;
     let mut t = bytes::push(bytes::no_text(), side.to_char());

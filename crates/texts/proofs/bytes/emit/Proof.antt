@@ -21,7 +21,9 @@ abbrev μ-loop : tie.MeasureT-loop
 
 returns : tie.Need-returns Inv-loop μ-loop
 unfolding emitOf emitted
-returns c = (simp (lt-leb _ _ (c .if1 .taken)), simp (lt-leb _ _ (c .if1 .taken)))
+returns c =
+    let h = lt-leb (length (now (c .before .args .s))) (length (now (c .before .args .out))) (omega arith) in
+    (simp h, simp h)
 
 loop-holds : tie.Need-loop-holds Inv-loop μ-loop
 loop-holds c = (search needs, search needs, refl, refl)

@@ -1,11 +1,8 @@
--- The byte stands behind the content.
+-- Where there is room the store is the definition's; a full text stays.
 use Prim.Native.Nat.{_-_}
-use lib.ListN.{length-set}
-use Rattle.texts.specs.Lent.{content}
-use native.Mathlib.Numerals.{add-one}
-use lib.Seq.{take-suc-set}
 use borrow.Author.Needs.{needs}
-use native.Mathlib.Omega.{arith}
+use borrow.Author.Tests.{le-ltb, lt-ltb}
+use Rattle.texts.specs.Lent.{pushOf}
 use Rattle.texts.proofs.bytes.push.Statement.{statement}
 use Rattle.texts.proofs.bytes.push.Tie as tie
 
@@ -16,10 +13,12 @@ add-t : tie.Need-add-t
 add-t c = search needs
 
 returns : tie.Need-returns
-unfolding content
-returns c =
-    let t = c .args .t1 in
-    record { text = rw add-one (take-suc-set (t .bytes) (t .len) (c .args .b) (omega arith)); whole = record { size = simp length-set (c .pre .whole .size); fits = omega arith } }
+unfolding pushOf
+returns c = simp (lt-ltb _ _ (c .if1 .taken))
+
+returns-2 : tie.Need-returns-2
+unfolding pushOf
+returns-2 c = simp (le-ltb _ _ (c .if1 .left))
 
 pub push-spec : {M : Type 1} → statement M
-push-spec = tie.close (tie.spec element-write-t add-t returns)
+push-spec = tie.close (tie.spec element-write-t add-t returns returns-2)

@@ -1,7 +1,9 @@
 -- One digit or two.
-use mathlib.Core.Path.{sym}
-use Prim.Native.Nat.{_-_}
+use mathlib.Core.Path.{ap, _∙_}
+use Prim.Native.Nat.{_-_, _+_, _%_}
 use Rattle.texts.proofs.Writers as laws
+use Rattle.texts.specs.Lent.{pushOf}
+use Rattle.texts.specs.declared.bytes.Text.{Text}
 use borrow.Author.Needs.{needs}
 use Rattle.texts.proofs.bytes.push_number.Statement.{statement}
 use Rattle.texts.proofs.bytes.push_number.Tie as tie
@@ -10,25 +12,27 @@ add-push : tie.Need-add-push
 add-push c = search needs
 
 push-requires : tie.Need-push-requires
-push-requires c κs = laws.room-as (laws.digits-small (c .before .args .n) (c .if1 .taken)) (c .before .pre .0)
+push-requires c κs = search needs
 
 add-push-2 : tie.Need-add-push-2
 add-push-2 c = search needs
 
 push-requires-2 : tie.Need-push-requires-2
-push-requires-2 c κs = laws.room-first _ _ (laws.room-as (laws.digits-large (c .before .args .n) (c .if1 .left)) (c .before .pre .0))
+push-requires-2 c κs = search needs
 
 add-push-3 : tie.Need-add-push-3
 add-push-3 c = search needs
 
 push-requires-3 : tie.Need-push-requires-3
-push-requires-3 c κs = laws.room-left _ (laws.room-as (laws.digits-large (c .before .before .args .n) (c .before .if1 .left)) (c .before .before .pre .0)) (c .push2 .ensures)
+push-requires-3 c κs = search needs
 
 returns : tie.Need-returns
-returns c = laws.grew-as (sym (laws.digits-small (c .before .before .args .n) (c .before .if1 .taken))) (c .push .ensures)
+returns c = let a = c .before .before .args in c .push .ensures ∙ laws.put-small (a .t) (a .n) (c .before .if1 .taken)
 
 returns-2 : tie.Need-returns-2
-returns-2 c = laws.grew-as (sym (laws.digits-large (c .before .before .before .args .n) (c .before .before .if1 .left))) (laws.grew-two (c .before .push2 .ensures) (c .push3 .ensures))
+returns-2 c =
+    let a = c .before .before .before .args in
+    c .push3 .ensures ∙ ap (λ (x : Text). pushOf x (48 + a .n % 10)) (c .before .push2 .ensures) ∙ laws.put-large (a .t) (a .n) (c .before .before .if1 .left)
 
 pub push-number-spec : {M : Type 1} → statement M
 push-number-spec =

@@ -2,10 +2,13 @@
 use mathlib.Core.Path.{ap, sym, _∙_}
 use mathlib.Core.List.{List}
 use Prim.Native.Nat.{ℕ, _-_}
-use lib.Seq.{length-take-le}
+use lib.ListN.{length-take}
 use denote.Ref.{now}
 use Rattle.texts.specs.Lent.{emitOf, emitted, content}
-use Rattle.texts.specs.Hub.{hubOf, hubLent}
+use Rattle.texts.specs.Hub.{hubText, hubOf, hubLent}
+use Rattle.positions.specs.Boards.{boardOf}
+use Rattle.texts.proofs.Writers.{filled}
+use Rattle.texts.proofs.HubTrip.{hub-length}
 use borrow.Author.Needs.{needs}
 use native.Mathlib.Omega.{arith}
 use Rattle.texts.proofs.hub.hub.Statement.{statement}
@@ -18,10 +21,14 @@ hub-text-requires : tie.Need-hub-text-requires
 hub-text-requires c κs = search needs
 
 array-share-prefix-text : tie.Need-array-share-prefix-text
-array-share-prefix-text c = search needs
+array-share-prefix-text c =
+    let f = (filled _ (omega (arith, hub-length (boardOf (c .before .before .before .before .before .args .p)))) (c .before .hub-text .ensures)) in
+    omega (arith, f .fits, f .size)
 
 slice-aggregate-emit : tie.Need-slice-aggregate-emit
-slice-aggregate-emit c = sym (length-take-le _ _ (omega arith))
+slice-aggregate-emit c =
+    let f = (filled _ (omega (arith, hub-length (boardOf (c .before .before .before .before .before .before .args .p)))) (c .before .before .hub-text .ensures)) in
+    simp length-take (omega (arith, f .fits, f .size))
 
 emit-requires : tie.Need-emit-requires
 emit-requires c κs = search needs
@@ -32,8 +39,10 @@ same-length c = search needs
 returns : tie.Need-returns
 unfolding hubOf hubLent content
 returns c =
+    let p = c .before .before .before .before .before .before .before .before .before .before .args .p in
     let s = sym (c .before .before .before .before .before .before .before .before .sound .ensures) ∙ c .before .before .before .before .before .before .before .if1 .taken in
-    (rw s (c .before .before .emit .ensures .0 ∙ ap (λ (t : List ℕ). emitOf t (now (c .before .before .before .before .before .before .before .before .before .before .args .out))) (c .before .before .before .before .before .before .hub-text .ensures .0)), rw s (c .before .before .emit .ensures .1 ∙ ap (λ (t : List ℕ). emitted t (now (c .before .before .before .before .before .before .before .before .before .before .args .out))) (c .before .before .before .before .before .before .hub-text .ensures .0)))
+    let f = filled _ (omega (arith, hub-length (boardOf p))) (c .before .before .before .before .before .before .hub-text .ensures) in
+    (rw s (c .before .before .emit .ensures .0 ∙ ap (λ (t : List ℕ). emitOf t (now (c .before .before .before .before .before .before .before .before .before .before .args .out))) (f .text)), rw s (c .before .before .emit .ensures .1 ∙ ap (λ (t : List ℕ). emitted t (now (c .before .before .before .before .before .before .before .before .before .before .args .out))) (f .text)))
 
 returns-2 : tie.Need-returns-2
 unfolding hubOf hubLent

@@ -1,0 +1,91 @@
+-- Which listed move a text means (document 01, "notation.rs"). Only listed moves of that kind with that first square are looked at.
+-- Three or more squares are first read as Hub (from, to, the taken set); if nothing fits, only first and last square are compared.
+use Prim.Native.Nat.{ℕ}
+use mathlib.Core.List.{List, [], _∷_}
+use mathlib.Core.Bool.{Bool, true, false, cond, _&&_, Bool·beq}
+use lib.Dec.{eqb, leb, ltb}
+use lib.ListN.{length}
+use Rattle.squares.specs.declared.refusal.Refusal.the-variants.{BadPosition, NoMoveFits, SeveralFit, TooManyMoves}
+use Rattle.positions.specs.Acceptance.{sound}
+use Rattle.positions.specs.Boards.{boardOf}
+use Rattle.positions.specs.Moves.{isCapture}
+use Rattle.positions.specs.declared.moves.Move.{Move}
+use Rattle.positions.specs.declared.position.Position.{Position}
+use Rattle.rules.specs.Lists.{keep}
+use Rattle.rules.specs.Ordered.{legal}
+use Rattle.notation.specs.Notation.{readMoveOf}
+use Rattle.notation.specs.declared.notation.Said.{Said}
+use Rattle.notation.specs.declared.notation.Heard.{Heard}
+use Rattle.notation.specs.declared.notation.Heard.the-variants as heard
+use Rattle.notation.specs.declared.notation.Choice.{Choice}
+use Rattle.notation.specs.declared.notation.Choice.the-variants.{Nothing, One, Several}
+use Rattle.notation.specs.declared.notation.Found.{Found}
+use Rattle.notation.specs.declared.notation.Found.the-variants as found
+
+-- of that kind, with that first square
+unfoldable pub begins : Said → Move → Bool
+begins h m = eqb (m .from) (h .first) && Bool·beq (isCapture m) (h .capture)
+
+-- as Hub: the second square is the last one of the move, the later ones are the set taken; repeats are harmless
+unfoldable pub asHub : Said → Move → Bool
+asHub h m = begins h m && (eqb (m .to) (h .second) && eqb (m .captured) (h .rest))
+
+-- by first and last square
+unfoldable pub byEnds : Said → Move → Bool
+byEnds h m = begins h m && eqb (m .to) (h .last)
+
+-- the first list, the second where the first is empty
+unfoldable pub orElse : List Move → List Move → List Move
+orElse [] l = l
+orElse (m ∷ k) l = m ∷ k
+
+-- the moves of the list that fit
+unfoldable pub fitting : Said → List Move → List Move
+fitting h l = cond (ltb 2 (h .count)) (orElse (keep (asHub h) l) (keep (byEnds h) l)) (keep (byEnds h) l)
+
+-- none, one, several
+unfoldable pub only : List Move → Choice
+only [] = Nothing
+only (m ∷ []) = One m
+only (m ∷ (n ∷ l)) = Several
+
+-- 15, the move, 16
+abbrev pub answered : Choice → Found
+answered Nothing = found.Refused NoMoveFits
+answered (One m) = found.Move m
+answered Several = found.Refused SeveralFit
+
+-- 12, 17, 15, 16
+unfoldable pub fitOf : Position → Said → Found
+fitOf p h =
+    cond (sound p)
+    (cond (leb (length (legal (boardOf p))) 256) (answered (only (fitting h (legal (boardOf p))))) (found.Refused TooManyMoves))
+    (found.Refused BadPosition)
+
+-- what was read is fitted, a refusal is passed on
+abbrev pub fitHeard : Position → Heard → Found
+fitHeard p (heard.Said h) = fitOf p h
+fitHeard p (heard.Refused e) = found.Refused e
+
+-- 12, 1, 9, 17, 15, 16
+unfoldable pub parseMoveOf : Position → List ℕ → Found
+parseMoveOf p s = cond (sound p) (fitHeard p (readMoveOf s)) (found.Refused BadPosition)
+
+-- ---- what the code's search looks for
+
+-- as Hub, or by first and last square
+abbrev pub fits : Said → Bool → Move → Bool
+fits h true = asHub h
+fits h false = byEnds h
+
+-- one more that fits
+abbrev pub oneMore : Choice → Move → Choice
+oneMore Nothing m = One m
+oneMore (One n) m = Several
+oneMore Several m = Several
+
+-- the first choice, the second where the first is none
+abbrev pub orChoice : Choice → Choice → Choice
+orChoice Nothing d = d
+orChoice (One m) d = One m
+orChoice Several d = Several

@@ -1,0 +1,4 @@
+pub mod Notation
+pub mod Choice
+pub mod Computed
+pub mod MoveText
