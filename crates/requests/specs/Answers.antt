@@ -107,9 +107,13 @@ listAnswer l = answering (l .answer) (decimal (l .list .len) ++ movesText (l .li
 unfoldable pub dividedAnswer : Divided → List ℕ
 dividedAnswer d = answering (d .answer) (decimal (d .list .len) ++ countsText (d .list .moves) (d .counts) (min (d .list .len) 256))
 
--- the move's Hub text, first square, last square, set
+-- first square, last square, set
+unfoldable pub recordWord : Move → List ℕ
+recordWord m = decimal (m .from) ++ (code "," ∷ (decimal (m .to) ++ (code "," ∷ hex (m .captured))))
+
+-- the move's Hub text, then the record
 unfoldable pub moveAnswer : Move → List ℕ
-moveAnswer m = ok (moveWord m ++ (code " " ∷ (decimal (m .from) ++ (code "," ∷ (decimal (m .to) ++ (code "," ∷ hex (m .captured)))))))
+moveAnswer m = ok (moveWord m ++ (code " " ∷ recordWord m))
 
 abbrev pub afterAnswer : Placed → List ℕ
 afterAnswer (placed.Position p) = fenAnswer p ++ (code " " ∷ hash (p .hash))
