@@ -120,7 +120,14 @@ pub(crate) fn about(
 pub(crate) fn with_rest(task: Task, arg: &[u8], out: &mut [u8], at: usize) -> usize
     ensures { λ r. ⌜ Adds (restAnswer task (now (arg .entry))) (now (out .entry)) at (now (out .exit)) r ⌝ }
 {
-    about(task, Form::Either, words::first(arg), words::rest(arg), out, at)
+    about(
+        task,
+        Form::Either,
+        words::first(arg),
+        words::rest(arg),
+        out,
+        at,
+    )
 }
 
 // The limit stands before the FEN and is read first.

@@ -42,7 +42,7 @@ same-length c = search needs
 
 returns : tie.Need-returns
 unfolding told.bitsAnswer
-returns c = 
+returns c =
     laws.adds-then (c .before .before .before .before .before .before .before .before .before .before .before .before .before .before .before .before .before .before .before .before .before .before .before .before .before .before .before .put-ok .ensures)
     (laws.adds-then (c .before .before .before .before .before .before .before .before .before .before .before .before .before .before .before .before .before .before .before .before .before .before .before .put-set .ensures)
     (laws.adds-then (c .before .before .before .before .before .before .before .before .before .before .before .before .before .before .before .before .before .before .before .put-set2 .ensures)
