@@ -10,6 +10,10 @@ use Rattle.wording.proofs.Pieces as laws
 use Rattle.requests.proofs.Whole as law
 use Rattle.requests.specs.Answers as told
 use Rattle.requests.specs.Requests as asked
+use mir.Syntax.{w32}
+use mir.Val.{SFits}
+use mir.Facts.{toZ-ofZ}
+use Rattle.wording.specs.Output.{signed}
 use Rattle.requests.proofs.answers.tell_scored.Statement.{statement}
 use Rattle.requests.proofs.answers.tell_scored.Tie as tie
 
@@ -32,7 +36,9 @@ same-length : tie.Need-same-length
 same-length c = search needs
 
 returns : tie.Need-returns
-returns c = rw (c .before .before .before .before .before .before .before .before .before .s .given .1) (laws.adds-then (c .before .before .before .before .before .before .put-ok .ensures) (c .before .before .put-signed .ensures))
+returns c =
+    let f : SFits w32 (c .before .before .before .before .before .before .before .before .before .s .given .0 .0) = search needs in
+    rw (c .before .before .before .before .before .before .before .before .before .s .given .1) (laws.adds-then (c .before .before .before .before .before .before .put-ok .ensures) (laws.adds-as (ap signed (toZ-ofZ f)) (c .before .before .put-signed .ensures)))
 
 same-length-2 : tie.Need-same-length-2
 same-length-2 c = search needs

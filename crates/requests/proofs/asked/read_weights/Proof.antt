@@ -10,6 +10,10 @@ use Rattle.wording.proofs.Pieces as laws
 use Rattle.requests.proofs.Whole as law
 use Rattle.requests.specs.Answers as told
 use Rattle.requests.specs.Requests as asked
+use mir.Syntax.{w32}
+use mir.Val.{SFits}
+use mir.Facts.{toZ-ofZ}
+use Rattle.wording.specs.Output.{signed}
 use Rattle.requests.proofs.asked.read_weights.Statement.{statement}
 use Rattle.requests.proofs.asked.read_weights.Tie as tie
 
@@ -95,7 +99,13 @@ returns-5 c = rw (← c .before .before .before .before .before .before .before 
 
 returns-6 : tie.Need-returns-6
 unfolding asked.weightsOf
-returns-6 c = rw (← c .before .before .before .before .before .before .before .before .before .before .before .before .before .before .before .before .before .before .before .before .before .before .before .before .word .ensures, ← c .before .before .before .before .before .before .before .before .before .before .before .before .before .before .before .before .before .before .before .before .before .before .before .read-signed .ensures, c .before .before .before .before .before .before .before .before .before .before .before .before .before .before .before .before .before .before .before .before .before .man .given .1, ← c .before .before .before .before .before .before .before .before .before .before .before .before .before .before .before .before .before .before .before .word2 .ensures, ← c .before .before .before .before .before .before .before .before .before .before .before .before .before .before .before .before .before .before .read-signed2 .ensures, c .before .before .before .before .before .before .before .before .before .before .before .before .before .before .before .before .king .given .1, ← c .before .before .before .before .before .before .before .before .before .before .before .before .before .before .word3 .ensures, ← c .before .before .before .before .before .before .before .before .before .before .before .before .before .read-signed3 .ensures, c .before .before .before .before .before .before .before .before .before .before .before .advance .given .1, ← c .before .before .before .before .before .before .before .before .before .word4 .ensures, ← c .before .before .before .before .before .before .before .before .read-signed4 .ensures, c .before .before .before .before .before .before .center .given .1, ← c .before .before .before .before .word5 .ensures, ← c .before .before .before .read-signed5 .ensures, c .before .guard .given .1)
+returns-6 c =
+    let f0 : SFits w32 (c .before .before .before .before .before .before .before .before .before .before .before .before .before .before .before .before .before .before .before .before .before .man .given .0 .0) = search needs in
+    let f1 : SFits w32 (c .before .before .before .before .before .before .before .before .before .before .before .before .before .before .before .before .king .given .0 .0) = search needs in
+    let f2 : SFits w32 (c .before .before .before .before .before .before .before .before .before .before .before .advance .given .0 .0) = search needs in
+    let f3 : SFits w32 (c .before .before .before .before .before .before .center .given .0 .0) = search needs in
+    let f4 : SFits w32 (c .before .guard .given .0 .0) = search needs in
+    rw (← c .before .before .before .before .before .before .before .before .before .before .before .before .before .before .before .before .before .before .before .before .before .before .before .before .word .ensures, ← c .before .before .before .before .before .before .before .before .before .before .before .before .before .before .before .before .before .before .before .before .before .before .before .read-signed .ensures, c .before .before .before .before .before .before .before .before .before .before .before .before .before .before .before .before .before .before .before .before .before .man .given .1, ← c .before .before .before .before .before .before .before .before .before .before .before .before .before .before .before .before .before .before .before .word2 .ensures, ← c .before .before .before .before .before .before .before .before .before .before .before .before .before .before .before .before .before .before .read-signed2 .ensures, c .before .before .before .before .before .before .before .before .before .before .before .before .before .before .before .before .king .given .1, ← c .before .before .before .before .before .before .before .before .before .before .before .before .before .before .word3 .ensures, ← c .before .before .before .before .before .before .before .before .before .before .before .before .before .read-signed3 .ensures, c .before .before .before .before .before .before .before .before .before .before .before .advance .given .1, ← c .before .before .before .before .before .before .before .before .before .word4 .ensures, ← c .before .before .before .before .before .before .before .before .read-signed4 .ensures, c .before .before .before .before .before .before .center .given .1, ← c .before .before .before .before .word5 .ensures, ← c .before .before .before .read-signed5 .ensures, c .before .guard .given .1, toZ-ofZ f0, toZ-ofZ f1, toZ-ofZ f2, toZ-ofZ f3, toZ-ofZ f4)
 
 pub read-weights-spec : {M : Type 1} → statement M
 read-weights-spec =
