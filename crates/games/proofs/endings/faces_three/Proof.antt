@@ -1,0 +1,25 @@
+-- Each part is what its call ensures.
+use Rattle.games.specs.Games.{facesThree}
+use borrow.Author.Needs.{needs}
+use Rattle.games.proofs.endings.faces_three.Statement.{statement}
+use Rattle.games.proofs.endings.faces_three.Tie as tie
+
+lone-king-requires : tie.Need-lone-king-requires
+lone-king-requires c κs = search needs
+
+not-requires : tie.Need-not-requires
+not-requires c κs = search needs
+
+pieces-requires : tie.Need-pieces-requires
+pieces-requires c κs = search needs
+
+count-requires : tie.Need-count-requires
+count-requires c κs = search needs
+
+returns : tie.Need-returns
+unfolding facesThree
+returns c = cc
+
+pub faces-three-spec : {M : Type 1} → statement M
+faces-three-spec =
+    tie.close (tie.spec lone-king-requires not-requires pieces-requires count-requires returns)

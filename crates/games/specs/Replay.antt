@@ -1,0 +1,66 @@
+-- What `replay` answers: a list of move records, lent as numbers, is played from a start. It is no entry of document 01; its
+-- contract is demand 3 of the list as lent.
+use mathlib.Core.Path.{_≡_}
+use Prim.Native.Nat.{ℕ, _/_, _%_}
+use mathlib.Core.Bool.{cond}
+use mathlib.Core.List.{List, [], _∷_, _++_}
+use lib.Dec.{eqb, leb}
+use lib.ListN.{length, take, drop}
+use Rattle.squares.specs.declared.refusal.Answer.the-variants.{Done}
+use Rattle.squares.specs.declared.refusal.Refusal.the-variants.{NoSuchSquare, BadPosition, SpaceTooShort}
+use Rattle.positions.specs.Acceptance.{sound}
+use Rattle.positions.specs.Moves.{move}
+use Rattle.positions.specs.declared.moves.Move.{Move}
+use Rattle.positions.specs.declared.position.Position.{Position}
+use Rattle.games.specs.Play.{freshOf, notBegun, newOf, playOf, outcomeOf}
+use Rattle.games.specs.Demand3.{answersTo, gameAfter, Heard, Demand3}
+use Rattle.games.specs.declared.game.Begun.{Begun}
+use Rattle.games.specs.declared.game.Game.{Game}
+
+-- the moves that a list of numbers holds, three to a move: first square, last square, set
+unfoldable pub movesIn : List ℕ → List Move
+movesIn [] = []
+movesIn (a ∷ []) = []
+movesIn (a ∷ (b ∷ [])) = []
+movesIn (a ∷ (b ∷ (c ∷ l))) = move a b c ∷ movesIn l
+
+-- a number that is no square is handed on as 51, which is none either
+unfoldable pub squareIn : ℕ → ℕ
+squareIn n = cond (leb n 50) n 51
+
+-- refused in this order: 12 the start, 11 a length that is no multiple of three, 19 fewer answers than moves
+unfoldable pub replayOf : Position → List ℕ → ℕ → Begun
+replayOf start numbers room =
+    cond (sound start)
+    (cond (eqb (length numbers % 3) 0)
+    (cond (leb (length numbers / 3) room)
+    (record { answer = Done; game = gameAfter playOf (freshOf start) (movesIn numbers) })
+    (notBegun SpaceTooShort))
+    (notBegun NoSuchSquare))
+    (notBegun BadPosition)
+
+-- the lent answers afterwards: one for each move, 0 where it was accepted, and the later ones as they were; refused, all
+unfoldable pub writtenOf : Position → List ℕ → List ℕ → List ℕ
+writtenOf start numbers out =
+    cond (sound start)
+    (cond (eqb (length numbers % 3) 0)
+    (cond (leb (length numbers / 3) (length out))
+    (answersTo playOf (freshOf start) (movesIn numbers) ++ drop (length numbers / 3) out)
+    out)
+    out)
+    out
+
+-- what playing them all leaves behind, from any game
+pub record PlayedAll (g : Game) (numbers before after : List ℕ) (r : Game) : Type 0 where
+  pub result : r ≡ gameAfter playOf g (movesIn numbers)
+  pub written : after ≡ answersTo playOf g (movesIn numbers) ++ drop (length numbers / 3) before
+
+-- what is heard through it: the new game of the start, the answers as written, the game handed back, and its outcome
+abbrev pub heardBy : Position → List Move → List ℕ → Game → Heard
+heardBy start moves out g = record { begun = newOf start; answers = take (length moves) out; game = g; outcome = outcomeOf g }
+
+pub record Replayed (start : Position) (numbers before after : List ℕ) (r : Begun) : Type 0 where
+  pub result : r ≡ replayOf start numbers (length before)
+  pub written : after ≡ writtenOf start numbers before
+  -- not refused, demand 3 holds of the list as lent
+  pub demand : r .answer ≡ Done → Demand3 start (movesIn numbers) (heardBy start (movesIn numbers) after (r .game))

@@ -1,0 +1,46 @@
+-- What the entries that take texts answer (document 01, "Turned back because of the state"): a new game from FEN has FEN's
+-- refusals; a move text on a game meets 13, 1, 9, 14, 17, 15, 16.
+use Prim.Native.Nat.{ℕ}
+use mathlib.Core.Bool.{cond}
+use mathlib.Core.List.{List}
+use Rattle.squares.specs.declared.refusal.Refusal.the-variants.{BadGame, GameOver}
+use Rattle.positions.specs.declared.position.Placed.{Placed}
+use Rattle.positions.specs.declared.position.Placed.the-variants as placed
+use Rattle.texts.specs.Fen.{fromFenOf}
+use Rattle.notation.specs.Choice.{fitOf}
+use Rattle.notation.specs.Notation.{readMoveOf}
+use Rattle.notation.specs.declared.notation.Found.{Found}
+use Rattle.notation.specs.declared.notation.Found.the-variants as found
+use Rattle.notation.specs.declared.notation.Heard.{Heard}
+use Rattle.notation.specs.declared.notation.Heard.the-variants as heard
+use Rattle.notation.specs.declared.notation.Said.{Said}
+use Rattle.games.specs.Games.{lastOf, valid, judgedOf, ended}
+use Rattle.games.specs.Play.{newOf, notBegun, refusedPlay, playOf}
+use Rattle.games.specs.declared.game.Begun.{Begun}
+use Rattle.games.specs.declared.game.Game.{Game}
+use Rattle.games.specs.declared.game.Played.{Played}
+
+-- a new game of what was read
+abbrev pub begunAt : Placed → Begun
+begunAt (placed.Position p) = newOf p
+begunAt (placed.Refused e) = notBegun e
+
+unfoldable pub gameFromFenOf : List ℕ → Begun
+gameFromFenOf text = begunAt (fromFenOf text)
+
+-- the move that was found is played as its record is
+abbrev pub playFound : Game → Found → Played
+playFound g (found.Move m) = playOf g m
+playFound g (found.Refused e) = refusedPlay g e
+
+-- 14, then 17, 15, 16
+unfoldable pub playSaid : Game → Said → Played
+playSaid g h = cond (ended (judgedOf g)) (refusedPlay g GameOver) (playFound g (fitOf (lastOf g) h))
+
+abbrev pub playHeard : Game → Heard → Played
+playHeard g (heard.Said h) = playSaid g h
+playHeard g (heard.Refused e) = refusedPlay g e
+
+-- 13, then 1 and 9
+unfoldable pub playStrOf : Game → List ℕ → Played
+playStrOf g text = cond (valid g) (playHeard g (readMoveOf text)) (refusedPlay g BadGame)
