@@ -118,7 +118,7 @@ pub fn find(s: &[u8], c: u8) -> usize
 }
 
 // What stands before the first c: the whole where there is none.
-pub(crate) fn up_to(s: &[u8], c: u8) -> &[u8]
+pub fn up_to(s: &[u8], c: u8) -> &[u8]
     ensures { λ r. ⌜ now r ≡ upTo c (now (s .entry)) ⌝ }
 {
     let n = find(s, c);
@@ -134,7 +134,7 @@ pub(crate) fn behind(s: &[u8], c: u8) -> &[u8]
 }
 
 // Without one c at the start.
-pub(crate) fn strip(s: &[u8], c: u8) -> &[u8]
+pub fn strip(s: &[u8], c: u8) -> &[u8]
     ensures { λ r. ⌜ now r ≡ strip c (now (s .entry)) ⌝ }
 {
     if 0 < s.len() {

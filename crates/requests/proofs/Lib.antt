@@ -1,0 +1,4 @@
+pub mod Pieces
+pub mod WordLaws
+pub mod Values
+pub mod Escaped

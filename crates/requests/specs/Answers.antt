@@ -1,0 +1,82 @@
+-- What is told of a position.
+use Prim.Native.Nat.{ℕ}
+use Prim.Native.Char.{code}
+use mathlib.Core.List.{List, [], _∷_, _++_}
+use mathlib.Core.Bool.{Bool, true, false, cond}
+use Rattle.squares.specs.Pieces.{colorChar}
+use Rattle.positions.specs.Boards.{boardOf}
+use Rattle.positions.specs.Acceptance.{sound}
+use Rattle.positions.specs.Flip.{flippedOf}
+use Rattle.scores.specs.Score.{default, evaluateOf}
+use Rattle.positions.specs.declared.position.Position.{Position}
+use Rattle.positions.specs.declared.position.Placed.{Placed}
+use Rattle.positions.specs.declared.position.Placed.the-variants as placed
+use Rattle.scores.specs.declared.eval.Scored.{Scored}
+use Rattle.scores.specs.declared.eval.Scored.the-variants as scored
+use Rattle.movegen.specs.Lists.{hasCapturesOf, hasQuietMovesOf}
+use Rattle.movegen.specs.declared.movegen.Tested.{Tested}
+use Rattle.movegen.specs.declared.movegen.Tested.the-variants as tested
+use Rattle.movegen.specs.declared.perft.Counted.{Counted}
+use Rattle.movegen.specs.declared.perft.Counted.the-variants as counted
+use Rattle.texts.specs.Fen.{fenText}
+use Rattle.texts.specs.Hub.{hubText}
+use Rattle.requests.specs.Output.{bytes, decimal, hex, hash, signed, refusal}
+use Rattle.requests.specs.declared.answers.Asked.{Asked}
+use Rattle.requests.specs.declared.answers.Asked.the-variants as asked
+
+abbrev pub ok : List ℕ → List ℕ
+ok t = bytes "ok " ++ t
+
+-- the texts of a position; every position that a request makes is sound
+unfoldable pub fenWord : Position → List ℕ
+fenWord p = cond (sound p) (fenText (boardOf p)) []
+
+unfoldable pub hubWord : Position → List ℕ
+hubWord p = cond (sound p) (hubText (boardOf p)) []
+
+unfoldable pub fenAnswer : Position → List ℕ
+fenAnswer p = ok (fenWord p)
+
+unfoldable pub hubAnswer : Position → List ℕ
+hubAnswer p = ok (hubWord p)
+
+unfoldable pub hashAnswer : Position → List ℕ
+hashAnswer p = ok (hash (p .hash))
+
+-- a set and a space
+unfoldable pub setWord : ℕ → List ℕ
+setWord s = hex s ++ (code " " ∷ [])
+
+-- white, black, kings, side, hash
+unfoldable pub bitsAnswer : Position → List ℕ
+bitsAnswer p = ok (setWord (p .white) ++ (setWord (p .black) ++ (setWord (p .kings) ++ (colorChar (p .side) ∷ (code " " ∷ hash (p .hash))))))
+
+abbrev pub placedAnswer : Placed → List ℕ
+placedAnswer (placed.Position p) = fenAnswer p
+placedAnswer (placed.Refused e) = refusal e
+
+abbrev pub scoredAnswer : Scored → List ℕ
+scoredAnswer (scored.Score z) = ok (signed z)
+scoredAnswer (scored.Refused e) = refusal e
+
+abbrev pub yesNo : Bool → ℕ
+yesNo true = code "1"
+yesNo false = code "0"
+
+abbrev pub testedAnswer : Tested → List ℕ
+testedAnswer (tested.Is b) = ok (yesNo b ∷ [])
+testedAnswer (tested.Refused e) = refusal e
+
+abbrev pub countedAnswer : Counted → List ℕ
+countedAnswer (counted.Count n) = ok (decimal n)
+countedAnswer (counted.Refused e) = refusal e
+
+abbrev pub answerTo : Asked → Position → List ℕ
+answerTo asked.Fen p = fenAnswer p
+answerTo asked.Hub p = hubAnswer p
+answerTo asked.Bits p = bitsAnswer p
+answerTo asked.Eval p = scoredAnswer (evaluateOf default p)
+answerTo asked.Hash p = hashAnswer p
+answerTo asked.Flip p = placedAnswer (flippedOf p)
+answerTo asked.Caps p = testedAnswer (hasCapturesOf p)
+answerTo asked.Quiet p = testedAnswer (hasQuietMovesOf p)

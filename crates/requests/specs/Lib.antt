@@ -1,0 +1,7 @@
+pub mod Output
+pub mod Words
+pub mod Numbers
+pub mod Escapes
+pub mod Heard
+pub mod Answers
+pub mod Requests

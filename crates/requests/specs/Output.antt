@@ -1,0 +1,62 @@
+-- Writing an answer into lent bytes, and the texts of numbers, refusals and bad requests.
+use mathlib.Core.Path.{_≡_}
+use Prim.Native.Nat.{ℕ, zero, suc, _/_, min}
+use Prim.Native.Char.{code}
+use Prim.Native.String.{String, [] as []ˢ, _∷_ as _∷ˢ_}
+use mathlib.Core.List.{List, [], _∷_, _++_}
+use mathlib.Core.Bool.{true, false}
+use lib.ListN.{length, take, drop}
+use lib.Dec.{ltb}
+use lib.IntN.{ℤ, pos, negsuc}
+use Rattle.io.specs.Digits.{digits}
+use Rattle.squares.specs.Refusals.{numberOf, squareOf}
+use Rattle.squares.specs.declared.refusal.Refusal.{Refusal}
+
+-- the bytes of an ASCII text
+abbrev pub bytes : String → List ℕ
+bytes []ˢ = []
+bytes (c ∷ˢ s) = code c ∷ bytes s
+
+-- ---- lent bytes
+
+-- the lent bytes o with the text t over their start; what has no room is left out, bytes behind the text stay
+unfoldable pub written : List ℕ → List ℕ → List ℕ
+written t o = take (length o) t ++ drop (length t) o
+
+-- so far the text t was written over the lent bytes o, up to the place
+pub record Holds (o t out : List ℕ) (at : ℕ) : Type 0 where
+  pub bytes : out ≡ written t o
+  pub place : at ≡ min (length t) (length o)
+
+-- the piece s went behind whatever had been written
+pub record Adds (s out : List ℕ) (at : ℕ) (new : List ℕ) (end : ℕ) : Type 0 where
+  pub held : (o t : List ℕ) → Holds o t out at → Holds o (t ++ s) new end
+
+-- ---- numbers
+
+-- how many digits n has in base b, up to f and one
+unfoldable pub places : ℕ → ℕ → ℕ → ℕ
+places b zero n = 1
+places b (suc f) n = elim (ltb n b) [ true ↦ 1 | false ↦ suc (places b f (n / b)) ]
+
+-- a number of 64 bits in decimal and in hexadecimal, without leading zeros
+unfoldable pub decimal : ℕ → List ℕ
+decimal n = digits 10 (places 10 19 n) n
+
+unfoldable pub hex : ℕ → List ℕ
+hex n = digits 16 (places 16 15 n) n
+
+-- the 16 hexadecimal digits of a hash
+unfoldable pub hash : ℕ → List ℕ
+hash n = digits 16 16 n
+
+unfoldable pub signed : ℤ → List ℕ
+signed (pos n) = decimal n
+signed (negsuc n) = code "-" ∷ decimal (suc n)
+
+-- ---- answers that say no
+unfoldable pub refusal : Refusal → List ℕ
+refusal e = bytes "err " ++ (decimal (numberOf e) ++ (code " " ∷ decimal (squareOf e)))
+
+unfoldable pub bad : List ℕ
+bad = bytes "bad request"

@@ -1,0 +1,2 @@
+-- A request line and its answer.
+use Prim.Native.Nat.{ℕ}

@@ -1,0 +1,32 @@
+-- The words of a request stand between single spaces.
+use Prim.Native.Nat.{ℕ, zero, suc, _+_}
+use Prim.Native.Char.{code}
+use mathlib.Core.List.{List, [], _∷_}
+use mathlib.Core.Bool.{Bool, true, false, cond, _&&_}
+use lib.ListN.{drop}
+use lib.Dec.{eqb}
+use Rattle.texts.specs.Bytes.{is, upTo, indexOf}
+
+unfoldable pub sameText : List ℕ → List ℕ → Bool
+sameText [] [] = true
+sameText [] (b ∷ t) = false
+sameText (a ∷ s) [] = false
+sameText (a ∷ s) (b ∷ t) = eqb a b && sameText s t
+
+-- what stands before the first space, the whole where there is none
+unfoldable pub firstWord : List ℕ → List ℕ
+firstWord s = upTo (code " ") s
+
+-- what stands behind it, nothing where there is none
+unfoldable pub afterWord : List ℕ → List ℕ
+afterWord s = drop (indexOf (is (code " ")) s + 1) s
+
+-- the word of index k, from 0 on
+unfoldable pub wordAt : ℕ → List ℕ → List ℕ
+wordAt zero s = firstWord s
+wordAt (suc k) s = wordAt k (afterWord s)
+
+-- how many spaces there are: one less than words
+unfoldable pub blanksIn : List ℕ → ℕ
+blanksIn [] = 0
+blanksIn (b ∷ s) = cond (eqb b (code " ")) 1 0 + blanksIn s

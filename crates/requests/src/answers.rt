@@ -1,0 +1,155 @@
+// What is told of a position.
+use crate::output;
+use movegen::movegen::Tested;
+use movegen::perft::Counted;
+use scores::eval;
+use scores::eval::Scored;
+use positions::position::Placed;
+use positions::position::Position;
+use squares::piece::Color;
+use texts::bytes::Wrote;
+use texts::fen;
+use texts::hub;
+ghost use Rattle.requests.specs.Output.{Adds, bytes};
+ghost use Rattle.requests.specs.Answers.{setWord, fenWord, hubWord, bitsAnswer, scoredAnswer, testedAnswer, countedAnswer, fenAnswer, hubAnswer, hashAnswer, placedAnswer, answerTo};
+
+// What a request asks of a position.
+pub enum Asked {
+    Fen,
+    Hub,
+    Bits,
+    Eval,
+    Hash,
+    Flip,
+    Caps,
+    Quiet,
+}
+
+pub(crate) fn put_fen(out: &mut [u8], at: usize, p: Position) -> usize
+    ensures { λ r. ⌜ Adds (fenWord p) (now (out .entry)) at (now (out .exit)) r ⌝ }
+{
+    let mut space = [0u8; 200];
+    match fen::fen(p, &mut space) {
+        Wrote::Length(n) => output::put(out, at, &space[..n]),
+        Wrote::Refused(_) => at,
+    }
+}
+
+fn put_hub(out: &mut [u8], at: usize, p: Position) -> usize
+    ensures { λ r. ⌜ Adds (hubWord p) (now (out .entry)) at (now (out .exit)) r ⌝ }
+{
+    let mut space = [0u8; 51];
+    match hub::hub(p, &mut space) {
+        Wrote::Length(n) => output::put(out, at, &space[..n]),
+        Wrote::Refused(_) => at,
+    }
+}
+
+pub(crate) fn put_ok(out: &mut [u8], at: usize) -> usize
+    ensures { λ r. ⌜ Adds (bytes "ok ") (now (out .entry)) at (now (out .exit)) r ⌝ }
+{
+    output::put(out, at, b"ok ")
+}
+
+fn tell_fen(out: &mut [u8], at: usize, p: Position) -> usize
+    ensures { λ r. ⌜ Adds (fenAnswer p) (now (out .entry)) at (now (out .exit)) r ⌝ }
+{
+    let k = put_ok(out, at);
+    put_fen(out, k, p)
+}
+
+fn tell_hub(out: &mut [u8], at: usize, p: Position) -> usize
+    ensures { λ r. ⌜ Adds (hubAnswer p) (now (out .entry)) at (now (out .exit)) r ⌝ }
+{
+    let k = put_ok(out, at);
+    put_hub(out, k, p)
+}
+
+fn tell_hash(out: &mut [u8], at: usize, p: Position) -> usize
+    ensures { λ r. ⌜ Adds (hashAnswer p) (now (out .entry)) at (now (out .exit)) r ⌝ }
+{
+    let k = put_ok(out, at);
+    output::put_hash(out, k, p.hash)
+}
+
+// A set in hexadecimal and a space.
+fn put_set(out: &mut [u8], at: usize, set: u64) -> usize
+    ensures { λ r. ⌜ Adds (setWord set) (now (out .entry)) at (now (out .exit)) r ⌝ }
+{
+    let k = output::put_hex(out, at, set);
+    output::put_byte(out, k, b' ')
+}
+
+fn tell_bits(out: &mut [u8], at: usize, p: Position) -> usize
+    ensures { λ r. ⌜ Adds (bitsAnswer p) (now (out .entry)) at (now (out .exit)) r ⌝ }
+{
+    let side = p.side;
+    let k = put_ok(out, at);
+    let white = put_set(out, k, p.white);
+    let black = put_set(out, white, p.black);
+    let kings = put_set(out, black, p.kings);
+    let letter = output::put_byte(out, kings, side.to_char());
+    let blank = output::put_byte(out, letter, b' ');
+    output::put_hash(out, blank, p.hash)
+}
+
+// A position as FEN, or the refusal.
+pub(crate) fn tell_placed(out: &mut [u8], at: usize, p: Placed) -> usize
+    ensures { λ r. ⌜ Adds (placedAnswer p) (now (out .entry)) at (now (out .exit)) r ⌝ }
+{
+    match p {
+        Placed::Position(q) => tell_fen(out, at, q),
+        Placed::Refused(e) => output::put_refusal(out, at, e),
+    }
+}
+
+pub(crate) fn tell_scored(out: &mut [u8], at: usize, s: Scored) -> usize
+    ensures { λ r. ⌜ Adds (scoredAnswer s) (now (out .entry)) at (now (out .exit)) r ⌝ }
+{
+    match s {
+        Scored::Score(z) => {
+            let k = put_ok(out, at);
+            output::put_signed(out, k, z)
+        }
+        Scored::Refused(e) => output::put_refusal(out, at, e),
+    }
+}
+
+fn tell_tested(out: &mut [u8], at: usize, t: Tested) -> usize
+    ensures { λ r. ⌜ Adds (testedAnswer t) (now (out .entry)) at (now (out .exit)) r ⌝ }
+{
+    match t {
+        Tested::Is(yes) => {
+            let k = put_ok(out, at);
+            output::put_byte(out, k, b'0' + yes as u8)
+        }
+        Tested::Refused(e) => output::put_refusal(out, at, e),
+    }
+}
+
+pub(crate) fn tell_counted(out: &mut [u8], at: usize, c: Counted) -> usize
+    ensures { λ r. ⌜ Adds (countedAnswer c) (now (out .entry)) at (now (out .exit)) r ⌝ }
+{
+    match c {
+        Counted::Count(n) => {
+            let k = put_ok(out, at);
+            output::put_decimal(out, k, n)
+        }
+        Counted::Refused(e) => output::put_refusal(out, at, e),
+    }
+}
+
+pub(crate) fn tell(asked: Asked, p: Position, out: &mut [u8], at: usize) -> usize
+    ensures { λ r. ⌜ Adds (answerTo asked p) (now (out .entry)) at (now (out .exit)) r ⌝ }
+{
+    match asked {
+        Asked::Fen => tell_fen(out, at, p),
+        Asked::Hub => tell_hub(out, at, p),
+        Asked::Bits => tell_bits(out, at, p),
+        Asked::Eval => tell_scored(out, at, eval::evaluate(p)),
+        Asked::Hash => tell_hash(out, at, p),
+        Asked::Flip => tell_placed(out, at, p.flipped()),
+        Asked::Caps => tell_tested(out, at, movegen::movegen::has_captures(p)),
+        Asked::Quiet => tell_tested(out, at, movegen::movegen::has_quiet_moves(p)),
+    }
+}

@@ -1,0 +1,9 @@
+// The requests of the program `dame`: one a line, one answer line each, in the form of the Rust's line protocol.
+mod answers;
+mod escapes;
+mod heard;
+pub mod lines;
+mod numbers;
+mod output;
+pub mod requests;
+mod words;
