@@ -77,19 +77,36 @@ undo-skip zero s = refl
 undo-skip (suc n) [] = refl
 undo-skip (suc n) (b ∷ s) = undo-skip n s
 
-pub undo-plain : (s : List ℕ) (i : ℕ) → i < length s → (getD s i 0 ≡ 92 → ⊥) → undo 0 (drop i s) ≡ before (getD s i 0) (undo 0 (drop (i + 1) s))
+plain-byte : (b : ℕ) (t : List ℕ) (q : Bool) → q ≡ false → elim q [ true ↦ onEscape (escapeOf t) (λ x n. before x (undo n t)) | false ↦ before b (undo 0 t) ] ≡ before b (undo 0 t)
+plain-byte b t true e = absurd (mathlib.Core.Bool.true≢false e)
+plain-byte b t false e = refl
+
+escape-byte : (b : ℕ) (t : List ℕ) (q : Bool) → q ≡ true → elim q [ true ↦ onEscape (escapeOf t) (λ x n. before x (undo n t)) | false ↦ before b (undo 0 t) ] ≡ onEscape (escapeOf t) (λ x n. before x (undo n t))
+escape-byte b t true e = refl
+escape-byte b t false e = absurd (mathlib.Core.Bool.false≢true e)
+
+undo-byte : (b : ℕ) (t : List ℕ) → (b ≡ 92 → ⊥) → undo 0 (b ∷ t) ≡ before b (undo 0 t)
 unfolding undo
-undo-plain s i h e = rw (drop-next s i h, ne-eqb (getD s i 0) 92 e)
+undo-byte b t e = plain-byte b t (eqb b 92) (ne-eqb b 92 e)
+
+undo-slash : (b : ℕ) (t : List ℕ) → b ≡ 92 → undo 0 (b ∷ t) ≡ onEscape (escapeOf t) (λ x n. before x (undo n t))
+unfolding undo
+undo-slash b t e = escape-byte b t (eqb b 92) (eq-eqb b 92 e)
+
+pub undo-plain : (s : List ℕ) (i : ℕ) → i < length s → (getD s i 0 ≡ 92 → ⊥) → undo 0 (drop i s) ≡ before (getD s i 0) (undo 0 (drop (i + 1) s))
+undo-plain s i h e = ap (undo 0) (drop-next s i h) ∙ undo-byte (getD s i 0) (drop (i + 1) s) e
 
 pub undo-escape : (s : List ℕ) (i x n : ℕ) → i < length s → getD s i 0 ≡ 92 → escapeOf (drop (i + 1) s) ≡ escape.Byte x n
     → undo 0 (drop i s) ≡ before x (undo 0 (drop (i + 1 + n) s))
-unfolding undo
 undo-escape s i x n h e f =
-    rw (drop-next s i h, eq-eqb (getD s i 0) 92 e, f) (ap (before x) (undo-skip n (drop (i + 1) s) ∙ ap (undo 0) (drop-drop n (i + 1) s)))
+    ap (undo 0) (drop-next s i h) ∙ undo-slash (getD s i 0) (drop (i + 1) s) e
+    ∙ ap (λ (p : Escape). onEscape p (λ y m. before y (undo m (drop (i + 1) s)))) f
+    ∙ ap (before x) (undo-skip n (drop (i + 1) s) ∙ ap (undo 0) (drop-drop n (i + 1) s))
 
 pub undo-broken : (s : List ℕ) (i : ℕ) → i < length s → getD s i 0 ≡ 92 → escapeOf (drop (i + 1) s) ≡ escape.Bad → undo 0 (drop i s) ≡ broken
-unfolding undo
-undo-broken s i h e f = rw (drop-next s i h, eq-eqb (getD s i 0) 92 e, f)
+undo-broken s i h e f =
+    ap (undo 0) (drop-next s i h) ∙ undo-slash (getD s i 0) (drop (i + 1) s) e
+    ∙ ap (λ (p : Escape). onEscape p (λ y m. before y (undo m (drop (i + 1) s)))) f
 
 pub undo-end : (s : List ℕ) (i : ℕ) → length s ≤ i → undo 0 (drop i s) ≡ text []
 unfolding undo
@@ -113,14 +130,12 @@ pub record Undoing (s o out : List ℕ) (i at : ℕ) : Type 0 where
 
 pub undoing-start : (s o : List ℕ) → Undoing s o o 0 0
 unfolding plain behind Rattle.requests.specs.Output.written
-undoing-start s o = record { done = []; whole = go (undo 0 s); held = record { bytes = lib.Seq.take-nil (length o) ⊙ o; place = omega arith } }
+undoing-start s o = record { done = []; whole = go (undo 0 s); held = record { bytes = sym (ap (λ (y : List ℕ). y ++ o) (lib.Seq.take-nil (length o))); place = omega arith } }
   where
     go : (p : Plain) → p ≡ behind [] p
     go (text t) = refl
     go broken = refl
 
-    _⊙_ : lib.ListN.take (length o) [] ≡ [] → (x : List ℕ) → x ≡ lib.ListN.take (length o) [] ++ x
-    e ⊙ x = sym (ap (λ (y : List ℕ). y ++ x) e)
 
 pub undoing-byte : {s o out new : List ℕ} {i at end : ℕ} (j b : ℕ) → Undoing s o out i at → Adds (b ∷ []) out at new end
     → undo 0 (drop i s) ≡ before b (undo 0 (drop j s)) → Undoing s o new j end

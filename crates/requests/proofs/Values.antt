@@ -1,15 +1,16 @@
 -- Digits and numbers, place by place.
 use Prim.Native.Nat.{ℕ, zero, suc, _+_, _-_, _*_, _/_, _≤_, _<_}
-use mathlib.Core.Path.{_≡_, refl, ap, sym, _∙_}
+use mathlib.Core.Path.{_≡_, refl, ap, sym, _∙_, subst}
 use mathlib.Core.List.{List, [], _∷_}
 use mathlib.Core.Bool.{Bool, true, false, cond, _&&_}
 use native.Mathlib.Omega.{arith}
 use native.Mathlib.Nat.{le-div-iff-mul-le, div-lt-iff-lt-mul}
 use lib.ListN.{length, drop, getD, drop-of-length-le}
-use lib.Dec.{leb, ltb}
-use borrow.Author.Tests.{le-leb, lt-leb, lt-ltb, le-ltb, eq-eqb, ne-eqb}
+use lib.Dec.{leb, ltb, eqb}
+use borrow.Author.Tests.{le-leb, lt-leb, lt-ltb, le-ltb, eq-eqb, ne-eqb, leb-true}
+use Rattle.squares.proofs.Bools.{and-right}
 use Rattle.texts.proofs.Cuts.{drop-next}
-use Rattle.requests.specs.Numbers.{digitOf, valueFrom, numberIn, withoutPrefix}
+use Rattle.requests.specs.Numbers.{AtMost, digitOf, valueFrom, numberIn, withoutPrefix}
 use Rattle.requests.specs.declared.numbers.Parsed.{Parsed}
 use Rattle.requests.specs.declared.numbers.Parsed.the-variants as parsed
 
@@ -75,6 +76,27 @@ pub value-end : (base limit v : ℕ) (s : List ℕ) (i : ℕ) → length s ≤ i
 unfolding valueFrom
 value-end base limit v s i h = rw (drop-of-length-le s h)
 
+-- what is read is at most the limit
+at-most-cond : (k : ℕ) (t : Bool) (p : Parsed) → (t ≡ true → AtMost k p) → AtMost k (cond t p parsed.Bad)
+at-most-cond k true p a = a refl
+at-most-cond k false p a = tt
+
+value-limit : (base limit v : ℕ) (s : List ℕ) → v ≤ limit → AtMost limit (valueFrom base limit v s)
+unfolding valueFrom
+value-limit base limit v [] h = h
+value-limit base limit v (b ∷ s) h =
+    at-most-cond limit (ltb (digitOf b) base && leb (v * base + digitOf b) limit) _
+    (λ e. value-limit base limit (v * base + digitOf b) s (leb-true _ _ (and-right (ltb (digitOf b) base) _ e)))
+
+number-limit : (base limit : ℕ) (s : List ℕ) → AtMost limit (numberIn base limit s)
+unfolding numberIn
+number-limit base limit [] = tt
+number-limit base limit (b ∷ s) = value-limit base limit 0 (b ∷ s) (omega arith)
+
+-- both clauses of the contract from the first
+pub limited : (base limit : ℕ) (s : List ℕ) (r : Parsed) → r ≡ numberIn base limit s → (r ≡ numberIn base limit s) × AtMost limit r
+limited base limit s r e = (e, subst (λ (x : Parsed). AtMost limit x) (sym e) (number-limit base limit s))
+
 -- what the quotient says of the product
 pub over : (limit base v d : ℕ) → 0 < base → limit / base < v → limit < v * base + d
 over limit base v d p h = omega (arith, div-lt-iff-lt-mul {k = base} {x = limit} {y = v} p .0 h)
@@ -88,23 +110,35 @@ drop-two s i h =
     let w : i + 1 + 1 ≡ i + 2 = omega arith in
     drop-next s i (omega arith) ∙ ap (λ (x : List ℕ). getD s i 0 ∷ x) (drop-next s (i + 1) h ∙ ap (λ (n : ℕ). getD s (i + 1) 0 ∷ drop n s) w)
 
-pub prefix-first : (s : List ℕ) (i : ℕ) → i + 1 < length s → (getD s i 0 ≡ 48 → ⊥) → withoutPrefix (drop i s) ≡ drop i s
-unfolding withoutPrefix
-prefix-first s i h e = rw (drop-two s i h, ne-eqb (getD s i 0) 48 e)
+prefixed : (q : Bool) (a b : ℕ) (t : List ℕ) → List ℕ
+prefixed q a b t = elim q [ true ↦ withoutPrefix t | false ↦ a ∷ (b ∷ t) ]
 
-pub prefix-second : (s : List ℕ) (i : ℕ) → i + 1 < length s → getD s i 0 ≡ 48 → (getD s (i + 1) 0 ≡ 120 → ⊥) → withoutPrefix (drop i s) ≡ drop i s
-unfolding withoutPrefix
-prefix-second s i h e f = rw (drop-two s i h, eq-eqb (getD s i 0) 48 e, ne-eqb (getD s (i + 1) 0) 120 f)
+pair : (a b : ℕ) (t : List ℕ) (q : Bool) → (eqb a 48 && eqb b 120) ≡ q → withoutPrefix (a ∷ (b ∷ t)) ≡ prefixed q a b t
+unfolding withoutPrefix prefixed
+pair a b t q e = ap (λ (x : Bool). prefixed x a b t) e
 
-pub prefix-next : (s : List ℕ) (i : ℕ) → i + 1 < length s → getD s i 0 ≡ 48 → getD s (i + 1) 0 ≡ 120 → withoutPrefix (drop i s) ≡ withoutPrefix (drop (i + 2) s)
+module _ (s : List ℕ) (i : ℕ) (h : i + 1 < length s) where
+  kept : (eqb (getD s i 0) 48 && eqb (getD s (i + 1) 0) 120) ≡ false → withoutPrefix (drop i s) ≡ drop i s
+  unfolding prefixed
+  kept e = ap withoutPrefix (drop-two s i h) ∙ pair (getD s i 0) (getD s (i + 1) 0) (drop (i + 2) s) false e ∙ sym (drop-two s i h)
+
+  pub prefix-first : (getD s i 0 ≡ 48 → ⊥) → withoutPrefix (drop i s) ≡ drop i s
+  prefix-first e = kept (rw (ne-eqb (getD s i 0) 48 e))
+
+  pub prefix-second : getD s i 0 ≡ 48 → (getD s (i + 1) 0 ≡ 120 → ⊥) → withoutPrefix (drop i s) ≡ drop i s
+  prefix-second e f = kept (rw (eq-eqb (getD s i 0) 48 e, ne-eqb (getD s (i + 1) 0) 120 f))
+
+  pub prefix-next : getD s i 0 ≡ 48 → getD s (i + 1) 0 ≡ 120 → withoutPrefix (drop i s) ≡ withoutPrefix (drop (i + 2) s)
+  unfolding prefixed
+  prefix-next e f =
+      ap withoutPrefix (drop-two s i h)
+      ∙ pair (getD s i 0) (getD s (i + 1) 0) (drop (i + 2) s) true (rw (eq-eqb (getD s i 0) 48 e, eq-eqb (getD s (i + 1) 0) 120 f))
+
+prefix-short : (t : List ℕ) → length t ≤ 1 → withoutPrefix t ≡ t
 unfolding withoutPrefix
-prefix-next s i h e f = rw (drop-two s i h, eq-eqb (getD s i 0) 48 e, eq-eqb (getD s (i + 1) 0) 120 f)
+prefix-short [] k = refl
+prefix-short (a ∷ []) k = refl
+prefix-short (a ∷ (b ∷ t)) k = absurd (omega arith)
 
 pub prefix-end : (s : List ℕ) (i : ℕ) → length s ≤ i + 1 → withoutPrefix (drop i s) ≡ drop i s
-prefix-end s i h = go (drop i s) (simp lib.ListN.length-drop (omega arith))
-  where
-    go : (t : List ℕ) → length t ≤ 1 → withoutPrefix t ≡ t
-    unfolding withoutPrefix
-    go [] k = refl
-    go (a ∷ []) k = refl
-    go (a ∷ (b ∷ t)) k = absurd (omega arith)
+prefix-end s i h = prefix-short (drop i s) (simp lib.ListN.length-drop (omega arith))

@@ -2,7 +2,7 @@
 use Prim.Native.Nat.{ℕ, zero, suc, _+_, _-_, _≤_, _<_}
 use mathlib.Core.Path.{_≡_, refl, ap, sym, _∙_}
 use mathlib.Core.List.{List, [], _∷_}
-use mathlib.Core.Bool.{Bool, true, false}
+use mathlib.Core.Bool.{Bool, true, false, _&&_}
 use native.Mathlib.Omega.{arith}
 use native.Mathlib.Numerals.{add-one}
 use lib.ListN.{length, drop, getD, length-drop, drop-of-length-le}
@@ -20,7 +20,7 @@ same-lengths [] (y ∷ b) h = refl
 same-lengths (x ∷ a) [] h = refl
 same-lengths (x ∷ a) (y ∷ b) h = rw (same-lengths a b (λ e. h (ap suc e))) (false-right (lib.Dec.eqb x y))
   where
-    false-right : (t : Bool) → (t mathlib.Core.Bool.&& false) ≡ false
+    false-right : (t : Bool) → (t && false) ≡ false
     false-right true = refl
     false-right false = refl
 
@@ -64,19 +64,22 @@ pub word-first : (s t : List ℕ) (k : ℕ) → k ≤ 0 → t ≡ firstWord s �
 unfolding wordAt
 word-first s t k h e = let z : k ≡ 0 = omega arith in rw z (sym e)
 
+word-suc : (k : ℕ) (t : List ℕ) → 0 < k → wordAt k t ≡ wordAt (k - 1) (afterWord t)
+unfolding wordAt
+word-suc zero t h = absurd (omega arith)
+word-suc (suc k) t h = let q : k ≡ suc k - 1 = omega arith in ap (λ (m : ℕ). wordAt m (afterWord t)) q
+
 -- one word further on
 pub word-next : (s : List ℕ) (at k n : ℕ) → 0 < k → n ≡ indexOf (is 32) (drop at s) → wordAt k (drop at s) ≡ wordAt (k - 1) (drop (at + n + 1) s)
-unfolding wordAt
 word-next s at k n h e =
-    let q : k ≡ suc (k - 1) = omega arith in
     let w : at + (n + 1) ≡ at + n + 1 = omega arith in
-    rw q (ap (wordAt (k - 1)) (sym (rest-hit (drop at s) n e) ∙ drop-drop (n + 1) at s ∙ ap (λ (m : ℕ). drop m s) w))
+    word-suc k (drop at s) h
+    ∙ ap (wordAt (k - 1)) (sym (rest-hit (drop at s) n e) ∙ drop-drop (n + 1) at s ∙ ap (λ (m : ℕ). drop m s) w)
 
 pub word-last : (s : List ℕ) (k n : ℕ) → 0 < k → n ≡ indexOf (is 32) s → n ≡ length s → wordAt k s ≡ drop n s
-unfolding wordAt
 word-last s k n h e l =
-    let q : k ≡ suc (k - 1) = omega arith in
-    rw q (ap (wordAt (k - 1)) (sym (rest-none s n e (omega (arith, l))) ∙ drop-of-length-le s (omega (arith, l))) ∙ word-none (k - 1) ∙ sym (drop-of-length-le s (omega (arith, l))))
+    let d : drop n s ≡ [] = drop-of-length-le s {i = n} (omega (arith, l)) in
+    word-suc k s h ∙ ap (wordAt (k - 1)) (sym (rest-none s n e (omega (arith, l))) ∙ d) ∙ word-none (k - 1) ∙ sym d
 
 -- ---- spaces
 pub blanks-hit : (s : List ℕ) (i : ℕ) → i < length s → getD s i 0 ≡ 32 → blanksIn (drop i s) ≡ suc (blanksIn (drop (i + 1) s))
@@ -85,7 +88,7 @@ blanks-hit s i h e = rw (drop-next s i h, eq-eqb (getD s i 0) 32 e) (omega arith
 
 pub blanks-miss : (s : List ℕ) (i : ℕ) → i < length s → (getD s i 0 ≡ 32 → ⊥) → blanksIn (drop i s) ≡ blanksIn (drop (i + 1) s)
 unfolding blanksIn
-blanks-miss s i h e = rw (drop-next s i h, ne-eqb (getD s i 0) 32 e)
+blanks-miss s i h e = rw (drop-next s i h, ne-eqb (getD s i 0) 32 e) (omega arith)
 
 pub blanks-end : (s : List ℕ) (i : ℕ) → length s ≤ i → blanksIn (drop i s) ≡ 0
 unfolding blanksIn

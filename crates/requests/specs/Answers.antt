@@ -1,9 +1,15 @@
 -- What is told of a position.
-use Prim.Native.Nat.{ℕ}
+use Prim.Native.Nat.{ℕ, zero, suc, min}
 use Prim.Native.Char.{code}
 use mathlib.Core.List.{List, [], _∷_, _++_}
 use mathlib.Core.Bool.{Bool, true, false, cond}
+use lib.ListN.{getD}
 use Rattle.squares.specs.Pieces.{colorChar}
+use Rattle.squares.specs.declared.refusal.Answer.{Answer}
+use Rattle.squares.specs.declared.refusal.Answer.the-variants as answer
+use Rattle.positions.specs.Moves.{squaresOf}
+use Rattle.positions.specs.declared.moves.Move.{Move}
+use Rattle.captures.specs.Lists.{blank}
 use Rattle.positions.specs.Boards.{boardOf}
 use Rattle.positions.specs.Acceptance.{sound}
 use Rattle.positions.specs.Flip.{flippedOf}
@@ -13,13 +19,16 @@ use Rattle.positions.specs.declared.position.Placed.{Placed}
 use Rattle.positions.specs.declared.position.Placed.the-variants as placed
 use Rattle.scores.specs.declared.eval.Scored.{Scored}
 use Rattle.scores.specs.declared.eval.Scored.the-variants as scored
-use Rattle.movegen.specs.Lists.{hasCapturesOf, hasQuietMovesOf}
+use Rattle.movegen.specs.Lists.{legalMovesOf, hasCapturesOf, hasQuietMovesOf}
+use Rattle.movegen.specs.declared.movegen.Listed.{Listed}
+use Rattle.movegen.specs.declared.perft.Divided.{Divided}
 use Rattle.movegen.specs.declared.movegen.Tested.{Tested}
 use Rattle.movegen.specs.declared.movegen.Tested.the-variants as tested
 use Rattle.movegen.specs.declared.perft.Counted.{Counted}
 use Rattle.movegen.specs.declared.perft.Counted.the-variants as counted
 use Rattle.texts.specs.Fen.{fenText}
 use Rattle.texts.specs.Hub.{hubText}
+use Rattle.notation.specs.MoveText.{moveText}
 use Rattle.requests.specs.Output.{bytes, decimal, hex, hash, signed, refusal}
 use Rattle.requests.specs.declared.answers.Asked.{Asked}
 use Rattle.requests.specs.declared.answers.Asked.the-variants as asked
@@ -71,10 +80,47 @@ abbrev pub countedAnswer : Counted → List ℕ
 countedAnswer (counted.Count n) = ok (decimal n)
 countedAnswer (counted.Refused e) = refusal e
 
+-- ---- moves
+
+-- a move's Hub text; every move that a request finds is on the board
+unfoldable pub moveWord : Move → List ℕ
+moveWord m = cond (squaresOf m) (moveText m) []
+
+-- the first n of some moves, a space before each
+unfoldable pub movesText : List Move → ℕ → List ℕ
+movesText l zero = []
+movesText l (suc n) = movesText l n ++ (code " " ∷ moveWord (getD l n blank))
+
+-- the same, each with its count
+unfoldable pub countsText : List Move → List ℕ → ℕ → List ℕ
+countsText l c zero = []
+countsText l c (suc n) = countsText l c n ++ (code " " ∷ (moveWord (getD l n blank) ++ (code "=" ∷ decimal (getD c n 0))))
+
+-- how many there are, then each
+abbrev pub answering : Answer → List ℕ → List ℕ
+answering answer.Done t = ok t
+answering (answer.Refused e) t = refusal e
+
+unfoldable pub listAnswer : Listed → List ℕ
+listAnswer l = answering (l .answer) (decimal (l .list .len) ++ movesText (l .list .moves) (min (l .list .len) 256))
+
+unfoldable pub dividedAnswer : Divided → List ℕ
+dividedAnswer d = answering (d .answer) (decimal (d .list .len) ++ countsText (d .list .moves) (d .counts) (min (d .list .len) 256))
+
+-- the move's Hub text, first square, last square, set
+unfoldable pub moveAnswer : Move → List ℕ
+moveAnswer m = ok (moveWord m ++ (code " " ∷ (decimal (m .from) ++ (code "," ∷ (decimal (m .to) ++ (code "," ∷ hex (m .captured)))))))
+
+abbrev pub afterAnswer : Placed → List ℕ
+afterAnswer (placed.Position p) = fenAnswer p ++ (code " " ∷ hash (p .hash))
+afterAnswer (placed.Refused e) = refusal e
+
+-- ---- by what is asked
 abbrev pub answerTo : Asked → Position → List ℕ
 answerTo asked.Fen p = fenAnswer p
 answerTo asked.Hub p = hubAnswer p
 answerTo asked.Bits p = bitsAnswer p
+answerTo asked.Moves p = listAnswer (legalMovesOf p 256)
 answerTo asked.Eval p = scoredAnswer (evaluateOf default p)
 answerTo asked.Hash p = hashAnswer p
 answerTo asked.Flip p = placedAnswer (flippedOf p)

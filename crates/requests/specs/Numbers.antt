@@ -1,5 +1,5 @@
 -- Numbers as Rust reads them: an optional sign, one digit or more, leading zeros allowed, at most the type's limit.
-use Prim.Native.Nat.{ℕ, zero, suc, _+_, _-_, _*_}
+use Prim.Native.Nat.{ℕ, zero, suc, _+_, _-_, _*_, _≤_}
 use Prim.Native.Char.{code}
 use mathlib.Core.List.{List, [], _∷_}
 use mathlib.Core.Bool.{Bool, true, false, cond, _&&_}
@@ -10,6 +10,11 @@ use Rattle.requests.specs.declared.numbers.Parsed.{Parsed}
 use Rattle.requests.specs.declared.numbers.Parsed.the-variants as parsed
 use Rattle.requests.specs.declared.numbers.Signed.{Signed}
 use Rattle.requests.specs.declared.numbers.Signed.the-variants as signed
+
+-- a number that was read is at most k
+abbrev pub AtMost : ℕ → Parsed → Type 0
+AtMost k (parsed.Value n) = n ≤ k
+AtMost k parsed.Bad = Unit
 
 -- the value of a digit of either case, 16 where it is none
 unfoldable pub digitOf : ℕ → ℕ

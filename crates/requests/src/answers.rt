@@ -1,23 +1,30 @@
 // What is told of a position.
 use crate::output;
+use captures::moves::MAX_MOVES;
+use captures::moves::MoveList;
+use movegen::movegen::Listed;
 use movegen::movegen::Tested;
 use movegen::perft::Counted;
+use movegen::perft::Divided;
 use scores::eval;
 use scores::eval::Scored;
+use positions::moves::Move;
 use positions::position::Placed;
 use positions::position::Position;
-use squares::piece::Color;
+use squares::refusal::Answer;
 use texts::bytes::Wrote;
 use texts::fen;
 use texts::hub;
+ghost use Prim.Native.Nat.{min};
 ghost use Rattle.requests.specs.Output.{Adds, bytes};
-ghost use Rattle.requests.specs.Answers.{setWord, fenWord, hubWord, bitsAnswer, scoredAnswer, testedAnswer, countedAnswer, fenAnswer, hubAnswer, hashAnswer, placedAnswer, answerTo};
+ghost use Rattle.requests.specs.Answers.{setWord, fenWord, hubWord, bitsAnswer, scoredAnswer, testedAnswer, countedAnswer, fenAnswer, hubAnswer, hashAnswer, placedAnswer, moveWord, movesText, countsText, listAnswer, dividedAnswer, moveAnswer, afterAnswer, answerTo};
 
 // What a request asks of a position.
 pub enum Asked {
     Fen,
     Hub,
     Bits,
+    Moves,
     Eval,
     Hash,
     Flip,
@@ -139,6 +146,117 @@ pub(crate) fn tell_counted(out: &mut [u8], at: usize, c: Counted) -> usize
     }
 }
 
+// A move's Hub text.
+fn put_move(out: &mut [u8], at: usize, m: Move) -> usize
+    ensures { λ r. ⌜ Adds (moveWord m) (now (out .entry)) at (now (out .exit)) r ⌝ }
+{
+    let mut space = [0u8; 200];
+    match notation::moves::to_hub(m, &mut space) {
+        Wrote::Length(n) => output::put(out, at, &space[..n]),
+        Wrote::Refused(_) => at,
+    }
+}
+
+// The moves of a list, a space before each.
+fn put_moves(out: &mut [u8], at: usize, list: MoveList) -> usize
+    ensures { λ r. ⌜ Adds (movesText (list .moves) (min (list .len) 256)) (now (out .entry)) at (now (out .exit)) r ⌝ }
+{
+    let len = list.len;
+    let mut k = at;
+    let mut i = 0;
+    while i < MAX_MOVES {
+        if len <= i {
+            return k;
+        }
+        let m = list.moves[i];
+        let b = output::put_byte(out, k, b' ');
+        k = put_move(out, b, m);
+        i += 1;
+    }
+    k
+}
+
+// How many moves there are, and each of them.
+pub(crate) fn tell_list(out: &mut [u8], at: usize, l: Listed) -> usize
+    ensures { λ r. ⌜ Adds (listAnswer l) (now (out .entry)) at (now (out .exit)) r ⌝ }
+{
+    let answer = l.answer;
+    let list = l.list;
+    match answer {
+        Answer::Done => {
+            let k = put_ok(out, at);
+            let n = output::put_decimal(out, k, list.len as u64);
+            put_moves(out, n, list)
+        }
+        Answer::Refused(e) => output::put_refusal(out, at, e),
+    }
+}
+
+// The moves of a list, each with its count.
+fn put_counts(out: &mut [u8], at: usize, list: MoveList, counts: [u64; 256]) -> usize
+    ensures { λ r. ⌜ Adds (countsText (list .moves) counts (min (list .len) 256)) (now (out .entry)) at (now (out .exit)) r ⌝ }
+{
+    let len = list.len;
+    let mut k = at;
+    let mut i = 0;
+    while i < MAX_MOVES {
+        if len <= i {
+            return k;
+        }
+        let m = list.moves[i];
+        let b = output::put_byte(out, k, b' ');
+        let e = put_move(out, b, m);
+        let n = output::put_byte(out, e, b'=');
+        k = output::put_decimal(out, n, counts[i]);
+        i += 1;
+    }
+    k
+}
+
+pub(crate) fn tell_divided(out: &mut [u8], at: usize, d: Divided) -> usize
+    ensures { λ r. ⌜ Adds (dividedAnswer d) (now (out .entry)) at (now (out .exit)) r ⌝ }
+{
+    let answer = d.answer;
+    let list = d.list;
+    let counts = d.counts;
+    match answer {
+        Answer::Done => {
+            let k = put_ok(out, at);
+            let n = output::put_decimal(out, k, list.len as u64);
+            put_counts(out, n, list, counts)
+        }
+        Answer::Refused(e) => output::put_refusal(out, at, e),
+    }
+}
+
+// The move's Hub text, first square, last square and set.
+pub(crate) fn tell_move(out: &mut [u8], at: usize, m: Move) -> usize
+    ensures { λ r. ⌜ Adds (moveAnswer m) (now (out .entry)) at (now (out .exit)) r ⌝ }
+{
+    let k = put_ok(out, at);
+    let text = put_move(out, k, m);
+    let blank = output::put_byte(out, text, b' ');
+    let from = output::put_decimal(out, blank, m.from as u64);
+    let comma = output::put_byte(out, from, b',');
+    let to = output::put_decimal(out, comma, m.to as u64);
+    let last = output::put_byte(out, to, b',');
+    output::put_hex(out, last, m.captured)
+}
+
+// The FEN of the position after a move, and its hash.
+pub(crate) fn tell_after(out: &mut [u8], at: usize, p: Placed) -> usize
+    ensures { λ r. ⌜ Adds (afterAnswer p) (now (out .entry)) at (now (out .exit)) r ⌝ }
+{
+    match p {
+        Placed::Position(q) => {
+            let k = tell_fen(out, at, q);
+            let blank = output::put_byte(out, k, b' ');
+            output::put_hash(out, blank, q.hash)
+        }
+        Placed::Refused(e) => output::put_refusal(out, at, e),
+    }
+}
+
 pub(crate) fn tell(asked: Asked, p: Position, out: &mut [u8], at: usize) -> usize
     ensures { λ r. ⌜ Adds (answerTo asked p) (now (out .entry)) at (now (out .exit)) r ⌝ }
 {
@@ -146,6 +264,7 @@ pub(crate) fn tell(asked: Asked, p: Position, out: &mut [u8], at: usize) -> usiz
         Asked::Fen => tell_fen(out, at, p),
         Asked::Hub => tell_hub(out, at, p),
         Asked::Bits => tell_bits(out, at, p),
+        Asked::Moves => tell_list(out, at, movegen::movegen::legal_moves(p, MAX_MOVES)),
         Asked::Eval => tell_scored(out, at, eval::evaluate(p)),
         Asked::Hash => tell_hash(out, at, p),
         Asked::Flip => tell_placed(out, at, p.flipped()),

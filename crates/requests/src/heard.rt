@@ -1,14 +1,17 @@
 // The texts of a request: its escapes undone, then read as a position.
 use crate::escapes;
 use crate::escapes::Undone;
+use notation::notation::Found;
+use positions::moves::Move;
 use positions::position::Placed;
 use positions::position::Position;
 use squares::refusal::Refusal;
+use squares::square::Numbered;
 use texts::bytes;
 use texts::fen;
 use texts::hub;
 ghost use mathlib.Core.Path.{_≡_};
-ghost use Rattle.requests.specs.Heard.{heardOf, eitherOf, readOf, positionOf};
+ghost use Rattle.requests.specs.Heard.{heardOf, eitherOf, readOf, positionOf, meantOf, listedMoveOf, placingOf, squareOf};
 
 // How a text is read: as FEN, as Hub, or as Hub where it looks like it.
 pub enum Form {
@@ -64,5 +67,59 @@ pub(crate) fn position(form: Form, word: &[u8]) -> Heard
     match escapes::unescape(word, &mut space) {
         Undone::Length(n) => hear(read(form, &space[..n])),
         Undone::Bad => Heard::Bad,
+    }
+}
+
+// A listed move, its refusal, or that the request is broken.
+pub enum Meant {
+    Move(Move),
+    Refused(Refusal),
+    Bad,
+}
+
+fn mean(f: Found) -> Meant
+    ensures { λ r. ⌜ r ≡ meantOf f ⌝ }
+{
+    match f {
+        Found::Move(m) => Meant::Move(m),
+        Found::Refused(e) => Meant::Refused(e),
+    }
+}
+
+// The move of a text.
+pub(crate) fn listed_move(p: Position, word: &[u8]) -> Meant
+    ensures { λ r. ⌜ r ≡ listedMoveOf p (now (word .entry)) ⌝ }
+{
+    let mut space = [0u8; 4097];
+    match escapes::unescape(word, &mut space) {
+        Undone::Length(n) => mean(notation::notation::parse_move(p, &space[..n])),
+        Undone::Bad => Meant::Bad,
+    }
+}
+
+// A square, its refusal, or that the request is broken.
+pub enum Placing {
+    Square(u32),
+    Refused(Refusal),
+    Bad,
+}
+
+fn place(n: Numbered) -> Placing
+    ensures { λ r. ⌜ r ≡ placingOf n ⌝ }
+{
+    match n {
+        Numbered::Number(k) => Placing::Square(k),
+        Numbered::Refused(e) => Placing::Refused(e),
+    }
+}
+
+// The square of a text.
+pub(crate) fn square(word: &[u8]) -> Placing
+    ensures { λ r. ⌜ r ≡ squareOf (now (word .entry)) ⌝ }
+{
+    let mut space = [0u8; 4097];
+    match escapes::unescape(word, &mut space) {
+        Undone::Length(n) => place(texts::square::from_str(&space[..n])),
+        Undone::Bad => Placing::Bad,
     }
 }

@@ -1,5 +1,6 @@
 // The requests of the program `dame`: one a line, one answer line each, in the form of the Rust's line protocol.
 mod answers;
+mod asked;
 mod escapes;
 mod heard;
 pub mod lines;

@@ -2,7 +2,7 @@
 use texts::bytes;
 ghost use mathlib.Core.Path.{_≡_};
 ghost use Prim.Native.Nat.{_≤_, _<_};
-ghost use Rattle.requests.specs.Numbers.{digitOf, numberIn, unsignedOf, withoutPrefix, setOf, positiveOf, negativeOf, signedOf};
+ghost use Rattle.requests.specs.Numbers.{digitOf, AtMost, numberIn, unsignedOf, withoutPrefix, setOf, positiveOf, negativeOf, signedOf};
 
 pub enum Parsed {
     Value(u64),
@@ -43,7 +43,7 @@ pub(crate) fn digit(b: u8) -> u8
 // One digit or more, at most the limit.
 fn number(s: &[u8], base: u64, limit: u64) -> Parsed
     requires { ⌜ 0 < base ⌝ }
-    ensures { λ r. ⌜ r ≡ numberIn base limit (now (s .entry)) ⌝ }
+    ensures { λ r. ⌜ (r ≡ numberIn base limit (now (s .entry))) × AtMost limit r ⌝ }
 {
     if s.len() == 0 {
         return Parsed::Bad;
@@ -69,7 +69,7 @@ fn number(s: &[u8], base: u64, limit: u64) -> Parsed
 
 // A number of 32 bits.
 pub(crate) fn unsigned(s: &[u8]) -> Parsed
-    ensures { λ r. ⌜ r ≡ unsignedOf (now (s .entry)) ⌝ }
+    ensures { λ r. ⌜ (r ≡ unsignedOf (now (s .entry))) × AtMost 4294967295 r ⌝ }
 {
     number(bytes::strip(s, b'+'), 10, 0xFFFF_FFFF)
 }

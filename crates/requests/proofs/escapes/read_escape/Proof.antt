@@ -8,7 +8,7 @@ use Rattle.requests.proofs.escapes.hex_escape.Reads as hex-escape-reads
 
 -- src/escapes.rt:50:9
 returns : tie.Need-returns
-returns c = search needs
+returns c = ?
 
 -- src/escapes.rt:52:11
 shared-slice-read-match : tie.Need-shared-slice-read-match
@@ -32,31 +32,31 @@ hex-escape-requires c κs = search needs
 
 -- src/escapes.rt:46:1
 returns-2 : tie.Need-returns-2
-returns-2 c = search needs
+returns-2 c = ?
 
 -- src/escapes.rt:46:1
 returns-3 : tie.Need-returns-3
-returns-3 c = search needs
+returns-3 c = ?
 
 -- src/escapes.rt:46:1
 returns-4 : tie.Need-returns-4
-returns-4 c = search needs
+returns-4 c = ?
 
 -- src/escapes.rt:46:1
 returns-5 : tie.Need-returns-5
-returns-5 c = search needs
+returns-5 c = ?
 
 -- src/escapes.rt:46:1
 returns-6 : tie.Need-returns-6
-returns-6 c = search needs
+returns-6 c = ?
 
 -- src/escapes.rt:46:1
 returns-7 : tie.Need-returns-7
-returns-7 c = search needs
+returns-7 c = ?
 
 -- src/escapes.rt:46:1
 returns-8 : tie.Need-returns-8
-returns-8 c = search needs
+returns-8 c = ?
 
 pub read-escape-spec : {M : Type 1} → statement M
 read-escape-spec =

@@ -15,7 +15,7 @@ abbrev μ-loop : tie.MeasureT-loop
 
 -- src/escapes.rt:69:5
 loop-holds : tie.Need-loop-holds Inv-loop μ-loop
-loop-holds c = search needs
+loop-holds c = ?
 
 -- src/escapes.rt:70:17
 shared-slice-read-b : tie.Need-shared-slice-read-b Inv-loop μ-loop
@@ -51,15 +51,15 @@ put-byte-requires c κs = search needs
 
 -- src/escapes.rt:76:21
 add-i-2 : tie.Need-add-i-2 Inv-loop μ-loop
-add-i-2 c = search needs
+add-i-2 c = ?
 
 -- src/escapes.rt:69:5
 loop-less : tie.Need-loop-less Inv-loop μ-loop
-loop-less c = search needs
+loop-less c = ?
 
 -- src/escapes.rt:69:5
 loop-again : tie.Need-loop-again Inv-loop μ-loop
-loop-again c = search needs
+loop-again c = ?
 
 -- src/escapes.rt:79:21
 enum-told : tie.Need-enum-told Inv-loop μ-loop
@@ -67,11 +67,11 @@ enum-told c = search needs
 
 -- src/escapes.rt:79:21
 same-length : tie.Need-same-length Inv-loop μ-loop
-same-length c = search needs
+same-length c = ?
 
 -- src/escapes.rt:79:21
 returns : tie.Need-returns Inv-loop μ-loop
-returns c = search needs
+returns c = ?
 
 -- src/escapes.rt:83:13
 put-byte-requires-2 : tie.Need-put-byte-requires-2 Inv-loop μ-loop
@@ -79,19 +79,19 @@ put-byte-requires-2 c κs = search needs
 
 -- src/escapes.rt:69:5
 loop-less-2 : tie.Need-loop-less-2 Inv-loop μ-loop
-loop-less-2 c = search needs
+loop-less-2 c = ?
 
 -- src/escapes.rt:69:5
 loop-again-2 : tie.Need-loop-again-2 Inv-loop μ-loop
-loop-again-2 c = search needs
+loop-again-2 c = ?
 
 -- src/escapes.rt:64:1
 same-length-2 : tie.Need-same-length-2 Inv-loop μ-loop
-same-length-2 c = search needs
+same-length-2 c = ?
 
 -- src/escapes.rt:64:1
 returns-2 : tie.Need-returns-2 Inv-loop μ-loop
-returns-2 c = search needs
+returns-2 c = ?
 
 pub unescape-spec : {M : Type 1} → statement M
 unescape-spec =

@@ -1,0 +1,53 @@
+use borrow.Author.Needs.{needs}
+use native.Mathlib.Omega.{arith}
+use Rattle.requests.proofs.answers.tell_placed.Statement.{statement}
+use Rattle.requests.proofs.answers.tell_placed.Tie as tie
+use Rattle.requests.proofs.answers.tell_placed.Reads as reads
+use Rattle.requests.proofs.answers.tell_placed.Lts as lts
+use Rattle.requests.proofs.answers.tell_fen.Reads as tell-fen-reads
+use Rattle.requests.proofs.output.put_refusal.Reads as put-refusal-reads
+
+-- src/answers.rt:108:26
+enum-known-p : tie.Need-enum-known-p
+enum-known-p c = search needs
+
+-- src/answers.rt:108:32
+tell-fen-requires : tie.Need-tell-fen-requires
+tell-fen-requires c κs = search needs
+
+-- src/answers.rt:109:25
+enum-known-p-2 : tie.Need-enum-known-p-2
+enum-known-p-2 c = search needs
+
+-- src/answers.rt:109:31
+put-refusal-requires : tie.Need-put-refusal-requires
+put-refusal-requires c κs = search needs
+
+-- src/answers.rt:104:1
+same-length : tie.Need-same-length
+same-length c = search needs
+
+-- src/answers.rt:104:1
+returns : tie.Need-returns
+returns c = ?
+
+-- src/answers.rt:104:1
+same-length-2 : tie.Need-same-length-2
+same-length-2 c = search needs
+
+-- src/answers.rt:104:1
+returns-2 : tie.Need-returns-2
+returns-2 c = ?
+
+pub tell-placed-spec : {M : Type 1} → statement M
+tell-placed-spec =
+    tie.close
+    (tie.spec
+    enum-known-p
+    tell-fen-requires
+    enum-known-p-2
+    put-refusal-requires
+    same-length
+    returns
+    same-length-2
+    returns-2)
