@@ -29,9 +29,11 @@ use Rattle.movegen.specs.declared.perft.Counted.the-variants as counted
 use Rattle.texts.specs.Fen.{fenText}
 use Rattle.texts.specs.Hub.{hubText}
 use Rattle.notation.specs.MoveText.{moveText}
-use Rattle.requests.specs.Output.{bytes, decimal, hex, hash, signed, refusal}
+use Rattle.requests.specs.Output.{bytes, decimal, hex, hash, signed, refusal, bad}
 use Rattle.requests.specs.declared.answers.Asked.{Asked}
 use Rattle.requests.specs.declared.answers.Asked.the-variants as asked
+use Rattle.requests.specs.declared.heard.Heard.{Heard}
+use Rattle.requests.specs.declared.heard.Heard.the-variants as heard
 
 abbrev pub ok : List ℕ → List ℕ
 ok t = bytes "ok " ++ t
@@ -126,3 +128,9 @@ answerTo asked.Hash p = hashAnswer p
 answerTo asked.Flip p = placedAnswer (flippedOf p)
 answerTo asked.Caps p = testedAnswer (hasCapturesOf p)
 answerTo asked.Quiet p = testedAnswer (hasQuietMovesOf p)
+
+-- ---- what goes on with the position that was heard
+abbrev pub onHeard : Heard → (Position → List ℕ) → List ℕ
+onHeard (heard.Position p) k = k p
+onHeard (heard.Refused e) k = refusal e
+onHeard heard.Bad k = bad

@@ -4,4 +4,6 @@ pub mod Numbers
 pub mod Escapes
 pub mod Heard
 pub mod Answers
+pub mod States
+pub mod Plays
 pub mod Requests

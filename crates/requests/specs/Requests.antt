@@ -26,15 +26,14 @@ use Rattle.requests.specs.Output.{bytes, decimal, refusal, bad}
 use Rattle.requests.specs.Words.{sameText, firstWord, afterWord, wordAt, blanksIn}
 use Rattle.requests.specs.Numbers.{unsignedOf, setOf, signedOf}
 use Rattle.requests.specs.Heard.{positionOf, listedMoveOf, squareOf}
-use Rattle.requests.specs.Answers.{ok, scoredAnswer, countedAnswer, placedAnswer, listAnswer, dividedAnswer, moveAnswer, afterAnswer, answerTo}
+use Rattle.requests.specs.Answers.{ok, onHeard, scoredAnswer, countedAnswer, placedAnswer, listAnswer, dividedAnswer, moveAnswer, afterAnswer, answerTo}
+use Rattle.requests.specs.Plays.{gamesOf}
 use Rattle.requests.specs.declared.answers.Asked.{Asked}
 use Rattle.requests.specs.declared.answers.Asked.the-variants as asked
 use Rattle.requests.specs.declared.asked.Weights.{Weights}
 use Rattle.requests.specs.declared.asked.Weights.the-variants as weights
 use Rattle.requests.specs.declared.heard.Form.{Form}
 use Rattle.requests.specs.declared.heard.Form.the-variants as form
-use Rattle.requests.specs.declared.heard.Heard.{Heard}
-use Rattle.requests.specs.declared.heard.Heard.the-variants as heard
 use Rattle.requests.specs.declared.heard.Meant.{Meant}
 use Rattle.requests.specs.declared.heard.Meant.the-variants as meant
 use Rattle.requests.specs.declared.heard.Placing.{Placing}
@@ -45,11 +44,6 @@ use Rattle.requests.specs.declared.numbers.Signed.{Signed}
 use Rattle.requests.specs.declared.numbers.Signed.the-variants as signed
 
 -- ---- what goes on with what was read
-abbrev pub onHeard : Heard → (Position → List ℕ) → List ℕ
-onHeard (heard.Position p) k = k p
-onHeard (heard.Refused e) k = refusal e
-onHeard heard.Bad k = bad
-
 abbrev pub onMeant : Meant → (Move → List ℕ) → List ℕ
 onMeant (meant.Move m) k = k m
 onMeant (meant.Refused e) k = refusal e
@@ -157,7 +151,7 @@ countingOf name arg =
     cond (sameText name (bytes "perft")) (perftAnswer arg)
     (cond (sameText name (bytes "divide")) (divideAnswer arg)
     (cond (sameText name (bytes "atmost")) (atmostAnswer arg)
-    (cond (sameText name (bytes "evalw")) (evalwAnswer arg) bad)))
+    (cond (sameText name (bytes "evalw")) (evalwAnswer arg) (gamesOf name arg))))
 
 unfoldable pub wordingOf : List ℕ → List ℕ → List ℕ
 wordingOf name arg =

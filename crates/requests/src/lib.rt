@@ -6,5 +6,7 @@ mod heard;
 pub mod lines;
 mod numbers;
 mod output;
+mod plays;
 pub mod requests;
+mod states;
 mod words;

@@ -3,6 +3,7 @@ use crate::answers::Asked;
 use crate::asked;
 use crate::heard::Form;
 use crate::output;
+use crate::plays;
 use crate::words;
 ghost use mathlib.Core.Path.{_≡_};
 ghost use Prim.Native.Nat.{min};
@@ -29,7 +30,7 @@ fn counting(name: &[u8], arg: &[u8], out: &mut [u8], at: usize) -> usize
     if words::same(name, b"evalw") {
         return asked::evalw(arg, out, at);
     }
-    output::put_bad(out, at)
+    plays::games(name, arg, out, at)
 }
 
 // Requests with other words.
