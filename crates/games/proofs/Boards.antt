@@ -1,17 +1,17 @@
 -- Lists of boards: the last one, how often a board stands among them, and boards of another measure, which it is not.
-use mathlib.Core.Path.{_≡_, refl, sym, ap, ap₂, _∙_, subst}
+use mathlib.Core.Path.{_≡_, refl, sym, ap, ap₂, _∙_}
+use mathlib.Core.Logic.{_↔_}
 use Prim.Native.Nat.{ℕ, suc, _+_}
-use native.Mathlib.Nat.{add-assoc, add-comm}
 use native.Mathlib.Omega.{arith}
-use mathlib.Core.Bool.{Bool, true, false, cond, _&&_, true≢false, false≢true}
+use mathlib.Core.Bool.{Bool, true, false, cond, _&&_, false≢true}
 use mathlib.Core.List.{List, [], _∷_, _++_, map}
 use lib.Dec.{eqb}
-use borrow.Author.Tests.{eqb-true}
+use borrow.Author.Tests.{eqb-true, eq-eqb}
 use Rattle.squares.specs.declared.piece.Color.{Color}
 use Rattle.squares.specs.declared.piece.Color.the-variants.{White, Black}
-use Rattle.squares.proofs.Bools.{and-left, and-right}
+use Rattle.squares.proofs.Bools.{and-left, and-right, and-both}
 use Rattle.positions.specs.Boards.{Board, board, boardOf, sameColor, sameBoard}
-use Rattle.positions.specs.Measure.{piecesOn, rowsAhead, Smaller, fewer, nearer, Level}
+use Rattle.positions.specs.Measure.{Smaller, fewer, nearer, Level}
 use Rattle.positions.specs.declared.position.Position.{Position}
 use Rattle.positions.proofs.Measures.{not-smaller}
 use Rattle.rules.specs.Lists.{times}
@@ -81,6 +81,19 @@ board-true a b e =
     let k : a .kings ≡ b .kings = eqb-true _ _ (and-right (eqb (a .black) (b .black)) _ rest) in
     let s : a .side ≡ b .side = color-true _ _ (and-right (eqb (a .white) (b .white) && (eqb (a .black) (b .black) && eqb (a .kings) (b .kings))) _ e) in
     ap₂ (λ (w l : ℕ). board w l (a .kings) (a .side)) w l ∙ ap₂ (λ (k : ℕ) (s : Color). board (b .white) (b .black) k s) k s
+
+color-refl : (c : Color) → sameColor c c ≡ true
+color-refl White = refl
+color-refl Black = refl
+
+board-refl : (a : Board) → sameBoard a a ≡ true
+unfolding sameBoard
+board-refl a =
+    and-both _ _ (and-both _ _ (eq-eqb (a .white) _ refl) (and-both _ _ (eq-eqb (a .black) _ refl) (eq-eqb (a .kings) _ refl))) (color-refl (a .side))
+
+-- the test says so exactly of equal boards
+pub same-board : (a b : Board) → (sameBoard a b ≡ true) ↔ (a ≡ b)
+same-board a b = (board-true a b, λ e. ap (sameBoard a) (sym e) ∙ board-refl a)
 
 -- ---- how often a board stands
 pub times-append : (p : Board) (xs ys : List Board) → timesIn p (xs ++ ys) ≡ timesIn p xs + timesIn p ys

@@ -3,7 +3,7 @@
 use mathlib.Core.Path.{_≡_, refl, sym, ap, ap₂, _∙_}
 use Prim.Native.Nat.{ℕ, suc, _+_}
 use native.Mathlib.Omega.{arith}
-use mathlib.Core.Bool.{Bool, true, false, not, cond, true≢false, false≢true}
+use mathlib.Core.Bool.{Bool, true, false, not, cond}
 use mathlib.Core.List.{List, [], _∷_}
 use lib.Dec.{eqb, ltb}
 use lib.ListN.{length}
@@ -13,7 +13,7 @@ use Rattle.squares.specs.Sets.{size}
 use Rattle.squares.specs.declared.refusal.Refusal.{Refusal}
 use Rattle.squares.specs.declared.refusal.Refusal.the-variants.{NoSuchSquare, BadPosition, BadGame, GameOver, NoMoveFits, TooManyMoves}
 use Rattle.squares.specs.declared.refusal.Answer.the-variants as answer
-use Rattle.positions.specs.Acceptance.{Accepted, sound, Sound}
+use Rattle.positions.specs.Acceptance.{sound}
 use Rattle.positions.specs.Boards.{Board, boardOf, menOf, kingsOf}
 use Rattle.positions.specs.Hash.{positionOf}
 use Rattle.positions.specs.Moves.{isCapture, squaresOf}
@@ -24,15 +24,14 @@ use Rattle.positions.specs.declared.position.Placed.the-variants as placed
 use Rattle.positions.proofs.Accepts.{says-sound, position-sound}
 use Rattle.positions.proofs.Kept.{successor-accepted}
 use Rattle.rules.specs.Ordered.{legal, listed}
-use Rattle.rules.specs.Rules.{Legal, AtMost, NoJump}
+use Rattle.rules.specs.Rules.{Legal}
 use Rattle.rules.proofs.Laws.{fair-of-accepted, listed-legal, legal-playable, legal-most, legal-quiet}
 use Rattle.movegen.specs.Lists.{afterOf}
 use Rattle.movegen.proofs.Answers.{after-many, after-none, after-one}
-use Rattle.games.specs.Book.{Book, tallyOf, standing, begunBook, Verdict, goesOn, ends, bookOutcome, over, onTheBoard, bookAnswer, bookPlayed, bookNext, bookAnswers, bookAfter}
+use Rattle.games.specs.Book.{Book, tallyOf, standing, begunBook, Verdict, goesOn, ends, bookOutcome, over, onTheBoard, bookAnswer, reached, bookPlayed, bookNext, bookAnswers, bookAfter}
 use Rattle.games.specs.Demand3.{answersTo, gameAfter, heardOf, heard, toldAs, bookOf, AtAccepted, TakesMost, NoneOpen, Demand3}
 use Rattle.games.specs.Games.{blankPosition, lastOf, valid, stood, judgedOf, ended}
 use Rattle.games.specs.Play.{freshOf, newOf, movedOf, refusedPlay, reachedOf, playOf, outcomeOf}
-use Rattle.games.specs.declared.game.Begun.{Begun}
 use Rattle.games.specs.declared.game.Game.{Game}
 use Rattle.games.specs.declared.game.Judged.the-variants as judged
 use Rattle.games.specs.declared.game.Played.{Played}
@@ -95,7 +94,7 @@ module _ (start : Board) (g : Game) (b : Book) (r : Stands start g b) (m : Move)
   }
 
   -- accepted: the successor stands in both
-  accepted : (q : Position) → boardOf q ≡ successor (standing b) m → playOf g m ≡ record { answer = answer.Done; game = movedOf g m q } → bookAnswer b m ≡ 0
+  accepted : (q : Position) → boardOf q ≡ reached b m → playOf g m ≡ record { answer = answer.Done; game = movedOf g m q } → bookAnswer b m ≡ 0
       → ended (judgedOf g) ≡ false → Legal (standing b) m → sound q ≡ true → Step start g b m
   accepted q e p k o h s = record {
     answer = ap (λ (x : Played). answerNumberOf (x .answer)) p ∙ sym k;
@@ -131,7 +130,7 @@ module _ (start : Board) (g : Game) (b : Book) (r : Stands start g b) (m : Move)
           let fair = fair-of-accepted (standing b) a in
           let move = listed-legal (standing b) fair m .0 k in
           let next = successor-accepted (standing b) m a (legal-playable (standing b) fair m move) in
-          accepted (positionOf (successor (standing b) m)) refl
+          accepted (positionOf (successor (standing b) m)) (unfold reached in refl)
           (play-is g m (r .valid) true false q f
           ∙ ap (reachedOf g m) (after-one (lastOf g) (r .sound) m q (rw (← board-is) h) (rw (← board-is) k) ∙ ap (λ (x : Board). placed.Position (positionOf (successor x m))) (sym board-is)))
           (meets b m true false false true (sym (squares-agree m) ∙ q) (over-is false f) h k)

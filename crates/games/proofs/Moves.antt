@@ -8,29 +8,28 @@ use lib.Bits.{bitAnd}
 use lib.Dec.{eqb, ltb}
 use borrow.Author.Tests.{lt-ltb, le-ltb, eqb-true, eqb-false, eq-eqb, not-true, not-false}
 use Rattle.squares.specs.Sets.{has, size, without}
-use Rattle.squares.specs.Squares.{bitOf, containsOf, promotion}
+use Rattle.squares.specs.Squares.{bitOf, promotion}
 use Rattle.squares.specs.Pieces.{other}
 use Rattle.squares.specs.declared.piece.Color.{Color}
 use Rattle.squares.specs.declared.piece.Color.the-variants.{White, Black}
 use Rattle.squares.proofs.Bools.{not-so}
 use Rattle.squares.proofs.Numbers.{bit-lt}
-use Rattle.squares.proofs.Pointwise.{has-and, has-without, has-zero, and-lt, without-lt, ext, none-zero}
+use Rattle.squares.proofs.Pointwise.{has-and, has-without, and-lt, without-lt, ext, none-zero}
 use Rattle.squares.proofs.Sizes.{size-zero, size-some}
 use Rattle.positions.specs.Acceptance.{Accepted}
 use Rattle.positions.specs.Boards.{Board, colored, own, enemy, menOf, kingsOf, sameColor}
 use Rattle.positions.specs.Measure.{Ply, capture, man, king, Smaller, fewer, nearer, Level}
 use Rattle.positions.specs.Moves.{isCapture}
 use Rattle.positions.specs.Standing.{promoted, menTaken, kingsTaken}
-use Rattle.positions.specs.Successor.{promotes, successor, Playable}
+use Rattle.positions.specs.Successor.{promotes, Playable}
 use Rattle.positions.specs.declared.moves.Move.{Move}
 use Rattle.positions.proofs.Measures.{capture-falls, man-falls, king-stays}
 use Rattle.positions.proofs.Plays.{contains-is, promotes-is}
-use Rattle.positions.proofs.Standings.{Standing, standing}
+use Rattle.positions.proofs.Standings as standings
 use Rattle.rules.specs.Rules.{Legal, Fair}
 use Rattle.rules.proofs.Laws.{fair-of-accepted, legal-playable, man-nearer}
-use Rattle.games.specs.Book as book
-use Rattle.games.specs.Book.{Tally, takes, manMove, isPromotion, tallied}
-use Rattle.games.specs.Games.{manMoves, irreversible, materialAfter}
+use Rattle.games.specs.Book.{Tally, Book, standing, takes, manMove, isPromotion, tallied, reached}
+use Rattle.games.specs.Games.{manMoves, irreversible}
 use Rattle.games.proofs.Tests.{fits}
 
 -- ---- sets taken: apart from a colour's pieces, or among them
@@ -154,16 +153,21 @@ module _ (p : Board) (m : Move) (a : Accepted p) (y : Playable p m) where
           ap (λ (c : Color). size (bitAnd (m .captured) (kingsOf c p))) (taken-other c e)
           ∙ ap size (among-kings (m .captured) (enemy p) (p .kings) (y .setFits) (fits p a (other (p .side))) k64 (y .enemies))
 
-  -- what stood before the move, from what stands after it and the tallies
-  pub men-add : (c : Color) (t : Tally) (n : ℕ) → size (menOf c p) + t .promotions + t .menTaken ≡ n
-      → size (menOf c (successor p m)) + tallied c p m t .promotions + tallied c p m t .menTaken ≡ n
-  unfolding tallied
-  men-add c t n e = let s = standing c p m a y in omega (arith, s .men, promoted-is c, men-is c, e)
+-- ---- the pieces standing: what stood before the move, from what stands after it and the tallies
+module _ (b : Book) (m : Move) (a : Accepted (standing b)) (y : Playable (standing b) m) where
+  pub men-add : (c : Color) (t : Tally) (n : ℕ) → size (menOf c (standing b)) + t .promotions + t .menTaken ≡ n
+      → size (menOf c (reached b m)) + tallied c (standing b) m t .promotions + tallied c (standing b) m t .menTaken ≡ n
+  unfolding tallied reached
+  men-add c t n e =
+      let s = standings.standing c (standing b) m a y in
+      omega (arith, s .men, promoted-is (standing b) m a y c, men-is (standing b) m a y c, e)
 
-  pub kings-add : (c : Color) (t : Tally) (n : ℕ) → size (kingsOf c p) + t .kingsTaken ≡ n + t .promotions
-      → size (kingsOf c (successor p m)) + tallied c p m t .kingsTaken ≡ n + tallied c p m t .promotions
-  unfolding tallied
-  kings-add c t n e = let s = standing c p m a y in omega (arith, s .kings, promoted-is c, kings-are c, e)
+  pub kings-add : (c : Color) (t : Tally) (n : ℕ) → size (kingsOf c (standing b)) + t .kingsTaken ≡ n + t .promotions
+      → size (kingsOf c (reached b m)) + tallied c (standing b) m t .kingsTaken ≡ n + tallied c (standing b) m t .promotions
+  unfolding tallied reached
+  kings-add c t n e =
+      let s = standings.standing c (standing b) m a y in
+      omega (arith, s .kings, promoted-is (standing b) m a y c, kings-are (standing b) m a y c, e)
 
 -- ---- the three kinds of a ply
 pub ply-of : (p : Board) (m : Move) → Accepted p → Legal p m → Ply p m
@@ -187,23 +191,23 @@ ply-of p m a h = go (isCapture m) refl
     go false e = still e (has (p .kings) (bitOf (m .from))) refl
 
 -- ---- a capture or a man move lowers the measure, a quiet king move keeps it
-pub data Measured (p : Board) (m : Move) : Type 0 where
-  falls : irreversible p m ≡ true → Smaller (successor p m) p → Measured p m
-  stays : irreversible p m ≡ false → Level (successor p m) p → Measured p m
+pub data Measured (b : Book) (m : Move) : Type 0 where
+  falls : irreversible (standing b) m ≡ true → Smaller (reached b m) (standing b) → Measured b m
+  stays : irreversible (standing b) m ≡ false → Level (reached b m) (standing b) → Measured b m
 
-pub measured : (p : Board) (m : Move) → Accepted p → Legal p m → Measured p m
-unfolding irreversible takes isCapture
-measured p m a h = go (ply-of p m a h)
+pub measured : (b : Book) (m : Move) → Accepted (standing b) → Legal (standing b) m → Measured b m
+unfolding irreversible takes isCapture reached
+measured b m a h = go (ply-of (standing b) m a h)
   where
-    y : Playable p m
-    y = legal-playable p (fair-of-accepted p a) m h
+    y : Playable (standing b) m
+    y = legal-playable (standing b) (fair-of-accepted (standing b) a) m h
 
-    go : Ply p m → Measured p m
+    go : Ply (standing b) m → Measured b m
     go (capture n) =
-        falls (ap (λ (t : Bool). t || manMoves p m) (taking-agrees p m a y ∙ lt-ltb 0 (size (m .captured)) n))
-        (fewer (capture-falls p m a y n))
+        falls (ap (λ (t : Bool). t || manMoves (standing b) m) (taking-agrees (standing b) m a y ∙ lt-ltb 0 (size (m .captured)) n))
+        (fewer (capture-falls (standing b) m a y n))
     go (man z k n) =
-        let f = man-falls p m a y z k n in
-        falls (ap (λ (t : Bool). isCapture m || t) (man-is p m a y ∙ ap not k) ∙ or-true (isCapture m)) (nearer (f .0) (f .1))
+        let f = man-falls (standing b) m a y z k n in
+        falls (ap (λ (t : Bool). isCapture m || t) (man-is (standing b) m a y ∙ ap not k) ∙ or-true (isCapture m)) (nearer (f .0) (f .1))
     go (king z k) =
-        stays (ap₂ (λ (s t : Bool). s || t) (ap not (eq-eqb (m .captured) 0 z)) (man-is p m a y ∙ ap not k)) (king-stays p m a y z k)
+        stays (ap₂ (λ (s t : Bool). s || t) (ap not (eq-eqb (m .captured) 0 z)) (man-is (standing b) m a y ∙ ap not k)) (king-stays (standing b) m a y z k)

@@ -1,10 +1,10 @@
 -- Demand 3 of the list that `replay` is lent: what it writes and hands back is what is heard of the plays.
-use mathlib.Core.Path.{_≡_, refl, sym, ap, _∙_}
-use Prim.Native.Nat.{ℕ, _/_}
+use mathlib.Core.Path.{_≡_, ap, _∙_}
+use Prim.Native.Nat.{ℕ}
 use native.Mathlib.Omega.{arith}
 use mathlib.Core.Bool.{Bool, true, cond}
 use mathlib.Core.List.{List, _++_}
-use lib.ListN.{length, take, drop}
+use lib.ListN.{length, take}
 use lib.Seq.{take-at}
 use Rattle.squares.specs.declared.refusal.Answer.{Answer}
 use Rattle.squares.specs.declared.refusal.Answer.the-variants.{Done, Refused}
@@ -15,7 +15,7 @@ use Rattle.positions.specs.declared.moves.Move.{Move}
 use Rattle.positions.specs.declared.position.Position.{Position}
 use Rattle.games.specs.Play.{freshOf, notBegun, newOf, playOf, outcomeOf}
 use Rattle.games.specs.Demand3.{answersTo, gameAfter, heardOf, Demand3}
-use Rattle.games.specs.Replay.{movesIn, heardBy}
+use Rattle.games.specs.Replay.{heardBy}
 use Rattle.games.specs.declared.game.Begun.{Begun}
 use Rattle.games.specs.declared.game.Game.{Game}
 use Rattle.games.proofs.Laws.{demand3}

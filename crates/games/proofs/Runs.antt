@@ -1,6 +1,6 @@
 -- Laws on a list of plays, one play at a time, and on the numbers that records are lent as.
 use mathlib.Core.Path.{_≡_, refl, sym, ap, ap₂, _∙_}
-use Prim.Native.Nat.{ℕ, zero, suc, _+_, _*_, _/_, _<_, _≤_}
+use Prim.Native.Nat.{ℕ, zero, suc, _+_, _*_, _/_, _<_}
 use native.Mathlib.Omega.{arith}
 use native.Mathlib.Numerals.{add-one}
 use mathlib.Core.Bool.{Bool, true, false, cond, and-false}
@@ -21,7 +21,6 @@ use Rattle.games.specs.Play.{refusedPlay, playOf}
 use Rattle.games.specs.Demand3.{answersTo, gameAfter}
 use Rattle.games.specs.Replay.{movesIn, squareIn}
 use Rattle.games.specs.declared.game.Game.{Game}
-use Rattle.games.specs.declared.game.Played.{Played}
 
 -- ---- one play more
 

@@ -1,11 +1,10 @@
 -- The game stands for the book: the book's positions are older ones and then the kept window; every older one has a larger
 -- measure, so it cannot come back; every kept one is sound; the counters agree, the second up to 32; the pieces add up.
-use mathlib.Core.Path.{_≡_, refl, sym, ap, ap₂, _∙_, subst}
-use mathlib.Core.Logic.{_⊎_, inl, inr}
+use mathlib.Core.Path.{_≡_, refl, sym, ap, ap₂, _∙_}
 use Prim.Native.Nat.{ℕ, _+_, _<_, _≤_, min}
 use native.Mathlib.Nat.{min-eq-left, min-eq-right}
 use native.Mathlib.Omega.{arith}
-use mathlib.Core.Bool.{Bool, true, false, not, cond, _&&_, _||_, true≢false, false≢true}
+use mathlib.Core.Bool.{Bool, true, false, cond, _||_, true≢false}
 use mathlib.Core.List.{List, [], _∷_, _++_, map, map-append, append-assoc}
 use lib.Dec.{leb}
 use lib.ListN.{length}
@@ -16,18 +15,15 @@ use Rattle.squares.specs.declared.piece.Color.{Color}
 use Rattle.squares.specs.declared.piece.Color.the-variants.{White, Black}
 use Rattle.positions.specs.Acceptance.{Accepted, sound, Sound}
 use Rattle.positions.specs.Boards.{Board, boardOf, menOf, kingsOf}
-use Rattle.positions.specs.Hash.{positionOf}
-use Rattle.positions.specs.Measure.{Ply, capture, man, king, Smaller, fewer, nearer, Level}
-use Rattle.positions.specs.Moves.{isCapture}
-use Rattle.positions.specs.Successor.{promotes, successor, Playable}
+use Rattle.positions.specs.Measure.{Smaller, Level}
+use Rattle.positions.specs.Successor.{Playable}
 use Rattle.positions.specs.declared.moves.Move.{Move}
 use Rattle.positions.specs.declared.position.Position.{Position}
-use Rattle.positions.proofs.Accepts.{sound-says, says-sound, position-sound}
-use Rattle.positions.proofs.Kept.{successor-accepted}
-use Rattle.positions.proofs.Measures.{capture-falls, man-falls, king-stays, smaller-trans}
+use Rattle.positions.proofs.Accepts.{sound-says}
+use Rattle.positions.proofs.Measures.{smaller-trans}
 use Rattle.rules.specs.Rules.{Legal}
 use Rattle.rules.proofs.Laws.{fair-of-accepted, legal-playable}
-use Rattle.games.specs.Book.{Tally, Book, tallyOf, lastIn, standing, begunBook, timesIn, firstToHold, testsAt, bookOutcome, takes, manMove, isPromotion, tallied, bookPlayed}
+use Rattle.games.specs.Book.{Tally, Book, tallyOf, lastIn, standing, begunBook, timesIn, firstToHold, testsAt, bookOutcome, takes, isPromotion, tallied, reached, bookPlayed}
 use Rattle.games.specs.Demand3.{toldAs}
 use Rattle.games.specs.Games.{windowOf, lastOf, valid, stood, irreversible, materialAfter, canMove, won, drawn, kingEnding, judge, judgedOf, ended}
 use Rattle.games.specs.declared.game.Termination.the-variants.{Repetition, TwentyFiveMoves}
@@ -36,7 +32,7 @@ use Rattle.games.specs.declared.game.Game.{Game}
 use Rattle.games.proofs.Boards.{last-snoc, Each, each-none, each-one, each-append, each-from, level-refl, level-trans, smaller-level, level-smaller, times-append, times-none, times-boards}
 use Rattle.games.proofs.Moves.{man-agrees, promotion-agrees, taking-agrees, men-add, kings-add, Measured, falls, stays, measured}
 use Rattle.games.proofs.Tests.{outcome-agrees}
-use Rattle.games.proofs.Valid.{Valid, valid-says, material-fits, alone-window, alone-last, alone-long, alone-first, alone-second, alone-valid, more-window, more-last, more-long, more-first, more-second, more-valid}
+use Rattle.games.proofs.Valid.{valid-says, material-fits, alone-window, alone-last, alone-long, alone-first, alone-second, alone-valid, more-window, more-last, more-long, more-first, more-second, more-valid}
 
 -- the window as boards
 abbrev pub boards : Game → List Board
@@ -129,7 +125,7 @@ room p n f s e = leb-false 50 f (go (canMove p) (leb 3 n) (leb 50 f) e)
     go true false true q = absurd (true≢false q)
     go true false false q = refl
 
-module _ (start : Board) (g : Game) (b : Book) (r : Stands start g b) (m : Move) (o : g .reversible < 50) (h : Legal (standing b) m) (q : Position) (s : sound q ≡ true) (e : boardOf q ≡ successor (standing b) m) where
+module _ (start : Board) (g : Game) (b : Book) (r : Stands start g b) (m : Move) (o : g .reversible < 50) (h : Legal (standing b) m) (q : Position) (s : sound q ≡ true) (e : boardOf q ≡ reached b m) where
   a : Accepted (standing b)
   a = now-accepted start g b r
 
@@ -137,12 +133,12 @@ module _ (start : Board) (g : Game) (b : Book) (r : Stands start g b) (m : Move)
   y = legal-playable (standing b) (fair-of-accepted (standing b) a) m h
 
   -- the game's measure, from that of the book's last position
-  down : {x : Board} → Smaller (successor (standing b) m) (standing b) → Level (boardOf (lastOf g)) x → Smaller (boardOf q) x
+  down : {x : Board} → Smaller (reached b m) (standing b) → Level (boardOf (lastOf g)) x → Smaller (boardOf q) x
   down {x} f v = rw e (smaller-level f (rw (r .last) v))
 
   new-last : standing (bookPlayed b m) ≡ boardOf q
   unfolding bookPlayed
-  new-last = last-snoc (b .positions) (successor (standing b) m) ∙ sym e
+  new-last = last-snoc (b .positions) (reached b m) ∙ sym e
 
   new-tally : (c : Color) → tallyOf c (bookPlayed b m) ≡ tallied c (standing b) m (tallyOf c b)
   unfolding bookPlayed
@@ -152,12 +148,12 @@ module _ (start : Board) (g : Game) (b : Book) (r : Stands start g b) (m : Move)
   new-men : (c : Color) → size (menOf c (standing (bookPlayed b m))) + tallyOf c (bookPlayed b m) .promotions + tallyOf c (bookPlayed b m) .menTaken ≡ size (menOf c start)
   new-men c =
       ap₂ (λ (x : Board) (t : Tally). size (menOf c x) + t .promotions + t .menTaken) (new-last ∙ e) (new-tally c)
-      ∙ men-add (standing b) m a y c (tallyOf c b) (size (menOf c start)) (r .men c)
+      ∙ men-add b m a y c (tallyOf c b) (size (menOf c start)) (r .men c)
 
   new-kings : (c : Color) → size (kingsOf c (standing (bookPlayed b m))) + tallyOf c (bookPlayed b m) .kingsTaken ≡ size (kingsOf c start) + tallyOf c (bookPlayed b m) .promotions
   new-kings c =
       ap₂ (λ (x : Board) (t : Tally). size (kingsOf c x) + t .kingsTaken) (new-last ∙ e) (new-tally c)
-      ∙ kings-add (standing b) m a y c (tallyOf c b) (size (kingsOf c start)) (r .kings c)
+      ∙ kings-add b m a y c (tallyOf c b) (size (kingsOf c start)) (r .kings c)
       ∙ sym (ap (λ (t : Tally). size (kingsOf c start) + t .promotions) (new-tally c))
 
   -- the second counter
@@ -177,7 +173,7 @@ module _ (start : Board) (g : Game) (b : Book) (r : Stands start g b) (m : Move)
   new-first = sym (ap₂ (λ (x z : Bool). cond (x || z) 0 (b .first + 1)) (taking-agrees (standing b) m a y) (man-agrees (standing b) m a y))
 
   -- a capture or a man move: what was kept is older now
-  fallen : irreversible (standing b) m ≡ true → Smaller (successor (standing b) m) (standing b)
+  fallen : irreversible (standing b) m ≡ true → Smaller (reached b m) (standing b)
       → Stands start (aloneOf q (materialAfter (standing b) m (g .material))) (bookPlayed b m)
   fallen i f =
       let n = materialAfter (standing b) m (g .material) in
@@ -200,10 +196,10 @@ module _ (start : Board) (g : Game) (b : Book) (r : Stands start g b) (m : Move)
       }
 
   -- a quiet king move: it is kept behind the others
-  level-now : Level (successor (standing b) m) (standing b) → Level (boardOf q) (boardOf (lastOf g))
+  level-now : Level (reached b m) (standing b) → Level (boardOf q) (boardOf (lastOf g))
   level-now v = rw (e, ← r .last) v
 
-  kept : irreversible (standing b) m ≡ false → Level (successor (standing b) m) (standing b)
+  kept : irreversible (standing b) m ≡ false → Level (reached b m) (standing b)
       → Stands start (appendedOf g q (materialAfter (standing b) m (g .material))) (bookPlayed b m)
   kept i f =
       let n = materialAfter (standing b) m (g .material) in
@@ -233,9 +229,9 @@ module _ (start : Board) (g : Game) (b : Book) (r : Stands start g b) (m : Move)
 
   pub moved-stands : Stands start (movedOf g m q) (bookPlayed b m)
   unfolding movedOf
-  moved-stands = rw (← r .last) (go (measured (standing b) m a h))
+  moved-stands = rw (← r .last) (go (measured b m a h))
     where
-      go : Measured (standing b) m
+      go : Measured b m
           → Stands start (cond (irreversible (standing b) m) (aloneOf q (materialAfter (standing b) m (g .material))) (appendedOf g q (materialAfter (standing b) m (g .material)))) (bookPlayed b m)
       go (falls i f) = rw i (fallen i f)
       go (stays i f) = rw i (kept i f)

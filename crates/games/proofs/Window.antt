@@ -12,7 +12,7 @@ use borrow.Author.Tests.{leb-false}
 use Rattle.squares.specs.Pieces.{other}
 use Rattle.squares.proofs.Bools.{and-left, and-right, not-so}
 use Rattle.positions.specs.Acceptance.{sound}
-use Rattle.positions.specs.Boards.{Board, boardOf}
+use Rattle.positions.specs.Boards.{Board}
 use Rattle.positions.specs.declared.position.Position.{Position}
 use Rattle.rules.specs.Lists.{times}
 use Rattle.games.specs.Games.{blankPosition, windowOf, lastOf, allSound, samePosition, canMove, won, drawn, kingEnding, judge, ended}

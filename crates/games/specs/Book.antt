@@ -154,11 +154,15 @@ tallied c p m t =
       kingsTaken = t .kingsTaken + size (bitAnd (m .captured) (kingsOf c p));
     }
 
+-- the mover is lifted, the set removed, the mover put on the last square, the side changed
+unfoldable pub reached : Book → Move → Board
+reached b m = successor (standing b) m
+
 -- an accepted play
 unfoldable pub bookPlayed : Book → Move → Book
 bookPlayed b m =
     record {
-      positions = b .positions ++ (successor (standing b) m ∷ []);
+      positions = b .positions ++ (reached b m ∷ []);
       first = cond (takes m || manMove (standing b) m) 0 (b .first + 1);
       second = cond (takes m || isPromotion (standing b) m) 0 (b .second + 1);
       white = tallied White (standing b) m (b .white);

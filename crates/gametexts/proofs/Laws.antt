@@ -1,24 +1,23 @@
 -- What playing a text comes to: an accepted text is the play of a listed move, and Hub's text of a legal move plays that move.
-use mathlib.Core.Path.{_≡_, refl, sym, ap, ap₂, _∙_}
+use mathlib.Core.Path.{_≡_, refl, ap, _∙_}
 use Prim.Native.Nat.{ℕ, _≤_}
 use native.Mathlib.Omega.{arith}
-use mathlib.Core.Bool.{Bool, true, false, cond}
+use mathlib.Core.Bool.{Bool, true, false}
 use mathlib.Core.List.{List}
-use lib.Dec.{ltb}
 use lib.ListN.{length}
 use borrow.Author.Tests.{le-ltb}
-use Rattle.squares.specs.declared.refusal.Answer.{Answer}
 use Rattle.squares.specs.declared.refusal.Answer.the-variants.{Done, Refused}
 use Rattle.squares.specs.declared.refusal.Refusal.{Refusal}
-use Rattle.squares.specs.declared.refusal.Refusal.the-variants.{BadGame, GameOver, NoSuchSquare}
-use Rattle.positions.specs.Acceptance.{sound}
+use Rattle.squares.specs.declared.refusal.Refusal.the-variants.{BadGame, GameOver}
+use Rattle.positions.specs.Acceptance.{Sound}
 use Rattle.positions.specs.Boards.{boardOf}
 use Rattle.positions.specs.Hash.{positionOf}
 use Rattle.positions.specs.Moves.{squaresOf}
 use Rattle.positions.specs.Successor.{successor}
 use Rattle.positions.specs.declared.moves.Move.{Move}
 use Rattle.positions.specs.declared.position.Placed.the-variants as placed
-use Rattle.positions.proofs.Accepts.{sound-says}
+use Rattle.positions.specs.declared.position.Position.{Position}
+use Rattle.positions.proofs.Accepts.{says-sound}
 use Rattle.rules.specs.Ordered.{legal, listed}
 use Rattle.movegen.specs.Lists.{afterOf}
 use Rattle.movegen.proofs.Answers.{after-one}
@@ -31,12 +30,17 @@ use Rattle.notation.specs.declared.notation.Heard.{Heard}
 use Rattle.notation.specs.declared.notation.Heard.the-variants as heard
 use Rattle.notation.specs.declared.notation.Said.{Said}
 use Rattle.notation.proofs.Fitted.{Fitted, fit-says}
-use Rattle.notation.proofs.MoveTrip.{Listed, listed-squares, move-back}
+use Rattle.notation.proofs.MoveTrip.{listed-squares, move-back}
 use Rattle.games.specs.Games.{lastOf, valid, judgedOf, ended}
 use Rattle.games.specs.Play.{refusedPlay, movedOf, reachedOf, playOf}
 use Rattle.games.specs.declared.game.Game.{Game}
-use Rattle.games.specs.declared.game.Played.{Played}
-use Rattle.gametexts.specs.Texts.{playFound, playSaid, playHeard, playStrOf}
+use Rattle.gametexts.specs.Texts.{playSaid, playHeard, playStrOf}
+
+-- a listed move of a sound position with at most 256 moves
+pub record Listed (p : Position) (m : Move) : Type 0 where
+  pub sound : Sound p
+  pub few : length (legal (boardOf p)) ≤ 256
+  pub inList : listed (legal (boardOf p)) m ≡ true
 
 -- ---- the record of a listed move is accepted on a game that goes on
 module _ (g : Game) (v : valid g ≡ true) (o : ended (judgedOf g) ≡ false) (m : Move) (l : Listed (lastOf g) m) where
@@ -44,10 +48,10 @@ module _ (g : Game) (v : valid g ≡ true) (o : ended (judgedOf g) ≡ false) (m
   unfolding playOf
   reached q = rw (v, q, o)
 
-  pub listed-played : sound (lastOf g) ≡ true → playOf g m ≡ record { answer = Done; game = movedOf g m (positionOf (successor (boardOf (lastOf g)) m)) }
-  listed-played s =
-      let q = listed-squares (lastOf g) m l in
-      reached q ∙ ap (reachedOf g m) (after-one (lastOf g) s m q (le-ltb _ _ (l .few)) (l .listed))
+  pub listed-played : playOf g m ≡ record { answer = Done; game = movedOf g m (positionOf (successor (boardOf (lastOf g)) m)) }
+  listed-played =
+      let q = listed-squares (lastOf g) m (l .sound) (l .few) (l .inList) in
+      reached q ∙ ap (reachedOf g m) (after-one (lastOf g) (says-sound (lastOf g) (l .sound)) m q (le-ltb _ _ (l .few)) (l .inList))
 
 -- ---- an accepted text
 
@@ -78,9 +82,15 @@ accepted-says g text e = go (valid g) refl (readMoveOf text) refl
     go true v (heard.Said h) r = at h r v (ended (judgedOf g)) refl (fitOf (lastOf g) h) refl
 
 -- ---- Hub's text of a legal move
+
+told : (p : Position) (m : Move) → Listed p m → fitHeard p (readMoveOf (moveText m)) ≡ found.Move m
+unfolding parseMoveOf
+told p m l = rw (says-sound p (l .sound)) at (move-back p m (l .sound) (l .few) (l .inList))
+
 pub hub-played : (g : Game) (m : Move) → valid g ≡ true → ended (judgedOf g) ≡ false → Listed (lastOf g) m → playStrOf g (moveText m) ≡ playOf g m
 unfolding playStrOf playSaid
 hub-played g m v o l = rw v (go (readMoveOf (moveText m)) refl)
   where
     go : (a : Heard) → readMoveOf (moveText m) ≡ a → playHeard g a ≡ playOf g m
-    go a r = ?
+    go (heard.Said h) r = let f = rw r at (told (lastOf g) m l) in rw (o, f)
+    go (heard.Refused e) r = let f = rw r at (told (lastOf g) m l) in let z : _≡_ {A = ℕ} 0 1 = cc in absurd (omega arith)

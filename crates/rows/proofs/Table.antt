@@ -28,6 +28,11 @@ use Rattle.movegen.specs.declared.perft.Counted.the-variants.{Count}
 use Rattle.scores.specs.Computed as scores
 use Rattle.texts.specs.Fen.{fromFenOf}
 use Rattle.texts.proofs.Rows.{bytes}
+use Rattle.games.specs.Computed as games
+use Rattle.games.specs.Games.{won}
+use Rattle.games.specs.Play.{outcomeOf}
+use Rattle.games.specs.declared.game.Judged.{Judged}
+use Rattle.gametexts.specs.Texts.{gameFromFenOf}
 use Rattle.notation.specs.Choice.{parseMoveOf}
 use Rattle.notation.specs.Computed as notation
 use Rattle.notation.specs.declared.notation.Found.{Found}
@@ -49,6 +54,8 @@ pub data Row : Type 0 where
   after : String → Move → Placed → Row
   -- the score with the usual weights
   score : String → Scored → Row
+  -- the outcome of the game begun from it
+  ends : String → Judged → Row
 
 -- the number and the square of a refusal; 0 and 0 where there is none
 abbrev told : Placed → ℕ × ℕ
@@ -71,6 +78,7 @@ Holds (paths t depth a) = of (read t) (λ p. perftOf p depth ≡ a)
 Holds (means t m a) = of (read t) (λ p. parseMoveOf p (bytes m) ≡ a)
 Holds (after t m a) = of (read t) (λ p. afterOf p m ≡ a)
 Holds (score t a) = of (read t) (λ p. evaluateOf default p ≡ a)
+Holds (ends t a) = outcomeOf (gameFromFenOf (bytes t) .game) ≡ a
 
 abbrev pub All : List Row → Type 0
 All [] = Unit
@@ -103,6 +111,7 @@ p1 =
 abbrev pub p2-p5 : List Row
 p2-p5 =
     reads "W" (at (board 0 0 0 White))
+    ∷ ends "W" (won Black)
     ∷ refused "W:" 3 0
     ∷ reads "W:WKK7" (at (board (single 7) 0 (single 7) White))
     ∷ refused "W:WKK 7" 4 0
@@ -132,10 +141,10 @@ p12 = score "W:WK28,K32,33:BK1" (scored.Score (pos 50)) ∷ []
 
 -- the table
 pub table : All p1 × All p2-p5 × All p6-p9 × All p10-p11 × All p12
-unfolding scores.computed notation.computed
+unfolding scores.computed notation.computed games.computed gameFromFenOf
 table = (
   (refl, (refl, (refl, tt))),
-  (refl, (refl, (refl, (refl, (refl, (refl, tt)))))),
+  (refl, (refl, (refl, (refl, (refl, (refl, (refl, tt))))))),
   (refl, (refl, (refl, (refl, (refl, (refl, tt)))))),
   (refl, (refl, (refl, (refl, tt)))),
   (refl, tt),

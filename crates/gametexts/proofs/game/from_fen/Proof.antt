@@ -1,12 +1,8 @@
+-- What was read decides.
+use Rattle.gametexts.specs.Texts.{gameFromFenOf}
 use borrow.Author.Needs.{needs}
-use native.Mathlib.Omega.{arith}
 use Rattle.gametexts.proofs.game.from_fen.Statement.{statement}
 use Rattle.gametexts.proofs.game.from_fen.Tie as tie
-use Rattle.gametexts.proofs.game.from_fen.Reads as reads
-use Rattle.gametexts.proofs.game.from_fen.Lts as lts
-use Rattle.games.proofs.game.Game.from_position.Reads as from-position-reads
-use Rattle.games.proofs.game.not_begun.Reads as not-begun-reads
-use Rattle.texts.proofs.fen.from_fen.Reads as from-fen-reads
 
 from-fen-requires : tie.Need-from-fen-requires
 from-fen-requires c κs = search needs
@@ -24,10 +20,12 @@ not-begun-requires : tie.Need-not-begun-requires
 not-begun-requires c κs = search needs
 
 returns : tie.Need-returns
-returns c = search needs
+unfolding gameFromFenOf
+returns c = rw (← c .before .before .before .before .from-fen .ensures, c .before .before .p .given .1) (c .from-position .ensures)
 
 returns-2 : tie.Need-returns-2
-returns-2 c = search needs
+unfolding gameFromFenOf
+returns-2 c = rw (← c .before .before .before .before .from-fen .ensures, c .before .before .e .given .1) (c .not-begun .ensures)
 
 pub from-fen-spec : {M : Type 1} → statement M
 from-fen-spec =

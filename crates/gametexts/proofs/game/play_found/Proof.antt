@@ -1,11 +1,7 @@
+-- What was found decides: a move is played, a refusal handed on with the game as it came.
 use borrow.Author.Needs.{needs}
-use native.Mathlib.Omega.{arith}
 use Rattle.gametexts.proofs.game.play_found.Statement.{statement}
 use Rattle.gametexts.proofs.game.play_found.Tie as tie
-use Rattle.gametexts.proofs.game.play_found.Reads as reads
-use Rattle.gametexts.proofs.game.play_found.Lts as lts
-use Rattle.games.proofs.game.Game.play.Reads as play-reads
-use Rattle.gametexts.proofs.game.refused.Reads as refused-reads
 
 enum-known-f : tie.Need-enum-known-f
 enum-known-f c = search needs
@@ -20,10 +16,10 @@ refused-requires : tie.Need-refused-requires
 refused-requires c κs = search needs
 
 returns : tie.Need-returns
-returns c = search needs
+returns c = rw (c .before .before .f .given .1) (c .play .ensures)
 
 returns-2 : tie.Need-returns-2
-returns-2 c = search needs
+returns-2 c = rw (c .before .before .f2 .given .1) (c .refused .ensures)
 
 pub play-found-spec : {M : Type 1} → statement M
 play-found-spec =

@@ -1,13 +1,10 @@
+-- 14 before the list is looked at; the current position of a game that 13 lets pass is the one handed in.
+use mathlib.Core.Path.{sym, _∙_}
+use Rattle.gametexts.specs.Texts.{playSaid}
+use Rattle.gametexts.proofs.Answers.{over-at, over-not}
 use borrow.Author.Needs.{needs}
-use native.Mathlib.Omega.{arith}
 use Rattle.gametexts.proofs.game.play_said.Statement.{statement}
 use Rattle.gametexts.proofs.game.play_said.Tie as tie
-use Rattle.gametexts.proofs.game.play_said.Reads as reads
-use Rattle.gametexts.proofs.game.play_said.Lts as lts
-use Rattle.games.proofs.game.Game.is_over.Reads as is-over-reads
-use Rattle.gametexts.proofs.game.play_found.Reads as play-found-reads
-use Rattle.gametexts.proofs.game.refused.Reads as refused-reads
-use Rattle.notation.proofs.notation.fit.Reads as fit-reads
 
 is-over-requires : tie.Need-is-over-requires
 is-over-requires c κs = search needs
@@ -19,7 +16,12 @@ refused-requires : tie.Need-refused-requires
 refused-requires c κs = search needs
 
 returns : tie.Need-returns
-returns c = search needs
+unfolding playSaid
+returns c =
+    let o = c .before .before .before in
+    let s = o .before .before .before in
+    let e = over-at (s .args .g) (s .pre .0) _ (sym (o .before .before .is-over .ensures) ∙ o .over .given .1) ∙ c .before .if1 .taken in
+    rw e (c .refused .ensures)
 
 fit-requires : tie.Need-fit-requires
 fit-requires c κs = search needs
@@ -34,10 +36,17 @@ refused-requires-2 : tie.Need-refused-requires-2
 refused-requires-2 c κs = search needs
 
 returns-2 : tie.Need-returns-2
-returns-2 c = search needs
+unfolding playSaid
+returns-2 c =
+    let o = c .before .before .before .before in
+    let s = o .before .before .before in
+    let e = over-at (s .args .g) (s .pre .0) _ (sym (o .before .before .is-over .ensures) ∙ o .over .given .1) ∙ c .before .before .if1 .left in
+    rw (e, ← s .pre .1, ← c .before .fit .ensures) (c .play-found .ensures)
 
 returns-3 : tie.Need-returns-3
-returns-3 c = search needs
+returns-3 c =
+    let a = c .before .before .before .before in
+    over-not (a .before .args .g) (a .before .pre .0) _ (sym (a .is-over .ensures) ∙ c .before .before .e .given .1)
 
 pub play-said-spec : {M : Type 1} → statement M
 play-said-spec =

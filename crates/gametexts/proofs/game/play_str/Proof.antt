@@ -1,13 +1,11 @@
+-- The position tells 13, the text 1 and 9, what it says the rest.
+use mathlib.Core.Path.{sym, ap, _∙_}
+use Rattle.games.specs.Play.{refusedPlay}
+use Rattle.gametexts.specs.Texts.{playStrOf}
+use Rattle.gametexts.proofs.Answers.{stands-at, stands-not}
 use borrow.Author.Needs.{needs}
-use native.Mathlib.Omega.{arith}
 use Rattle.gametexts.proofs.game.play_str.Statement.{statement}
 use Rattle.gametexts.proofs.game.play_str.Tie as tie
-use Rattle.gametexts.proofs.game.play_str.Reads as reads
-use Rattle.gametexts.proofs.game.play_str.Lts as lts
-use Rattle.games.proofs.game.Game.position.Reads as position-reads
-use Rattle.gametexts.proofs.game.play_said.Reads as play-said-reads
-use Rattle.gametexts.proofs.game.refused.Reads as refused-reads
-use Rattle.notation.proofs.notation.read_move.Reads as read-move-reads
 
 position-requires : tie.Need-position-requires
 position-requires c κs = search needs
@@ -22,7 +20,10 @@ enum-known-said : tie.Need-enum-known-said
 enum-known-said c = search needs
 
 play-said-requires : tie.Need-play-said-requires
-play-said-requires c κs = search needs
+play-said-requires c κs =
+    let p = c .before .before .before .before .before in
+    let o = p .before .before in
+    stands-at (o .before .before .args .g) _ (sym (o .position .ensures) ∙ p .p .given .1)
 
 enum-known-e : tie.Need-enum-known-e
 enum-known-e c = search needs
@@ -37,13 +38,30 @@ refused-requires-2 : tie.Need-refused-requires-2
 refused-requires-2 c κs = search needs
 
 returns : tie.Need-returns
-returns c = search needs
+unfolding playStrOf
+returns c =
+    let r = c .before .before .before .before in
+    let p = r .before .before in
+    let o = p .before .before in
+    let q = stands-at (o .before .before .args .g) _ (sym (o .position .ensures) ∙ p .p .given .1) in
+    rw (q .0, ← r .read-move .ensures, c .before .before .said .given .1) (c .play-said .ensures)
 
 returns-2 : tie.Need-returns-2
-returns-2 c = search needs
+unfolding playStrOf
+returns-2 c =
+    let r = c .before .before .before .before in
+    let p = r .before .before in
+    let o = p .before .before in
+    let q = stands-at (o .before .before .args .g) _ (sym (o .position .ensures) ∙ p .p .given .1) in
+    rw (q .0, ← r .read-move .ensures, c .before .before .e .given .1) (c .refused .ensures)
 
 returns-3 : tie.Need-returns-3
-returns-3 c = search needs
+unfolding playStrOf
+returns-3 c =
+    let o = c .before .before .before .before in
+    let g = o .before .before .args .g in
+    let q = stands-not g _ (sym (o .position .ensures) ∙ c .before .before .e2 .given .1) in
+    rw (q .0) (c .refused2 .ensures ∙ ap (refusedPlay g) (q .1))
 
 pub play-str-spec : {M : Type 1} → statement M
 play-str-spec =
