@@ -1,6 +1,1 @@
-pub mod Pieces
-pub mod WordLaws
-pub mod Values
-pub mod Escaped
-pub mod Numerals
 pub mod Told

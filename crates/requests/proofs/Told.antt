@@ -37,12 +37,12 @@ use Rattle.notation.specs.declared.notation.Found.the-variants as found
 use Rattle.notation.specs.declared.notation.Heard.{Heard as Said}
 use Rattle.notation.specs.declared.notation.Heard.the-variants as said
 use Rattle.notation.proofs.MoveTexts.{move-short}
-use Rattle.requests.specs.Output.{written, Holds}
-use Rattle.requests.specs.Escapes.{Plain, text, broken, plain, undoneOf, Undid}
+use Rattle.wording.specs.Output.{written, Holds}
+use Rattle.wording.specs.Escapes.{Plain, text, broken, plain, undoneOf, Undid}
 use Rattle.requests.specs.Heard.{heardOf, eitherOf, readOf, heardText, positionOf, meantOf, meantText, listedMoveOf, placingOf, placingText, squareOf}
 use Rattle.requests.specs.Answers.{fenWord, hubWord, moveWord}
-use Rattle.requests.specs.declared.escapes.Undone.{Undone}
-use Rattle.requests.specs.declared.escapes.Undone.the-variants as undone
+use Rattle.wording.specs.declared.escapes.Undone.{Undone}
+use Rattle.wording.specs.declared.escapes.Undone.the-variants as undone
 use Rattle.requests.specs.declared.heard.Form.{Form}
 use Rattle.requests.specs.declared.heard.Form.the-variants as form
 use Rattle.requests.specs.declared.heard.Heard.{Heard}
@@ -206,7 +206,6 @@ spelt s o out n u = go (plain s) refl
         let q : n ≡ min (length t) (length o) = (let w : undone.Length n ≡ undone.Length (min (length t) (length o)) = u .answer ∙ ap (undoneOf (length o)) e in cc) in
         record { done = t; whole = e; part = part-of o t out n (u .bytes t e) q; fits = omega (arith, q) }
     go broken e = absurd (let w : undone.Length n ≡ undone.Bad = u .answer ∙ ap (undoneOf (length o)) e in let z : _≡_ {A = ℕ} 0 1 = cc in omega arith)
-
 
 broken-said : (s o out : List ℕ) → Undid s o out undone.Bad → plain s ≡ broken
 broken-said s o out u = go (plain s) refl

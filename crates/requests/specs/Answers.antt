@@ -29,7 +29,7 @@ use Rattle.movegen.specs.declared.perft.Counted.the-variants as counted
 use Rattle.texts.specs.Fen.{fenText}
 use Rattle.texts.specs.Hub.{hubText}
 use Rattle.notation.specs.MoveText.{moveText}
-use Rattle.requests.specs.Output.{bytes, decimal, hex, hash, signed, refusal, bad}
+use Rattle.wording.specs.Output.{bytes, decimal, hex, hash, signed, refusal, bad}
 use Rattle.requests.specs.declared.answers.Asked.{Asked}
 use Rattle.requests.specs.declared.answers.Asked.the-variants as asked
 use Rattle.requests.specs.declared.heard.Heard.{Heard}

@@ -20,7 +20,7 @@ use Rattle.requests.specs.declared.heard.Meant.{Meant}
 use Rattle.requests.specs.declared.heard.Meant.the-variants as meant
 use Rattle.requests.specs.declared.heard.Placing.{Placing}
 use Rattle.requests.specs.declared.heard.Placing.the-variants as placing
-use Rattle.requests.specs.Escapes.{Plain, text, broken, plain}
+use Rattle.wording.specs.Escapes.{Plain, text, broken, plain}
 use Rattle.requests.specs.declared.heard.Form.{Form}
 use Rattle.requests.specs.declared.heard.Form.the-variants as form
 use Rattle.requests.specs.declared.heard.Heard.{Heard}

@@ -1,7 +1,3 @@
-pub mod Output
-pub mod Words
-pub mod Numbers
-pub mod Escapes
 pub mod Heard
 pub mod Answers
 pub mod States

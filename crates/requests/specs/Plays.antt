@@ -18,18 +18,18 @@ use Rattle.games.specs.Play.{newOf, refusedPlay, playOf, outcomeOf, standsOf}
 use Rattle.games.specs.declared.game.Game.{Game}
 use Rattle.games.specs.declared.game.Played.{Played}
 use Rattle.gametexts.specs.Texts.{playStrOf}
-use Rattle.requests.specs.Output.{bytes, decimal, bad}
-use Rattle.requests.specs.Words.{sameText, firstWord, afterWord}
-use Rattle.requests.specs.Numbers.{unsignedOf, setOf}
-use Rattle.requests.specs.Escapes.{Plain, text, broken, plain}
+use Rattle.wording.specs.Output.{bytes, decimal, bad}
+use Rattle.wording.specs.Words.{sameText, firstWord, afterWord}
+use Rattle.wording.specs.Numbers.{unsignedOf, setOf}
+use Rattle.wording.specs.Escapes.{Plain, text, broken, plain}
 use Rattle.requests.specs.Heard.{positionOf, listedMoveOf}
 use Rattle.requests.specs.Answers.{ok, moveWord, onHeard}
 use Rattle.requests.specs.States.{judgedWord, stateText, numberWord, endText}
 use Rattle.requests.specs.declared.heard.Form.the-variants as form
 use Rattle.requests.specs.declared.heard.Meant.{Meant}
 use Rattle.requests.specs.declared.heard.Meant.the-variants as meant
-use Rattle.requests.specs.declared.numbers.Parsed.{Parsed}
-use Rattle.requests.specs.declared.numbers.Parsed.the-variants as parsed
+use Rattle.wording.specs.declared.numbers.Parsed.{Parsed}
+use Rattle.wording.specs.declared.numbers.Parsed.the-variants as parsed
 use Rattle.requests.specs.declared.plays.Given.{Given}
 use Rattle.requests.specs.declared.plays.Given.the-variants as given
 use Rattle.requests.specs.declared.plays.Recorded.{Recorded}

@@ -22,9 +22,9 @@ use Rattle.positions.specs.declared.moves.Move.{Move}
 use Rattle.positions.specs.declared.position.Position.{Position}
 use Rattle.movegen.specs.Lists.{legalMovesOf, afterOf}
 use Rattle.movegen.specs.Counts.{perftOf, divideOf}
-use Rattle.requests.specs.Output.{bytes, decimal, refusal, bad}
-use Rattle.requests.specs.Words.{sameText, firstWord, afterWord, wordAt, blanksIn}
-use Rattle.requests.specs.Numbers.{unsignedOf, setOf, signedOf}
+use Rattle.wording.specs.Output.{bytes, decimal, refusal, bad}
+use Rattle.wording.specs.Words.{sameText, firstWord, afterWord, wordAt, blanksIn}
+use Rattle.wording.specs.Numbers.{unsignedOf, setOf, signedOf}
 use Rattle.requests.specs.Heard.{positionOf, listedMoveOf, squareOf}
 use Rattle.requests.specs.Answers.{ok, onHeard, scoredAnswer, countedAnswer, placedAnswer, listAnswer, dividedAnswer, moveAnswer, afterAnswer, answerTo}
 use Rattle.requests.specs.Plays.{gamesOf}
@@ -38,10 +38,10 @@ use Rattle.requests.specs.declared.heard.Meant.{Meant}
 use Rattle.requests.specs.declared.heard.Meant.the-variants as meant
 use Rattle.requests.specs.declared.heard.Placing.{Placing}
 use Rattle.requests.specs.declared.heard.Placing.the-variants as placing
-use Rattle.requests.specs.declared.numbers.Parsed.{Parsed}
-use Rattle.requests.specs.declared.numbers.Parsed.the-variants as parsed
-use Rattle.requests.specs.declared.numbers.Signed.{Signed}
-use Rattle.requests.specs.declared.numbers.Signed.the-variants as signed
+use Rattle.wording.specs.declared.numbers.Parsed.{Parsed}
+use Rattle.wording.specs.declared.numbers.Parsed.the-variants as parsed
+use Rattle.wording.specs.declared.numbers.Signed.{Signed}
+use Rattle.wording.specs.declared.numbers.Signed.the-variants as signed
 
 -- ---- what goes on with what was read
 abbrev pub onMeant : Meant → (Move → List ℕ) → List ℕ

@@ -22,7 +22,7 @@ use Rattle.games.specs.declared.game.Termination.{Termination}
 use Rattle.games.specs.declared.game.Termination.the-variants.{NoMoves, Repetition, TwentyFiveMoves, SixteenMoves, FiveMoves}
 use Rattle.games.specs.declared.game.Winner.{Winner}
 use Rattle.games.specs.declared.game.Winner.the-variants as winner
-use Rattle.requests.specs.Output.{bytes, decimal}
+use Rattle.wording.specs.Output.{bytes, decimal}
 use Rattle.requests.specs.Answers.{fenWord}
 
 -- ---- the outcome

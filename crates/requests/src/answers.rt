@@ -1,5 +1,4 @@
 // What is told of a position.
-use crate::output;
 use captures::moves::MAX_MOVES;
 use captures::moves::MoveList;
 use movegen::movegen::Listed;
@@ -15,8 +14,9 @@ use squares::refusal::Answer;
 use texts::bytes::Wrote;
 use texts::fen;
 use texts::hub;
+use wording::output;
 ghost use Prim.Native.Nat.{min};
-ghost use Rattle.requests.specs.Output.{Adds, bytes};
+ghost use Rattle.wording.specs.Output.{Adds, bytes};
 ghost use Rattle.requests.specs.Answers.{setWord, fenWord, hubWord, bitsAnswer, scoredAnswer, testedAnswer, countedAnswer, fenAnswer, hubAnswer, hashAnswer, placedAnswer, moveWord, movesText, countsText, listAnswer, dividedAnswer, moveAnswer, afterAnswer, answerTo};
 
 // What a request asks of a position.

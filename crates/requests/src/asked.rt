@@ -6,11 +6,6 @@ use crate::heard::Form;
 use crate::heard::Heard;
 use crate::heard::Meant;
 use crate::heard::Placing;
-use crate::numbers;
-use crate::numbers::Parsed;
-use crate::numbers::Signed;
-use crate::output;
-use crate::words;
 use scores::eval::Classical;
 use positions::position;
 use positions::position::Position;
@@ -18,9 +13,14 @@ use squares::piece::Color;
 use squares::piece::Sided;
 use squares::refusal::Refusal;
 use squares::square::Numbered;
+use wording::numbers;
+use wording::numbers::Parsed;
+use wording::numbers::Signed;
+use wording::output;
+use wording::words;
 ghost use mathlib.Core.Path.{_≡_};
 ghost use Prim.Native.Nat.{_≤_};
-ghost use Rattle.requests.specs.Output.{Adds};
+ghost use Rattle.wording.specs.Output.{Adds};
 ghost use Rattle.requests.specs.Requests.{aboutAnswer, numberWord, squareAnswer, sideOf, partsAnswer, setsAnswer, parseAnswer, parsedAnswer, successorAnswer, successorOf, perftAnswer, depthAnswer, divideAnswer, splitAnswer, atmostAnswer, limitAnswer, weightsOf, evalwAnswer, weighedAnswer};
 
 // A request about the position of a word alone.

@@ -1,6 +1,4 @@
 // The texts of a request: its escapes undone, then read as a position.
-use crate::escapes;
-use crate::escapes::Undone;
 use notation::notation::Found;
 use positions::moves::Move;
 use positions::position::Placed;
@@ -10,6 +8,8 @@ use squares::square::Numbered;
 use texts::bytes;
 use texts::fen;
 use texts::hub;
+use wording::escapes;
+use wording::escapes::Undone;
 ghost use mathlib.Core.Path.{_≡_};
 ghost use Rattle.requests.specs.Heard.{heardOf, eitherOf, readOf, positionOf, meantOf, listedMoveOf, placingOf, squareOf};
 

@@ -1,12 +1,8 @@
 // The requests of the program `dame`: one a line, one answer line each, in the form of the Rust's line protocol.
 mod answers;
 mod asked;
-mod escapes;
 mod heard;
 pub mod lines;
-mod numbers;
-mod output;
 mod plays;
 pub mod requests;
 mod states;
-mod words;

@@ -1,8 +1,8 @@
 // Requests are read from standard input, and the answers written to standard output, through two buffers.
-use crate::output;
 use crate::requests;
-use texts::bytes;
 use libc::STDOUT_FILENO;
+use texts::bytes;
+use wording::output;
 ghost use Prim.Native.Nat.{_≤_, _<_};
 ghost use lib.ListN.{length};
 

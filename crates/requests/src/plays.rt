@@ -3,17 +3,17 @@
 // refused; `record` tells ` N` of each record, 0 where it is accepted. Both end with ` | FEN OUTCOME COUNT1 COUNT2 TIMES MOVES`.
 // A word that is no text or no record breaks the whole request.
 use crate::answers;
-use crate::escapes;
-use crate::escapes::Undone;
+use wording::escapes;
+use wording::escapes::Undone;
 use crate::heard;
 use crate::heard::Form;
 use crate::heard::Heard;
 use crate::heard::Meant;
-use crate::numbers;
-use crate::numbers::Parsed;
-use crate::output;
+use wording::numbers;
+use wording::numbers::Parsed;
+use wording::output;
 use crate::states;
-use crate::words;
+use wording::words;
 use games::game::Game;
 use games::game::Played;
 use positions::moves::Move;
@@ -25,7 +25,7 @@ use texts::bytes;
 ghost use mathlib.Core.Path.{_≡_};
 ghost use Rattle.squares.specs.declared.refusal.Refusal.the-variants.{BadMoveText};
 ghost use Rattle.games.specs.Play.{refusedPlay};
-ghost use Rattle.requests.specs.Output.{Adds};
+ghost use Rattle.wording.specs.Output.{Adds};
 ghost use Rattle.requests.specs.Plays.{afterComma, recordOf, isTextOf, isRecordOf, readableOf, allReadable, wordsOf, playTextOf, playRecordOf, playWordOf, meantWord, moveOfWord, textTold, recordTold, wordTold, gameText, playsAnswer, gameAnswer, freshAnswer, outcomeAnswer, gamesOf};
 
 // How the plays of a game are given.

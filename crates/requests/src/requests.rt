@@ -2,13 +2,13 @@
 use crate::answers::Asked;
 use crate::asked;
 use crate::heard::Form;
-use crate::output;
 use crate::plays;
-use crate::words;
+use wording::output;
+use wording::words;
 ghost use mathlib.Core.Path.{_≡_};
 ghost use Prim.Native.Nat.{min};
 ghost use lib.ListN.{length};
-ghost use Rattle.requests.specs.Output.{Adds, written};
+ghost use Rattle.wording.specs.Output.{Adds, written};
 ghost use Rattle.requests.specs.Requests.{countingOf, wordingOf, ofPosition, ofMoves, ofText, answerOf};
 
 // The longest line that is looked at.

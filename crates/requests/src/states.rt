@@ -1,7 +1,7 @@
 // What is told of a game: the outcome, both counts, how often the position has stood; at the end also the position and how many
 // moves there are.
 use crate::answers;
-use crate::output;
+use wording::output;
 use captures::moves::MAX_MOVES;
 use games::game::Game;
 use games::game::Judged;
@@ -14,7 +14,7 @@ use positions::position::Placed;
 use squares::piece::Color;
 use squares::refusal::Answer;
 use squares::refusal::Refusal;
-ghost use Rattle.requests.specs.Output.{Adds};
+ghost use Rattle.wording.specs.Output.{Adds};
 ghost use Rattle.requests.specs.States.{winnerWord, outcomeWord, judgedWord, countWord, stateText, standWord, numberWord, movesWord, endText};
 
 fn put_winner(out: &mut [u8], at: usize, w: Winner) -> usize

@@ -4,7 +4,7 @@ use Rattle.requests.proofs.asked.weighed.Statement.{statement}
 use Rattle.requests.proofs.asked.weighed.Tie as tie
 use Rattle.requests.proofs.asked.weighed.Reads as reads
 use Rattle.requests.proofs.asked.weighed.Lts as lts
-use Rattle.positions.proofs.eval.Classical.evaluate.Reads as evaluate-reads
+use Rattle.scores.proofs.eval.Classical.evaluate.Reads as evaluate-reads
 use Rattle.requests.proofs.answers.tell_scored.Reads as tell-scored-reads
 use Rattle.requests.proofs.heard.position.Reads as position-reads
 use Rattle.requests.proofs.output.put_bad.Reads as put-bad-reads

@@ -1,0 +1,6 @@
+pub mod Pieces
+pub mod WordLaws
+pub mod Values
+pub mod Escaped
+pub mod Numerals
+pub mod Signs

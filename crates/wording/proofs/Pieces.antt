@@ -1,0 +1,69 @@
+-- Pieces of an answer: one byte more, one piece behind another, whatever room there is.
+use Prim.Native.Nat.{ℕ, suc, _+_, _-_, _≤_, _<_, min}
+use mathlib.Core.Path.{_≡_, refl, ap, sym, _∙_, subst}
+use mathlib.Core.List.{List, [], _∷_, _++_, append-assoc, append-nil}
+use native.Mathlib.Omega.{arith}
+use native.Mathlib.Numerals.{add-one}
+use lib.ListN.{length, take, drop, getD, set, length-append, length-take, length-drop, drop-of-length-le}
+use lib.Seq.{take-all, drop-cons, set-append-seam, append-snoc, take-append-le, take-suc, take-length}
+use Rattle.wording.specs.Output.{written, Holds, Adds}
+
+pub written-length : (t o : List ℕ) → length (written t o) ≡ length o
+unfolding written
+written-length t o = simp (length-append, length-take, length-drop) (omega arith)
+
+pub holds-length : {o t out : List ℕ} {at : ℕ} → Holds o t out at → length out ≡ length o
+holds-length {o} {t} g = ap length (g .bytes) ∙ written-length t o
+
+-- a byte that has room
+set-written : (o t : List ℕ) (b : ℕ) → length t < length o → set (written t o) (length t) b ≡ written (t ++ (b ∷ [])) o
+unfolding written
+set-written o t b h =
+    let n : length (t ++ (b ∷ [])) ≡ suc (length t) = length-append t (b ∷ []) ∙ add-one (length t) in
+    rw (n, take-all (length o) t (omega arith), take-all (length o) (t ++ (b ∷ [])) (omega (arith, n)), drop-cons o (length t) 0 h, set-append-seam t (getD o (length t) 0) (drop (suc (length t)) o) b)
+    (sym (append-snoc t b (drop (suc (length t)) o)))
+
+holds-byte : (o t out : List ℕ) (at b : ℕ) → at < length out → Holds o t out at → Holds o (t ++ (b ∷ [])) (set out at b) (at + 1)
+holds-byte o t out at b h g =
+    let l : length t < length o = omega (arith, holds-length g, g .place) in
+    let e : at ≡ length t = omega (arith, g .place) in
+    record {
+      bytes = ap (λ (x : List ℕ). set x at b) (g .bytes) ∙ ap (λ (i : ℕ). set (written t o) i b) e ∙ set-written o t b l;
+      place = omega (arith, length-append t (b ∷ []));
+    }
+
+pub byte-fits : (out : List ℕ) (at b : ℕ) → at < length out → Adds (b ∷ []) out at (set out at b) (at + 1)
+byte-fits out at b h = record { held = λ o t g. holds-byte o t out at b h g }
+
+-- a byte that has none
+same-written : (o t : List ℕ) (b : ℕ) → length o ≤ length t → written t o ≡ written (t ++ (b ∷ [])) o
+unfolding written
+same-written o t b h =
+    let n : length o ≤ length (t ++ (b ∷ [])) = omega (arith, length-append t (b ∷ [])) in
+    rw (take-append-le (length o) t (b ∷ []) h, drop-of-length-le o h, drop-of-length-le o n)
+
+pub byte-out : (out : List ℕ) (at b : ℕ) → length out ≤ at → Adds (b ∷ []) out at out at
+byte-out out at b h = record { held = λ o t g. kept o t g }
+  where
+    kept : (o t : List ℕ) → Holds o t out at → Holds o (t ++ (b ∷ [])) out at
+    kept o t g =
+        let l : length o ≤ length t = omega (arith, holds-length g, g .place) in
+        record { bytes = g .bytes ∙ same-written o t b l; place = omega (arith, g .place, length-append t (b ∷ [])) }
+
+-- ---- pieces
+pub adds-none : (out : List ℕ) (at : ℕ) → Adds [] out at out at
+adds-none out at = record { held = λ o t g. subst (λ (x : List ℕ). Holds o x out at) (sym (append-nil t)) g }
+
+pub adds-then : {s u a b c : List ℕ} {i j k : ℕ} → Adds s a i b j → Adds u b j c k → Adds (s ++ u) a i c k
+adds-then {s} {u} {a} {b} {c} {i} {j} {k} x y =
+    record { held = λ o t g. subst (λ (z : List ℕ). Holds o z c k) (append-assoc t s u) (y .held o (t ++ s) (x .held o t g)) }
+
+pub adds-as : {s u a b : List ℕ} {i j : ℕ} → s ≡ u → Adds s a i b j → Adds u a i b j
+adds-as {s} {u} {a} {b} {i} {j} e x = subst (λ (z : List ℕ). Adds z a i b j) e x
+
+-- one byte of s more
+pub adds-next : {a b c : List ℕ} {i j k : ℕ} (s : List ℕ) (n : ℕ) → n < length s → Adds (take n s) a i b j → Adds (getD s n 0 ∷ []) b j c k → Adds (take (n + 1) s) a i c k
+adds-next s n h x y = adds-as (sym (take-suc s n 0 h) ∙ ap (λ (m : ℕ). take m s) (sym (add-one n))) (adds-then x y)
+
+pub adds-all : {a b : List ℕ} {i j : ℕ} (s : List ℕ) (n : ℕ) → length s ≤ n → Adds (take n s) a i b j → Adds s a i b j
+adds-all s n h x = adds-as (take-all n s h) x

@@ -1,0 +1,4 @@
+pub mod Output
+pub mod Words
+pub mod Numbers
+pub mod Escapes

@@ -1,0 +1,87 @@
+// Escapes: `\\ \s \t \n \r \xHH` stand for a backslash, space, tab, line feed, carriage return and any byte.
+use crate::numbers;
+use crate::output;
+ghost use mathlib.Core.Path.{_≡_};
+ghost use lib.ListN.{length};
+ghost use Rattle.wording.specs.Escapes.{highOf, hexEscape, escapeOf, UsedIn, Undid};
+
+// What an escape stands for, and how many bytes it has behind the backslash.
+pub enum Escape {
+    Byte(u8, usize),
+    Bad,
+}
+
+// The length of a text, or that an escape in it is none.
+pub enum Undone {
+    Length(usize),
+    Bad,
+}
+
+// The value of the first of two hexadecimal digits, above 15 where it is none; a sign is read as Rust reads it.
+fn high(b: u8) -> u8
+    ensures { λ r. ⌜ r ≡ highOf b ⌝ }
+{
+    if b == b'+' { 0 } else { numbers::digit(b) }
+}
+
+// The byte of the two digits behind `\x`.
+fn hex_escape(s: &[u8]) -> Escape
+    ensures { λ r. ⌜ r ≡ hexEscape (now (s .entry)) ⌝ }
+{
+    if s.len() < 2 {
+        return Escape::Bad;
+    }
+    let a = high(s[0]);
+    let b = numbers::digit(s[1]);
+    if 15 < a {
+        return Escape::Bad;
+    }
+    if 15 < b {
+        return Escape::Bad;
+    }
+    Escape::Byte(a * 16 + b, 3)
+}
+
+// The escape of which this stands behind the backslash.
+fn read_escape(s: &[u8]) -> Escape
+    ensures { λ r. ⌜ (r ≡ escapeOf (now (s .entry))) × UsedIn r (length (now (s .entry))) ⌝ }
+{
+    if s.len() == 0 {
+        return Escape::Bad;
+    }
+    match s[0] {
+        b'\\' => Escape::Byte(b'\\', 1),
+        b's' => Escape::Byte(b' ', 1),
+        b't' => Escape::Byte(b'\t', 1),
+        b'n' => Escape::Byte(b'\n', 1),
+        b'r' => Escape::Byte(b'\r', 1),
+        b'x' => hex_escape(&s[1..]),
+        _ => Escape::Bad,
+    }
+}
+
+// The text of a word, in lent bytes; what has no room is left out.
+pub fn unescape(s: &[u8], out: &mut [u8]) -> Undone
+    ensures { λ r. ⌜ Undid (now (s .entry)) (now (out .entry)) (now (out .exit)) r ⌝ }
+{
+    let mut i = 0;
+    let mut at = 0;
+    while i < s.len() {
+        let b = s[i];
+        i += 1;
+        if b == b'\\' {
+            match read_escape(&s[i..]) {
+                Escape::Byte(x, n) => {
+                    at = output::put_byte(out, at, x);
+                    i += n;
+                }
+                Escape::Bad => {
+                    return Undone::Bad;
+                }
+            }
+        } else {
+            at = output::put_byte(out, at, b);
+        }
+    }
+    Undone::Length(at)
+}

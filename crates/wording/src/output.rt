@@ -1,0 +1,79 @@
+// An answer is written piece by piece into lent bytes, each piece behind the one before; what has no room is left out.
+use squares::refusal::Refusal;
+ghost use mathlib.Core.List.{_∷_, []};
+ghost use Rattle.wording.specs.Output.{Adds, decimal, hex, hash, signed, refusal, bad};
+
+pub fn put_byte(out: &mut [u8], at: usize, b: u8) -> usize
+    ensures { λ r. ⌜ Adds (b ∷ []) (now (out .entry)) at (now (out .exit)) r ⌝ }
+{
+    if at < out.len() {
+        out[at] = b;
+        return at + 1;
+    }
+    at
+}
+
+pub fn put(out: &mut [u8], at: usize, s: &[u8]) -> usize
+    ensures { λ r. ⌜ Adds (now (s .entry)) (now (out .entry)) at (now (out .exit)) r ⌝ }
+{
+    let mut k = at;
+    let mut i = 0;
+    while i < s.len() {
+        k = put_byte(out, k, s[i]);
+        i += 1;
+    }
+    k
+}
+
+pub fn put_decimal(out: &mut [u8], at: usize, n: u64) -> usize
+    ensures { λ r. ⌜ Adds (decimal n) (now (out .entry)) at (now (out .exit)) r ⌝ }
+{
+    let mut digits = [0u8; 20];
+    let k = io::decimal(n, &mut digits);
+    put(out, at, &digits[..k])
+}
+
+// A signed number. The smallest one has no opposite, so 1 is added before the sign is changed.
+pub fn put_signed(out: &mut [u8], at: usize, z: i32) -> usize
+    ensures { λ r. ⌜ Adds (signed z) (now (out .entry)) at (now (out .exit)) r ⌝ }
+{
+    if z < 0 {
+        let k = put_byte(out, at, b'-');
+        return put_decimal(out, k, (-(z + 1)) as u64 + 1);
+    }
+    put_decimal(out, at, z as u64)
+}
+
+// Hexadecimal digits, as few as there can be.
+pub fn put_hex(out: &mut [u8], at: usize, n: u64) -> usize
+    ensures { λ r. ⌜ Adds (hex n) (now (out .entry)) at (now (out .exit)) r ⌝ }
+{
+    let mut digits = [0u8; 16];
+    let k = io::hex(n, 1, &mut digits);
+    put(out, at, &digits[..k])
+}
+
+// The 16 hexadecimal digits of a hash.
+pub fn put_hash(out: &mut [u8], at: usize, n: u64) -> usize
+    ensures { λ r. ⌜ Adds (hash n) (now (out .entry)) at (now (out .exit)) r ⌝ }
+{
+    let mut digits = [0u8; 16];
+    let k = io::hex(n, 16, &mut digits);
+    put(out, at, &digits[..k])
+}
+
+// `err`, the number of the refusal and its square.
+pub fn put_refusal(out: &mut [u8], at: usize, e: Refusal) -> usize
+    ensures { λ r. ⌜ Adds (refusal e) (now (out .entry)) at (now (out .exit)) r ⌝ }
+{
+    let k = put(out, at, b"err ");
+    let l = put_decimal(out, k, e.number() as u64);
+    let m = put_byte(out, l, b' ');
+    put_decimal(out, m, e.square() as u64)
+}
+
+pub fn put_bad(out: &mut [u8], at: usize) -> usize
+    ensures { λ r. ⌜ Adds bad (now (out .entry)) at (now (out .exit)) r ⌝ }
+{
+    put(out, at, b"bad request")
+}

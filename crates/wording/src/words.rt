@@ -1,0 +1,68 @@
+// The words of a request: what stands between single spaces.
+use texts::bytes;
+ghost use mathlib.Core.Path.{_≡_};
+ghost use Rattle.wording.specs.Words.{sameText, firstWord, afterWord, wordAt, blanksIn};
+
+// Whether two texts are the same.
+pub fn same(a: &[u8], b: &[u8]) -> bool
+    ensures { λ r. ⌜ r ≡ sameText (now (a .entry)) (now (b .entry)) ⌝ }
+{
+    if a.len() != b.len() {
+        return false;
+    }
+    let mut i = 0;
+    while i < a.len() {
+        if a[i] != b[i] {
+            return false;
+        }
+        i += 1;
+    }
+    true
+}
+
+pub fn first(s: &[u8]) -> &[u8]
+    ensures { λ r. ⌜ now r ≡ firstWord (now (s .entry)) ⌝ }
+{
+    bytes::up_to(s, b' ')
+}
+
+// What stands behind the first word and its space: nothing where there is none.
+pub fn rest(s: &[u8]) -> &[u8]
+    ensures { λ r. ⌜ now r ≡ afterWord (now (s .entry)) ⌝ }
+{
+    let n = bytes::find(s, b' ');
+    if n < s.len() { &s[n + 1..] } else { &s[n..] }
+}
+
+// The word of this index, from 0 on.
+pub fn word(s: &[u8], index: usize) -> &[u8]
+    ensures { λ r. ⌜ now r ≡ wordAt index (now (s .entry)) ⌝ }
+{
+    let mut left = index;
+    let mut at = 0;
+    while 0 < left {
+        let t = &s[at..];
+        let n = bytes::find(t, b' ');
+        if n == t.len() {
+            return &t[n..];
+        }
+        at = at + n + 1;
+        left -= 1;
+    }
+    first(&s[at..])
+}
+
+// How many spaces there are: one less than words.
+pub fn blanks(s: &[u8]) -> usize
+    ensures { λ r. ⌜ r ≡ blanksIn (now (s .entry)) ⌝ }
+{
+    let mut n = 0;
+    let mut i = 0;
+    while i < s.len() {
+        if s[i] == b' ' {
+            n += 1;
+        }
+        i += 1;
+    }
+    n
+}
