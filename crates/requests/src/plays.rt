@@ -3,17 +3,11 @@
 // refused; `record` tells ` N` of each record, 0 where it is accepted. Both end with ` | FEN OUTCOME COUNT1 COUNT2 TIMES MOVES`.
 // A word that is no text or no record breaks the whole request.
 use crate::answers;
-use wording::escapes;
-use wording::escapes::Undone;
-use crate::heard;
 use crate::heard::Form;
 use crate::heard::Heard;
 use crate::heard::Meant;
-use wording::numbers;
-use wording::numbers::Parsed;
-use wording::output;
+use crate::heard;
 use crate::states;
-use wording::words;
 use games::game::Game;
 use games::game::Played;
 use positions::moves::Move;
@@ -22,6 +16,12 @@ use positions::position::Position;
 use squares::refusal::Answer;
 use squares::refusal::Refusal;
 use texts::bytes;
+use wording::escapes::Undone;
+use wording::escapes;
+use wording::numbers::Parsed;
+use wording::numbers;
+use wording::output;
+use wording::words;
 ghost use mathlib.Core.Path.{_≡_};
 ghost use Rattle.squares.specs.declared.refusal.Refusal.the-variants.{BadMoveText};
 ghost use Rattle.games.specs.Play.{refusedPlay};

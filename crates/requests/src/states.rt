@@ -1,7 +1,6 @@
 // What is told of a game: the outcome, both counts, how often the position has stood; at the end also the position and how many
 // moves there are.
 use crate::answers;
-use wording::output;
 use captures::moves::MAX_MOVES;
 use games::game::Game;
 use games::game::Judged;
@@ -14,6 +13,7 @@ use positions::position::Placed;
 use squares::piece::Color;
 use squares::refusal::Answer;
 use squares::refusal::Refusal;
+use wording::output;
 ghost use Rattle.wording.specs.Output.{Adds};
 ghost use Rattle.requests.specs.States.{winnerWord, outcomeWord, judgedWord, countWord, stateText, standWord, numberWord, movesWord, endText};
 
@@ -32,9 +32,10 @@ fn put_winner(out: &mut [u8], at: usize, w: Winner) -> usize
 fn put_outcome(out: &mut [u8], at: usize, o: Outcome) -> usize
     ensures { λ r. ⌜ Adds (outcomeWord o) (now (out .entry)) at (now (out .exit)) r ⌝ }
 {
+    let winner = o.winner;
     let termination = o.termination;
     match termination {
-        Termination::NoMoves => put_winner(out, at, o.winner),
+        Termination::NoMoves => put_winner(out, at, winner),
         Termination::Repetition => output::put(out, at, b"draw3"),
         Termination::TwentyFiveMoves => output::put(out, at, b"draw50"),
         Termination::SixteenMoves => output::put(out, at, b"draw32"),
