@@ -9,7 +9,7 @@ use lib.Seq.{take-all, take-append-seam, take-at}
 use lib.Dec.{leb, eqb}
 use borrow.Author.Tests.{le-leb, lt-leb, leb-true, leb-false}
 use Rattle.squares.specs.declared.refusal.Refusal.{Refusal}
-use Rattle.squares.specs.declared.refusal.Refusal.the-variants.{TextTooLong, BadPosition, NoSuchSquare}
+use Rattle.squares.specs.declared.refusal.Refusal.the-variants.{TextTooLong, BadPosition, NoSuchSquare, FenTooLong, SpaceTooShort}
 use Rattle.squares.specs.declared.square.Numbered.{Numbered}
 use Rattle.squares.specs.declared.square.Numbered.the-variants as numbered
 use Rattle.positions.specs.Boards.{boardOf}
@@ -34,8 +34,6 @@ use Rattle.notation.specs.Notation.{readMoveOf, heardTrimmed}
 use Rattle.notation.specs.Choice.{fitHeard, parseMoveOf}
 use Rattle.notation.specs.declared.notation.Found.{Found}
 use Rattle.notation.specs.declared.notation.Found.the-variants as found
-use Rattle.notation.specs.declared.notation.Heard.{Heard as Said}
-use Rattle.notation.specs.declared.notation.Heard.the-variants as said
 use Rattle.notation.proofs.MoveTexts.{move-short}
 use Rattle.wording.specs.Output.{written, Holds}
 use Rattle.wording.specs.Escapes.{Plain, text, broken, plain, undoneOf, Undid}
@@ -55,12 +53,12 @@ use Rattle.requests.specs.declared.heard.Placing.the-variants as placing
 -- ---- a text in lent space that is long enough
 pub record Lent (t o new : List ℕ) (n : ℕ) : Type 0 where
   pub text : take n new ≡ t
-  pub fits : n ≤ length o
+  pub within : n ≤ length new
 
 emit-length : (t o : List ℕ) (n : ℕ) → length t ≤ length o → emitOf t o ≡ wrote.Length n → n ≡ length t
 unfolding emitOf
 emit-length t o n h e =
-    let q : wrote.Length (length t) ≡ wrote.Length n = sym (ap (λ (x : Bool). cond x (wrote.Length (length t)) _) (le-leb (length t) (length o) h)) ∙ e in
+    let q : wrote.Length (length t) ≡ wrote.Length n = sym (ap (λ (x : Bool). cond x (wrote.Length (length t)) (wrote.Refused SpaceTooShort)) (le-leb (length t) (length o) h)) ∙ e in
     cc
 
 emit-text : (t o : List ℕ) (n : ℕ) → length t ≤ length o → n ≡ length t → take n (emitted t o) ≡ t
@@ -70,7 +68,7 @@ emit-text t o n h e = rw (le-leb (length t) (length o) h, e) (take-append-seam t
 emit-refused : (t o : List ℕ) (e : Refusal) → length t ≤ length o → emitOf t o ≡ wrote.Refused e → ⊥
 unfolding emitOf
 emit-refused t o e h q =
-    let r : wrote.Length (length t) ≡ wrote.Refused e = sym (ap (λ (x : Bool). cond x (wrote.Length (length t)) _) (le-leb (length t) (length o) h)) ∙ q in
+    let r : wrote.Length (length t) ≡ wrote.Refused e = sym (ap (λ (x : Bool). cond x (wrote.Length (length t)) (wrote.Refused SpaceTooShort)) (le-leb (length t) (length o) h)) ∙ q in
     let z : _≡_ {A = ℕ} 0 1 = cc in
     omega arith
 
@@ -78,7 +76,8 @@ module _ (t o : List ℕ) where
   told : (b : Bool) (f : Refusal) (n : ℕ) → (b ≡ true → length t ≤ length o) → cond b (emitOf t o) (wrote.Refused f) ≡ wrote.Length n → Lent (cond b t []) o (cond b (emitted t o) o) n
   told true f n h e =
       let q = emit-length t o n (h refl) e in
-      record { text = emit-text t o n (h refl) q; fits = omega (arith, q, h refl) }
+      let w = emit-text t o n (h refl) q in
+      record { text = w; within = omega (arith, q, ap length w, length-take n (emitted t o)) }
   told false f n h e = absurd (let z : _≡_ {A = ℕ} 0 1 = cc in omega arith)
 
   untold : (b : Bool) (f g : Refusal) → (b ≡ true → length t ≤ length o) → cond b (emitOf t o) (wrote.Refused f) ≡ wrote.Refused g → cond b t [] ≡ []
@@ -93,7 +92,7 @@ module _ (p : Position) (o : List ℕ) (long : length o ≡ 200) where
   unfolding fenOf
   fen-answer = go (sound p) refl
     where
-      go : (b : Bool) → sound p ≡ b → cond b (cond (leb (length (fenText (boardOf p))) 200) (emitOf (fenText (boardOf p)) o) _) (wrote.Refused BadPosition) ≡ cond b (emitOf (fenText (boardOf p)) o) (wrote.Refused BadPosition)
+      go : (b : Bool) → sound p ≡ b → cond b (cond (leb (length (fenText (boardOf p))) 200) (emitOf (fenText (boardOf p)) o) (wrote.Refused FenTooLong)) (wrote.Refused BadPosition) ≡ cond b (emitOf (fenText (boardOf p)) o) (wrote.Refused BadPosition)
       go true e = rw (le-leb (length (fenText (boardOf p))) 200 (omega (arith, fen-fits e, long)))
       go false e = refl
 
@@ -191,7 +190,7 @@ record Spelt (s o out : List ℕ) (n : ℕ) : Type 0 where
   done : List ℕ
   whole : plain s ≡ text done
   part : take n out ≡ take (length o) done
-  fits : n ≤ length o
+  within : n ≤ length out
 
 part-of : (o t out : List ℕ) (n : ℕ) → Holds o t out (min (length t) (length o)) → n ≡ min (length t) (length o) → take n out ≡ take (length o) t
 unfolding written
@@ -204,7 +203,8 @@ spelt s o out n u = go (plain s) refl
     go : (p : Plain) → plain s ≡ p → Spelt s o out n
     go (text t) e =
         let q : n ≡ min (length t) (length o) = (let w : undone.Length n ≡ undone.Length (min (length t) (length o)) = u .answer ∙ ap (undoneOf (length o)) e in cc) in
-        record { done = t; whole = e; part = part-of o t out n (u .bytes t e) q; fits = omega (arith, q) }
+        let w = part-of o t out n (u .bytes t e) q in
+        record { done = t; whole = e; part = w; within = omega (arith, q, ap length w, length-take n out, length-take (length o) t) }
     go broken e = absurd (let w : undone.Length n ≡ undone.Bad = u .answer ∙ ap (undoneOf (length o)) e in let z : _≡_ {A = ℕ} 0 1 = cc in omega arith)
 
 broken-said : (s o out : List ℕ) → Undid s o out undone.Bad → plain s ≡ broken
@@ -224,8 +224,8 @@ module _ (s o out : List ℕ) (r : Undone) (long : length o ≡ 4097) (u : Undid
   cut-part : (n : ℕ) (w : Spelt s o out n) → take n out ≡ take 4097 (w .done)
   cut-part n w = w .part ∙ ap (λ (k : ℕ). take k (w .done)) long
 
-  pub said-fits : (n : ℕ) → r ≡ undone.Length n → n ≤ 4097
-  said-fits n q = omega (arith, said n q .fits, long)
+  pub said-fits : (n : ℕ) → r ≡ undone.Length n → n ≤ length out
+  said-fits n q = said n q .within
 
   pub position-told : (f : Form) (n : ℕ) (a : Placed) (h : Heard) → r ≡ undone.Length n → a ≡ readOf f (take n out) → h ≡ heardOf a → h ≡ positionOf f s
   unfolding positionOf

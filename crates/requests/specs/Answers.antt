@@ -29,11 +29,9 @@ use Rattle.movegen.specs.declared.perft.Counted.the-variants as counted
 use Rattle.texts.specs.Fen.{fenText}
 use Rattle.texts.specs.Hub.{hubText}
 use Rattle.notation.specs.MoveText.{moveText}
-use Rattle.wording.specs.Output.{bytes, decimal, hex, hash, signed, refusal, bad}
+use Rattle.wording.specs.Output.{bytes, decimal, hex, hash, signed, refusal}
 use Rattle.requests.specs.declared.answers.Asked.{Asked}
 use Rattle.requests.specs.declared.answers.Asked.the-variants as asked
-use Rattle.requests.specs.declared.heard.Heard.{Heard}
-use Rattle.requests.specs.declared.heard.Heard.the-variants as heard
 
 abbrev pub ok : List ℕ → List ℕ
 ok t = bytes "ok " ++ t
@@ -109,9 +107,13 @@ listAnswer l = answering (l .answer) (decimal (l .list .len) ++ movesText (l .li
 unfoldable pub dividedAnswer : Divided → List ℕ
 dividedAnswer d = answering (d .answer) (decimal (d .list .len) ++ countsText (d .list .moves) (d .counts) (min (d .list .len) 256))
 
--- the move's Hub text, first square, last square, set
+-- first square, last square, set
+unfoldable pub recordWord : Move → List ℕ
+recordWord m = decimal (m .from) ++ (code "," ∷ (decimal (m .to) ++ (code "," ∷ hex (m .captured))))
+
+-- the move's Hub text, then the record
 unfoldable pub moveAnswer : Move → List ℕ
-moveAnswer m = ok (moveWord m ++ (code " " ∷ (decimal (m .from) ++ (code "," ∷ (decimal (m .to) ++ (code "," ∷ hex (m .captured)))))))
+moveAnswer m = ok (moveWord m ++ (code " " ∷ recordWord m))
 
 abbrev pub afterAnswer : Placed → List ℕ
 afterAnswer (placed.Position p) = fenAnswer p ++ (code " " ∷ hash (p .hash))
@@ -128,9 +130,3 @@ answerTo asked.Hash p = hashAnswer p
 answerTo asked.Flip p = placedAnswer (flippedOf p)
 answerTo asked.Caps p = testedAnswer (hasCapturesOf p)
 answerTo asked.Quiet p = testedAnswer (hasQuietMovesOf p)
-
--- ---- what goes on with the position that was heard
-abbrev pub onHeard : Heard → (Position → List ℕ) → List ℕ
-onHeard (heard.Position p) k = k p
-onHeard (heard.Refused e) k = refusal e
-onHeard heard.Bad k = bad

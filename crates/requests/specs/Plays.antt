@@ -19,13 +19,11 @@ use Rattle.games.specs.declared.game.Game.{Game}
 use Rattle.games.specs.declared.game.Played.{Played}
 use Rattle.gametexts.specs.Texts.{playStrOf}
 use Rattle.wording.specs.Output.{bytes, decimal, bad}
-use Rattle.wording.specs.Words.{sameText, firstWord, afterWord}
 use Rattle.wording.specs.Numbers.{unsignedOf, setOf}
 use Rattle.wording.specs.Escapes.{Plain, text, broken, plain}
-use Rattle.requests.specs.Heard.{positionOf, listedMoveOf}
-use Rattle.requests.specs.Answers.{ok, moveWord, onHeard}
+use Rattle.requests.specs.Heard.{listedMoveOf}
+use Rattle.requests.specs.Answers.{ok, moveWord}
 use Rattle.requests.specs.States.{judgedWord, stateText, numberWord, endText}
-use Rattle.requests.specs.declared.heard.Form.the-variants as form
 use Rattle.requests.specs.declared.heard.Meant.{Meant}
 use Rattle.requests.specs.declared.heard.Meant.the-variants as meant
 use Rattle.wording.specs.declared.numbers.Parsed.{Parsed}
@@ -135,21 +133,9 @@ unfoldable pub gameText : Given → Game → List (List ℕ) → List ℕ
 gameText h g [] = endText g
 gameText h g (w ∷ ws) = let r = playWordOf h g w in wordTold h g w r ++ gameText h (r .game) ws
 
--- ---- the requests
+-- ---- play and record, then outcome
 unfoldable pub playsAnswer : Given → Position → List ℕ → List ℕ
 playsAnswer h p s = cond (allReadable h (wordsOf s)) (bytes "ok" ++ gameText h (newOf p .game) (wordsOf s)) bad
 
-unfoldable pub gameAnswer : Given → List ℕ → List ℕ
-gameAnswer h arg = onHeard (positionOf form.Either (firstWord arg)) (λ p. playsAnswer h p (afterWord arg))
-
 unfoldable pub freshAnswer : Position → List ℕ
 freshAnswer p = ok (judgedWord (outcomeOf (newOf p .game)))
-
-unfoldable pub outcomeAnswer : List ℕ → List ℕ
-outcomeAnswer arg = onHeard (positionOf form.Either arg) freshAnswer
-
-unfoldable pub gamesOf : List ℕ → List ℕ → List ℕ
-gamesOf name arg =
-    cond (sameText name (bytes "play")) (gameAnswer given.Text arg)
-    (cond (sameText name (bytes "record")) (gameAnswer given.Record arg)
-    (cond (sameText name (bytes "outcome")) (outcomeAnswer arg) bad))

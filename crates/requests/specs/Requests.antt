@@ -26,14 +26,21 @@ use Rattle.wording.specs.Output.{bytes, decimal, refusal, bad}
 use Rattle.wording.specs.Words.{sameText, firstWord, afterWord, wordAt, blanksIn}
 use Rattle.wording.specs.Numbers.{unsignedOf, setOf, signedOf}
 use Rattle.requests.specs.Heard.{positionOf, listedMoveOf, squareOf}
-use Rattle.requests.specs.Answers.{ok, onHeard, scoredAnswer, countedAnswer, placedAnswer, listAnswer, dividedAnswer, moveAnswer, afterAnswer, answerTo}
-use Rattle.requests.specs.Plays.{gamesOf}
+use Rattle.requests.specs.Answers.{ok, scoredAnswer, countedAnswer, placedAnswer, listAnswer, dividedAnswer, moveAnswer, afterAnswer, answerTo}
+use Rattle.requests.specs.Plays.{playsAnswer, freshAnswer}
+use Rattle.requests.specs.declared.plays.Given.the-variants as given
 use Rattle.requests.specs.declared.answers.Asked.{Asked}
 use Rattle.requests.specs.declared.answers.Asked.the-variants as asked
 use Rattle.requests.specs.declared.asked.Weights.{Weights}
 use Rattle.requests.specs.declared.asked.Weights.the-variants as weights
+use Rattle.requests.specs.declared.asked.Task.{Task}
+use Rattle.requests.specs.declared.asked.Task.the-variants as task
+use Rattle.requests.specs.declared.requests.Kind.{Kind}
+use Rattle.requests.specs.declared.requests.Kind.the-variants as kind
 use Rattle.requests.specs.declared.heard.Form.{Form}
 use Rattle.requests.specs.declared.heard.Form.the-variants as form
+use Rattle.requests.specs.declared.heard.Heard.{Heard}
+use Rattle.requests.specs.declared.heard.Heard.the-variants as heard
 use Rattle.requests.specs.declared.heard.Meant.{Meant}
 use Rattle.requests.specs.declared.heard.Meant.the-variants as meant
 use Rattle.requests.specs.declared.heard.Placing.{Placing}
@@ -44,6 +51,11 @@ use Rattle.wording.specs.declared.numbers.Signed.{Signed}
 use Rattle.wording.specs.declared.numbers.Signed.the-variants as signed
 
 -- ---- what goes on with what was read
+abbrev pub onHeard : Heard → (Position → List ℕ) → List ℕ
+onHeard (heard.Position p) k = k p
+onHeard (heard.Refused e) k = refusal e
+onHeard heard.Bad k = bad
+
 abbrev pub onMeant : Meant → (Move → List ℕ) → List ℕ
 onMeant (meant.Move m) k = k m
 onMeant (meant.Refused e) k = refusal e
@@ -57,11 +69,73 @@ abbrev pub onSided : Sided → (Color → List ℕ) → List ℕ
 onSided (sided.Side c) k = k c
 onSided (sided.Refused e) k = bad
 
+-- ---- with a position
+
+-- parse and after: a move's text
+unfoldable pub parsedAnswer : Position → List ℕ → List ℕ
+parsedAnswer p s = onMeant (listedMoveOf p s) moveAnswer
+
+unfoldable pub successorAnswer : Position → List ℕ → List ℕ
+successorAnswer p s = onMeant (listedMoveOf p s) (λ m. afterAnswer (afterOf p m))
+
+-- perft and divide: a depth
+unfoldable pub depthAnswer : Position → List ℕ → List ℕ
+depthAnswer p s = onParsed (unsignedOf s) (λ n. countedAnswer (perftOf p n))
+
+unfoldable pub splitAnswer : Position → List ℕ → List ℕ
+splitAnswer p s = onParsed (unsignedOf s) (λ n. dividedAnswer (divideOf p n))
+
+-- atmost, evalw
+unfoldable pub limitAnswer : ℕ → Position → List ℕ
+limitAnswer limit p = listAnswer (legalMovesOf p limit)
+
+unfoldable pub weighedAnswer : Classical → Position → List ℕ
+weighedAnswer w p = scoredAnswer (evaluateOf w p)
+
+-- what is done with a position and the rest of the line
+abbrev pub workAnswer : Task → Position → List ℕ → List ℕ
+workAnswer (task.Tell a) p s = answerTo a p
+workAnswer task.Parse p s = parsedAnswer p s
+workAnswer task.After p s = successorAnswer p s
+workAnswer task.Perft p s = depthAnswer p s
+workAnswer task.Divide p s = splitAnswer p s
+workAnswer (task.Limit n) p s = limitAnswer n p
+workAnswer (task.Weigh w) p s = weighedAnswer w p
+workAnswer task.Play p s = playsAnswer given.Text p s
+workAnswer task.Record p s = playsAnswer given.Record p s
+workAnswer task.Outcome p s = freshAnswer p
+
+-- the position is read before the rest of the line
+unfoldable pub heardAnswer : Task → Form → List ℕ → List ℕ → List ℕ
+heardAnswer t f word s = onHeard (positionOf f word) (λ p. workAnswer t p s)
+
 -- ---- the requests
 
--- about the position of the argument
-unfoldable pub aboutAnswer : Form → Asked → List ℕ → List ℕ
-aboutAnswer f a arg = onHeard (positionOf f arg) (answerTo a)
+-- a FEN word, then the rest of the line
+unfoldable pub restAnswer : Task → List ℕ → List ℕ
+restAnswer t arg = heardAnswer t form.Either (firstWord arg) (afterWord arg)
+
+-- atmost: a limit, then a FEN word
+unfoldable pub atmostAnswer : List ℕ → List ℕ
+atmostAnswer arg = onParsed (unsignedOf (firstWord arg)) (λ n. heardAnswer (task.Limit n) form.Either (afterWord arg) (afterWord arg))
+
+-- evalw: a FEN word and five weights, which are read first
+abbrev pub onSigned : Signed → (ℤ → Weights) → Weights
+onSigned (signed.Value z) k = k z
+onSigned signed.Bad k = weights.Bad
+
+unfoldable pub weightsOf : List ℕ → Weights
+weightsOf arg =
+    onSigned (signedOf (wordAt 1 arg)) (λ m. onSigned (signedOf (wordAt 2 arg)) (λ k. onSigned (signedOf (wordAt 3 arg)) (λ a.
+    onSigned (signedOf (wordAt 4 arg)) (λ c. onSigned (signedOf (wordAt 5 arg)) (λ g.
+    weights.Classical (record { man = m; king = k; advance = a; center = c; guard = g }))))))
+
+abbrev pub onWeights : Weights → (Classical → List ℕ) → List ℕ
+onWeights (weights.Classical w) k = k w
+onWeights weights.Bad k = bad
+
+unfoldable pub evalwAnswer : List ℕ → List ℕ
+evalwAnswer arg = cond (eqb (blanksIn arg) 5) (onWeights (weightsOf arg) (λ w. heardAnswer (task.Weigh w) form.Either (firstWord arg) (firstWord arg))) bad
 
 -- square: number, bit, row
 abbrev pub numberWord : Numbered → List ℕ
@@ -91,95 +165,57 @@ setsAnswer arg =
 unfoldable pub partsAnswer : List ℕ → List ℕ
 partsAnswer arg = cond (eqb (blanksIn arg) 3) (setsAnswer arg) bad
 
--- parse and after: a position, then a move's text
-unfoldable pub parsedAnswer : Position → List ℕ → List ℕ
-parsedAnswer p s = onMeant (listedMoveOf p s) moveAnswer
-
-unfoldable pub parseAnswer : List ℕ → List ℕ
-parseAnswer arg = onHeard (positionOf form.Either (firstWord arg)) (λ p. parsedAnswer p (afterWord arg))
-
-unfoldable pub successorOf : Position → List ℕ → List ℕ
-successorOf p s = onMeant (listedMoveOf p s) (λ m. afterAnswer (afterOf p m))
-
-unfoldable pub successorAnswer : List ℕ → List ℕ
-successorAnswer arg = onHeard (positionOf form.Either (firstWord arg)) (λ p. successorOf p (afterWord arg))
-
--- perft and divide: a position, then a depth
-unfoldable pub depthAnswer : Position → List ℕ → List ℕ
-depthAnswer p s = onParsed (unsignedOf s) (λ n. countedAnswer (perftOf p n))
-
-unfoldable pub perftAnswer : List ℕ → List ℕ
-perftAnswer arg = onHeard (positionOf form.Either (firstWord arg)) (λ p. depthAnswer p (afterWord arg))
-
-unfoldable pub splitAnswer : Position → List ℕ → List ℕ
-splitAnswer p s = onParsed (unsignedOf s) (λ n. dividedAnswer (divideOf p n))
-
-unfoldable pub divideAnswer : List ℕ → List ℕ
-divideAnswer arg = onHeard (positionOf form.Either (firstWord arg)) (λ p. splitAnswer p (afterWord arg))
-
--- atmost: a limit, then a position
-unfoldable pub limitAnswer : ℕ → List ℕ → List ℕ
-limitAnswer limit s = onHeard (positionOf form.Either s) (λ p. listAnswer (legalMovesOf p limit))
-
-unfoldable pub atmostAnswer : List ℕ → List ℕ
-atmostAnswer arg = onParsed (unsignedOf (firstWord arg)) (λ n. limitAnswer n (afterWord arg))
-
--- evalw: a position and five weights, which are read first
-abbrev pub onSigned : Signed → (ℤ → Weights) → Weights
-onSigned (signed.Value z) k = k z
-onSigned signed.Bad k = weights.Bad
-
-unfoldable pub weightsOf : List ℕ → Weights
-weightsOf arg =
-    onSigned (signedOf (wordAt 1 arg)) (λ m. onSigned (signedOf (wordAt 2 arg)) (λ k. onSigned (signedOf (wordAt 3 arg)) (λ a.
-    onSigned (signedOf (wordAt 4 arg)) (λ c. onSigned (signedOf (wordAt 5 arg)) (λ g.
-    weights.Classical (record { man = m; king = k; advance = a; center = c; guard = g }))))))
-
-unfoldable pub weighedAnswer : Classical → List ℕ → List ℕ
-weighedAnswer w s = onHeard (positionOf form.Either s) (λ p. scoredAnswer (evaluateOf w p))
-
-abbrev pub onWeights : Weights → (Classical → List ℕ) → List ℕ
-onWeights (weights.Classical w) k = k w
-onWeights weights.Bad k = bad
-
-unfoldable pub evalwAnswer : List ℕ → List ℕ
-evalwAnswer arg = cond (eqb (blanksIn arg) 5) (onWeights (weightsOf arg) (λ w. weighedAnswer w (firstWord arg))) bad
-
 -- ---- by the request's name
-unfoldable pub countingOf : List ℕ → List ℕ → List ℕ
-countingOf name arg =
-    cond (sameText name (bytes "perft")) (perftAnswer arg)
-    (cond (sameText name (bytes "divide")) (divideAnswer arg)
-    (cond (sameText name (bytes "atmost")) (atmostAnswer arg)
-    (cond (sameText name (bytes "evalw")) (evalwAnswer arg) (gamesOf name arg))))
+unfoldable pub gamesOf : List ℕ → Kind
+gamesOf name =
+    cond (sameText name (bytes "play")) (kind.Rest task.Play)
+    (cond (sameText name (bytes "record")) (kind.Rest task.Record)
+    (cond (sameText name (bytes "outcome")) kind.Outcome kind.Unknown))
 
-unfoldable pub wordingOf : List ℕ → List ℕ → List ℕ
-wordingOf name arg =
-    cond (sameText name (bytes "parse")) (parseAnswer arg)
-    (cond (sameText name (bytes "after")) (successorAnswer arg)
-    (cond (sameText name (bytes "square")) (squareAnswer arg)
-    (cond (sameText name (bytes "parts")) (partsAnswer arg) (countingOf name arg))))
+unfoldable pub countingOf : List ℕ → Kind
+countingOf name =
+    cond (sameText name (bytes "perft")) (kind.Rest task.Perft)
+    (cond (sameText name (bytes "divide")) (kind.Rest task.Divide)
+    (cond (sameText name (bytes "atmost")) kind.Atmost
+    (cond (sameText name (bytes "evalw")) kind.Evalw (gamesOf name))))
 
-unfoldable pub ofPosition : List ℕ → List ℕ → List ℕ
-ofPosition name arg =
-    cond (sameText name (bytes "bits")) (aboutAnswer form.Either asked.Bits arg)
-    (cond (sameText name (bytes "eval")) (aboutAnswer form.Either asked.Eval arg)
-    (cond (sameText name (bytes "hash")) (aboutAnswer form.Either asked.Hash arg)
-    (cond (sameText name (bytes "flip")) (aboutAnswer form.Either asked.Flip arg) (wordingOf name arg))))
+unfoldable pub wordingOf : List ℕ → Kind
+wordingOf name =
+    cond (sameText name (bytes "parse")) (kind.Rest task.Parse)
+    (cond (sameText name (bytes "after")) (kind.Rest task.After)
+    (cond (sameText name (bytes "square")) kind.Square
+    (cond (sameText name (bytes "parts")) kind.Parts (countingOf name))))
 
-unfoldable pub ofMoves : List ℕ → List ℕ → List ℕ
-ofMoves name arg =
-    cond (sameText name (bytes "moves")) (aboutAnswer form.Either asked.Moves arg)
-    (cond (sameText name (bytes "caps")) (aboutAnswer form.Either asked.Caps arg)
-    (cond (sameText name (bytes "quiet")) (aboutAnswer form.Either asked.Quiet arg) (ofPosition name arg)))
+unfoldable pub playingOf : List ℕ → Kind
+playingOf name =
+    cond (sameText name (bytes "moves")) (kind.About form.Either asked.Moves)
+    (cond (sameText name (bytes "caps")) (kind.About form.Either asked.Caps)
+    (cond (sameText name (bytes "quiet")) (kind.About form.Either asked.Quiet) (wordingOf name)))
 
-unfoldable pub ofText : List ℕ → List ℕ → List ℕ
-ofText name arg =
-    cond (sameText name (bytes "fen")) (aboutAnswer form.Fen asked.Fen arg)
-    (cond (sameText name (bytes "hub")) (aboutAnswer form.Hub asked.Hub arg)
-    (cond (sameText name (bytes "fen2hub")) (aboutAnswer form.Fen asked.Hub arg)
-    (cond (sameText name (bytes "hub2fen")) (aboutAnswer form.Hub asked.Fen arg) (ofMoves name arg))))
+unfoldable pub placeOf : List ℕ → Kind
+placeOf name =
+    cond (sameText name (bytes "bits")) (kind.About form.Either asked.Bits)
+    (cond (sameText name (bytes "eval")) (kind.About form.Either asked.Eval)
+    (cond (sameText name (bytes "hash")) (kind.About form.Either asked.Hash)
+    (cond (sameText name (bytes "flip")) (kind.About form.Either asked.Flip) (playingOf name))))
+
+unfoldable pub kindOf : List ℕ → Kind
+kindOf name =
+    cond (sameText name (bytes "fen")) (kind.About form.Fen asked.Fen)
+    (cond (sameText name (bytes "hub")) (kind.About form.Hub asked.Hub)
+    (cond (sameText name (bytes "fen2hub")) (kind.About form.Fen asked.Hub)
+    (cond (sameText name (bytes "hub2fen")) (kind.About form.Hub asked.Fen) (placeOf name))))
+
+abbrev pub kindAnswer : Kind → List ℕ → List ℕ
+kindAnswer (kind.About f a) arg = heardAnswer (task.Tell a) f arg arg
+kindAnswer (kind.Rest t) arg = restAnswer t arg
+kindAnswer kind.Atmost arg = atmostAnswer arg
+kindAnswer kind.Evalw arg = evalwAnswer arg
+kindAnswer kind.Square arg = squareAnswer arg
+kindAnswer kind.Parts arg = partsAnswer arg
+kindAnswer kind.Outcome arg = heardAnswer task.Outcome form.Either arg arg
+kindAnswer kind.Unknown arg = bad
 
 -- a line of more than 65,536 bytes is a bad request, whatever it says
 unfoldable pub answerOf : List ℕ → List ℕ
-answerOf line = cond (ltb 65536 (length line)) bad (ofText (firstWord line) (afterWord line))
+answerOf line = cond (ltb 65536 (length line)) bad (kindAnswer (kindOf (firstWord line)) (afterWord line))

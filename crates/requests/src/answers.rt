@@ -15,9 +15,13 @@ use texts::bytes::Wrote;
 use texts::fen;
 use texts::hub;
 use wording::output;
+ghost use mathlib.Core.Path.{_≡_};
 ghost use Prim.Native.Nat.{min};
+ghost use Rattle.positions.specs.Flip.{flippedOf};
+ghost use Rattle.scores.specs.Score.{default, evaluateOf};
+ghost use Rattle.movegen.specs.Lists.{legalMovesOf, hasCapturesOf, hasQuietMovesOf};
 ghost use Rattle.wording.specs.Output.{Adds, bytes};
-ghost use Rattle.requests.specs.Answers.{setWord, fenWord, hubWord, bitsAnswer, scoredAnswer, testedAnswer, countedAnswer, fenAnswer, hubAnswer, hashAnswer, placedAnswer, moveWord, movesText, countsText, listAnswer, dividedAnswer, moveAnswer, afterAnswer, answerTo};
+ghost use Rattle.requests.specs.Answers.{yesNo, setWord, fenWord, hubWord, bitsAnswer, scoredAnswer, testedAnswer, countedAnswer, fenAnswer, hubAnswer, hashAnswer, placedAnswer, moveWord, movesText, countsText, listAnswer, dividedAnswer, recordWord, moveAnswer, afterAnswer, answerTo};
 
 // What a request asks of a position.
 pub enum Asked {
@@ -52,44 +56,32 @@ fn put_hub(out: &mut [u8], at: usize, p: Position) -> usize
     }
 }
 
-pub(crate) fn put_ok(out: &mut [u8], at: usize) -> usize
-    ensures { λ r. ⌜ Adds (bytes "ok ") (now (out .entry)) at (now (out .exit)) r ⌝ }
-{
+pub(crate) fn put_ok(out: &mut [u8], at: usize) -> usize {
     output::put(out, at, b"ok ")
 }
 
-fn tell_fen(out: &mut [u8], at: usize, p: Position) -> usize
-    ensures { λ r. ⌜ Adds (fenAnswer p) (now (out .entry)) at (now (out .exit)) r ⌝ }
-{
+fn tell_fen(out: &mut [u8], at: usize, p: Position) -> usize {
     let k = put_ok(out, at);
     put_fen(out, k, p)
 }
 
-fn tell_hub(out: &mut [u8], at: usize, p: Position) -> usize
-    ensures { λ r. ⌜ Adds (hubAnswer p) (now (out .entry)) at (now (out .exit)) r ⌝ }
-{
+fn tell_hub(out: &mut [u8], at: usize, p: Position) -> usize {
     let k = put_ok(out, at);
     put_hub(out, k, p)
 }
 
-fn tell_hash(out: &mut [u8], at: usize, p: Position) -> usize
-    ensures { λ r. ⌜ Adds (hashAnswer p) (now (out .entry)) at (now (out .exit)) r ⌝ }
-{
+fn tell_hash(out: &mut [u8], at: usize, p: Position) -> usize {
     let k = put_ok(out, at);
     output::put_hash(out, k, p.hash)
 }
 
 // A set in hexadecimal and a space.
-fn put_set(out: &mut [u8], at: usize, set: u64) -> usize
-    ensures { λ r. ⌜ Adds (setWord set) (now (out .entry)) at (now (out .exit)) r ⌝ }
-{
+fn put_set(out: &mut [u8], at: usize, set: u64) -> usize {
     let k = output::put_hex(out, at, set);
     output::put_byte(out, k, b' ')
 }
 
-fn tell_bits(out: &mut [u8], at: usize, p: Position) -> usize
-    ensures { λ r. ⌜ Adds (bitsAnswer p) (now (out .entry)) at (now (out .exit)) r ⌝ }
-{
+fn tell_bits(out: &mut [u8], at: usize, p: Position) -> usize {
     let side = p.side;
     let k = put_ok(out, at);
     let white = put_set(out, k, p.white);
@@ -101,18 +93,14 @@ fn tell_bits(out: &mut [u8], at: usize, p: Position) -> usize
 }
 
 // A position as FEN, or the refusal.
-pub(crate) fn tell_placed(out: &mut [u8], at: usize, p: Placed) -> usize
-    ensures { λ r. ⌜ Adds (placedAnswer p) (now (out .entry)) at (now (out .exit)) r ⌝ }
-{
+pub(crate) fn tell_placed(out: &mut [u8], at: usize, p: Placed) -> usize {
     match p {
         Placed::Position(q) => tell_fen(out, at, q),
         Placed::Refused(e) => output::put_refusal(out, at, e),
     }
 }
 
-pub(crate) fn tell_scored(out: &mut [u8], at: usize, s: Scored) -> usize
-    ensures { λ r. ⌜ Adds (scoredAnswer s) (now (out .entry)) at (now (out .exit)) r ⌝ }
-{
+pub(crate) fn tell_scored(out: &mut [u8], at: usize, s: Scored) -> usize {
     match s {
         Scored::Score(z) => {
             let k = put_ok(out, at);
@@ -122,21 +110,21 @@ pub(crate) fn tell_scored(out: &mut [u8], at: usize, s: Scored) -> usize
     }
 }
 
-fn tell_tested(out: &mut [u8], at: usize, t: Tested) -> usize
-    ensures { λ r. ⌜ Adds (testedAnswer t) (now (out .entry)) at (now (out .exit)) r ⌝ }
-{
+fn yes_no(yes: bool) -> u8 {
+    if yes { b'1' } else { b'0' }
+}
+
+fn tell_tested(out: &mut [u8], at: usize, t: Tested) -> usize {
     match t {
         Tested::Is(yes) => {
             let k = put_ok(out, at);
-            output::put_byte(out, k, b'0' + yes as u8)
+            output::put_byte(out, k, yes_no(yes))
         }
         Tested::Refused(e) => output::put_refusal(out, at, e),
     }
 }
 
-pub(crate) fn tell_counted(out: &mut [u8], at: usize, c: Counted) -> usize
-    ensures { λ r. ⌜ Adds (countedAnswer c) (now (out .entry)) at (now (out .exit)) r ⌝ }
-{
+pub(crate) fn tell_counted(out: &mut [u8], at: usize, c: Counted) -> usize {
     match c {
         Counted::Count(n) => {
             let k = put_ok(out, at);
@@ -177,9 +165,7 @@ fn put_moves(out: &mut [u8], at: usize, list: MoveList) -> usize
 }
 
 // How many moves there are, and each of them.
-pub(crate) fn tell_list(out: &mut [u8], at: usize, l: Listed) -> usize
-    ensures { λ r. ⌜ Adds (listAnswer l) (now (out .entry)) at (now (out .exit)) r ⌝ }
-{
+pub(crate) fn tell_list(out: &mut [u8], at: usize, l: Listed) -> usize {
     let answer = l.answer;
     let list = l.list;
     match answer {
@@ -213,9 +199,7 @@ fn put_counts(out: &mut [u8], at: usize, list: MoveList, counts: [u64; 256]) -> 
     k
 }
 
-pub(crate) fn tell_divided(out: &mut [u8], at: usize, d: Divided) -> usize
-    ensures { λ r. ⌜ Adds (dividedAnswer d) (now (out .entry)) at (now (out .exit)) r ⌝ }
-{
+pub(crate) fn tell_divided(out: &mut [u8], at: usize, d: Divided) -> usize {
     let answer = d.answer;
     let list = d.list;
     let counts = d.counts;
@@ -229,24 +213,25 @@ pub(crate) fn tell_divided(out: &mut [u8], at: usize, d: Divided) -> usize
     }
 }
 
-// The move's Hub text, first square, last square and set.
-pub(crate) fn tell_move(out: &mut [u8], at: usize, m: Move) -> usize
-    ensures { λ r. ⌜ Adds (moveAnswer m) (now (out .entry)) at (now (out .exit)) r ⌝ }
-{
-    let k = put_ok(out, at);
-    let text = put_move(out, k, m);
-    let blank = output::put_byte(out, text, b' ');
-    let from = output::put_decimal(out, blank, m.from as u64);
+// A move's first square, last square and set.
+fn put_record(out: &mut [u8], at: usize, m: Move) -> usize {
+    let from = output::put_decimal(out, at, m.from as u64);
     let comma = output::put_byte(out, from, b',');
     let to = output::put_decimal(out, comma, m.to as u64);
     let last = output::put_byte(out, to, b',');
     output::put_hex(out, last, m.captured)
 }
 
+// The move's Hub text, first square, last square and set.
+pub(crate) fn tell_move(out: &mut [u8], at: usize, m: Move) -> usize {
+    let k = put_ok(out, at);
+    let text = put_move(out, k, m);
+    let blank = output::put_byte(out, text, b' ');
+    put_record(out, blank, m)
+}
+
 // The FEN of the position after a move, and its hash.
-pub(crate) fn tell_after(out: &mut [u8], at: usize, p: Placed) -> usize
-    ensures { λ r. ⌜ Adds (afterAnswer p) (now (out .entry)) at (now (out .exit)) r ⌝ }
-{
+pub(crate) fn tell_after(out: &mut [u8], at: usize, p: Placed) -> usize {
     match p {
         Placed::Position(q) => {
             let k = tell_fen(out, at, q);
@@ -257,18 +242,36 @@ pub(crate) fn tell_after(out: &mut [u8], at: usize, p: Placed) -> usize
     }
 }
 
-pub(crate) fn tell(asked: Asked, p: Position, out: &mut [u8], at: usize) -> usize
-    ensures { λ r. ⌜ Adds (answerTo asked p) (now (out .entry)) at (now (out .exit)) r ⌝ }
-{
+fn tell_moves(out: &mut [u8], at: usize, p: Position) -> usize {
+    tell_list(out, at, movegen::movegen::legal_moves(p, MAX_MOVES))
+}
+
+fn tell_eval(out: &mut [u8], at: usize, p: Position) -> usize {
+    tell_scored(out, at, eval::evaluate(p))
+}
+
+fn tell_flip(out: &mut [u8], at: usize, p: Position) -> usize {
+    tell_placed(out, at, p.flipped())
+}
+
+fn tell_caps(out: &mut [u8], at: usize, p: Position) -> usize {
+    tell_tested(out, at, movegen::movegen::has_captures(p))
+}
+
+fn tell_quiet(out: &mut [u8], at: usize, p: Position) -> usize {
+    tell_tested(out, at, movegen::movegen::has_quiet_moves(p))
+}
+
+pub(crate) fn tell(asked: Asked, p: Position, out: &mut [u8], at: usize) -> usize {
     match asked {
         Asked::Fen => tell_fen(out, at, p),
         Asked::Hub => tell_hub(out, at, p),
         Asked::Bits => tell_bits(out, at, p),
-        Asked::Moves => tell_list(out, at, movegen::movegen::legal_moves(p, MAX_MOVES)),
-        Asked::Eval => tell_scored(out, at, eval::evaluate(p)),
+        Asked::Moves => tell_moves(out, at, p),
+        Asked::Eval => tell_eval(out, at, p),
         Asked::Hash => tell_hash(out, at, p),
-        Asked::Flip => tell_placed(out, at, p.flipped()),
-        Asked::Caps => tell_tested(out, at, movegen::movegen::has_captures(p)),
-        Asked::Quiet => tell_tested(out, at, movegen::movegen::has_quiet_moves(p)),
+        Asked::Flip => tell_flip(out, at, p),
+        Asked::Caps => tell_caps(out, at, p),
+        Asked::Quiet => tell_quiet(out, at, p),
     }
 }

@@ -6,6 +6,8 @@ use crate::heard::Form;
 use crate::heard::Heard;
 use crate::heard::Meant;
 use crate::heard::Placing;
+use crate::plays;
+use crate::plays::Given;
 use scores::eval::Classical;
 use positions::position;
 use positions::position::Position;
@@ -19,92 +21,24 @@ use wording::numbers::Signed;
 use wording::output;
 use wording::words;
 ghost use mathlib.Core.Path.{_≡_};
-ghost use Prim.Native.Nat.{_≤_};
 ghost use Rattle.wording.specs.Output.{Adds};
-ghost use Rattle.requests.specs.Requests.{aboutAnswer, numberWord, squareAnswer, sideOf, partsAnswer, setsAnswer, parseAnswer, parsedAnswer, successorAnswer, successorOf, perftAnswer, depthAnswer, divideAnswer, splitAnswer, atmostAnswer, limitAnswer, weightsOf, evalwAnswer, weighedAnswer};
+ghost use Rattle.requests.specs.Requests.{numberWord, squareAnswer, sideOf, partsAnswer, setsAnswer, parsedAnswer, successorAnswer, depthAnswer, splitAnswer, limitAnswer, weighedAnswer, workAnswer, heardAnswer, restAnswer, atmostAnswer, weightsOf, evalwAnswer};
 
-// A request about the position of a word alone.
-pub(crate) fn about(form: Form, asked: Asked, word: &[u8], out: &mut [u8], at: usize) -> usize
-    ensures { λ r. ⌜ Adds (aboutAnswer form asked (now (word .entry))) (now (out .entry)) at (now (out .exit)) r ⌝ }
-{
-    match heard::position(form, word) {
-        Heard::Position(p) => answers::tell(asked, p, out, at),
-        Heard::Refused(e) => output::put_refusal(out, at, e),
-        Heard::Bad => output::put_bad(out, at),
-    }
+// What is done with a position: something is told of it alone, or with the rest of the line, or by a limit or weights.
+pub enum Task {
+    Tell(Asked),
+    Parse,
+    After,
+    Perft,
+    Divide,
+    Limit(usize),
+    Weigh(Classical),
+    Play,
+    Record,
+    Outcome,
 }
 
-// A square's number, bit or row.
-fn put_number(out: &mut [u8], at: usize, n: Numbered) -> usize
-    ensures { λ r. ⌜ Adds (numberWord n) (now (out .entry)) at (now (out .exit)) r ⌝ }
-{
-    match n {
-        Numbered::Number(k) => output::put_decimal(out, at, k as u64),
-        Numbered::Refused(_) => at,
-    }
-}
-
-// The number, the bit and the row of a square.
-pub(crate) fn square(word: &[u8], out: &mut [u8], at: usize) -> usize
-    ensures { λ r. ⌜ Adds (squareAnswer (now (word .entry))) (now (out .entry)) at (now (out .exit)) r ⌝ }
-{
-    match heard::square(word) {
-        Placing::Square(k) => {
-            let a = answers::put_ok(out, at);
-            let b = output::put_decimal(out, a, k as u64);
-            let c = output::put_byte(out, b, b' ');
-            let d = put_number(out, c, squares::square::bit(k));
-            let e = output::put_byte(out, d, b' ');
-            put_number(out, e, squares::square::row(k))
-        }
-        Placing::Refused(e) => output::put_refusal(out, at, e),
-        Placing::Bad => output::put_bad(out, at),
-    }
-}
-
-// The side of a word: W or B alone.
-fn side(word: &[u8]) -> Sided
-    ensures { λ r. ⌜ r ≡ sideOf (now (word .entry)) ⌝ }
-{
-    if word.len() == 1 {
-        return Color::from_char(word[0]);
-    }
-    Sided::Refused(Refusal::NoSide)
-}
-
-// Three sets and a side.
-fn sets(arg: &[u8], out: &mut [u8], at: usize) -> usize
-    ensures { λ r. ⌜ Adds (setsAnswer (now (arg .entry))) (now (out .entry)) at (now (out .exit)) r ⌝ }
-{
-    let Parsed::Value(white) = numbers::set(words::word(arg, 0)) else {
-        return output::put_bad(out, at);
-    };
-    let Parsed::Value(black) = numbers::set(words::word(arg, 1)) else {
-        return output::put_bad(out, at);
-    };
-    let Parsed::Value(kings) = numbers::set(words::word(arg, 2)) else {
-        return output::put_bad(out, at);
-    };
-    match side(words::word(arg, 3)) {
-        Sided::Side(c) => {
-            answers::tell_placed(out, at, position::from_parts(white, black, kings, c))
-        }
-        Sided::Refused(_) => output::put_bad(out, at),
-    }
-}
-
-pub(crate) fn parts(arg: &[u8], out: &mut [u8], at: usize) -> usize
-    ensures { λ r. ⌜ Adds (partsAnswer (now (arg .entry))) (now (out .entry)) at (now (out .exit)) r ⌝ }
-{
-    if words::blanks(arg) == 3 {
-        return sets(arg, out, at);
-    }
-    output::put_bad(out, at)
-}
-
-fn parsed(p: Position, word: &[u8], out: &mut [u8], at: usize) -> usize
-    ensures { λ r. ⌜ Adds (parsedAnswer p (now (word .entry))) (now (out .entry)) at (now (out .exit)) r ⌝ }
-{
+fn parsed(p: Position, word: &[u8], out: &mut [u8], at: usize) -> usize {
     match heard::listed_move(p, word) {
         Meant::Move(m) => answers::tell_move(out, at, m),
         Meant::Refused(e) => output::put_refusal(out, at, e),
@@ -112,19 +46,7 @@ fn parsed(p: Position, word: &[u8], out: &mut [u8], at: usize) -> usize
     }
 }
 
-pub(crate) fn parse(arg: &[u8], out: &mut [u8], at: usize) -> usize
-    ensures { λ r. ⌜ Adds (parseAnswer (now (arg .entry))) (now (out .entry)) at (now (out .exit)) r ⌝ }
-{
-    match heard::position(Form::Either, words::first(arg)) {
-        Heard::Position(p) => parsed(p, words::rest(arg), out, at),
-        Heard::Refused(e) => output::put_refusal(out, at, e),
-        Heard::Bad => output::put_bad(out, at),
-    }
-}
-
-fn successor(p: Position, word: &[u8], out: &mut [u8], at: usize) -> usize
-    ensures { λ r. ⌜ Adds (successorOf p (now (word .entry))) (now (out .entry)) at (now (out .exit)) r ⌝ }
-{
+fn successor(p: Position, word: &[u8], out: &mut [u8], at: usize) -> usize {
     match heard::listed_move(p, word) {
         Meant::Move(m) => answers::tell_after(out, at, movegen::movegen::after(p, m)),
         Meant::Refused(e) => output::put_refusal(out, at, e),
@@ -132,71 +54,77 @@ fn successor(p: Position, word: &[u8], out: &mut [u8], at: usize) -> usize
     }
 }
 
-pub(crate) fn after(arg: &[u8], out: &mut [u8], at: usize) -> usize
-    ensures { λ r. ⌜ Adds (successorAnswer (now (arg .entry))) (now (out .entry)) at (now (out .exit)) r ⌝ }
-{
-    match heard::position(Form::Either, words::first(arg)) {
-        Heard::Position(p) => successor(p, words::rest(arg), out, at),
-        Heard::Refused(e) => output::put_refusal(out, at, e),
-        Heard::Bad => output::put_bad(out, at),
-    }
-}
-
 // A depth of 32 bits.
-fn counted(p: Position, word: &[u8], out: &mut [u8], at: usize) -> usize
-    ensures { λ r. ⌜ Adds (depthAnswer p (now (word .entry))) (now (out .entry)) at (now (out .exit)) r ⌝ }
-{
+fn counted(p: Position, word: &[u8], out: &mut [u8], at: usize) -> usize {
     match numbers::unsigned(word) {
         Parsed::Value(n) => answers::tell_counted(out, at, movegen::perft::perft(p, n as u32)),
         Parsed::Bad => output::put_bad(out, at),
     }
 }
 
-pub(crate) fn perft(arg: &[u8], out: &mut [u8], at: usize) -> usize
-    ensures { λ r. ⌜ Adds (perftAnswer (now (arg .entry))) (now (out .entry)) at (now (out .exit)) r ⌝ }
-{
-    match heard::position(Form::Either, words::first(arg)) {
-        Heard::Position(p) => counted(p, words::rest(arg), out, at),
-        Heard::Refused(e) => output::put_refusal(out, at, e),
-        Heard::Bad => output::put_bad(out, at),
-    }
-}
-
-fn split(p: Position, word: &[u8], out: &mut [u8], at: usize) -> usize
-    ensures { λ r. ⌜ Adds (splitAnswer p (now (word .entry))) (now (out .entry)) at (now (out .exit)) r ⌝ }
-{
+fn split(p: Position, word: &[u8], out: &mut [u8], at: usize) -> usize {
     match numbers::unsigned(word) {
         Parsed::Value(n) => answers::tell_divided(out, at, movegen::perft::divide(p, n as u32)),
         Parsed::Bad => output::put_bad(out, at),
     }
 }
 
-pub(crate) fn divide(arg: &[u8], out: &mut [u8], at: usize) -> usize
-    ensures { λ r. ⌜ Adds (divideAnswer (now (arg .entry))) (now (out .entry)) at (now (out .exit)) r ⌝ }
-{
-    match heard::position(Form::Either, words::first(arg)) {
-        Heard::Position(p) => split(p, words::rest(arg), out, at),
+fn limited(limit: usize, p: Position, out: &mut [u8], at: usize) -> usize {
+    answers::tell_list(out, at, movegen::movegen::legal_moves(p, limit))
+}
+
+fn weighed(w: Classical, p: Position, out: &mut [u8], at: usize) -> usize {
+    answers::tell_scored(out, at, w.evaluate(p))
+}
+
+fn work(task: Task, p: Position, rest: &[u8], out: &mut [u8], at: usize) -> usize {
+    match task {
+        Task::Tell(asked) => answers::tell(asked, p, out, at),
+        Task::Parse => parsed(p, rest, out, at),
+        Task::After => successor(p, rest, out, at),
+        Task::Perft => counted(p, rest, out, at),
+        Task::Divide => split(p, rest, out, at),
+        Task::Limit(limit) => limited(limit, p, out, at),
+        Task::Weigh(w) => weighed(w, p, out, at),
+        Task::Play => plays::plays(Given::Text, p, rest, out, at),
+        Task::Record => plays::plays(Given::Record, p, rest, out, at),
+        Task::Outcome => plays::fresh(p, out, at),
+    }
+}
+
+// The position is read before the rest of the line.
+pub(crate) fn about(
+    task: Task,
+    form: Form,
+    word: &[u8],
+    rest: &[u8],
+    out: &mut [u8],
+    at: usize,
+) -> usize {
+    match heard::position(form, word) {
+        Heard::Position(p) => work(task, p, rest, out, at),
         Heard::Refused(e) => output::put_refusal(out, at, e),
         Heard::Bad => output::put_bad(out, at),
     }
 }
 
-fn limited(limit: usize, word: &[u8], out: &mut [u8], at: usize) -> usize
-    ensures { λ r. ⌜ Adds (limitAnswer limit (now (word .entry))) (now (out .entry)) at (now (out .exit)) r ⌝ }
-{
-    match heard::position(Form::Either, word) {
-        Heard::Position(p) => answers::tell_list(out, at, movegen::movegen::legal_moves(p, limit)),
-        Heard::Refused(e) => output::put_refusal(out, at, e),
-        Heard::Bad => output::put_bad(out, at),
-    }
+// A FEN word, then the rest of the line.
+pub(crate) fn with_rest(task: Task, arg: &[u8], out: &mut [u8], at: usize) -> usize {
+    about(
+        task,
+        Form::Either,
+        words::first(arg),
+        words::rest(arg),
+        out,
+        at,
+    )
 }
 
 // The limit stands before the FEN and is read first.
-pub(crate) fn atmost(arg: &[u8], out: &mut [u8], at: usize) -> usize
-    ensures { λ r. ⌜ Adds (atmostAnswer (now (arg .entry))) (now (out .entry)) at (now (out .exit)) r ⌝ }
-{
+pub(crate) fn atmost(arg: &[u8], out: &mut [u8], at: usize) -> usize {
+    let fen = words::rest(arg);
     match numbers::unsigned(words::first(arg)) {
-        Parsed::Value(n) => limited(n as usize, words::rest(arg), out, at),
+        Parsed::Value(n) => about(Task::Limit(n as usize), Form::Either, fen, fen, out, at),
         Parsed::Bad => output::put_bad(out, at),
     }
 }
@@ -207,9 +135,7 @@ pub enum Weights {
     Bad,
 }
 
-fn read_weights(arg: &[u8]) -> Weights
-    ensures { λ r. ⌜ r ≡ weightsOf (now (arg .entry)) ⌝ }
-{
+fn read_weights(arg: &[u8]) -> Weights {
     let Signed::Value(man) = numbers::read_signed(words::word(arg, 1)) else {
         return Weights::Bad;
     };
@@ -234,25 +160,72 @@ fn read_weights(arg: &[u8]) -> Weights
     })
 }
 
-fn weighed(w: Classical, word: &[u8], out: &mut [u8], at: usize) -> usize
-    ensures { λ r. ⌜ Adds (weighedAnswer w (now (word .entry))) (now (out .entry)) at (now (out .exit)) r ⌝ }
-{
-    match heard::position(Form::Either, word) {
-        Heard::Position(p) => answers::tell_scored(out, at, w.evaluate(p)),
-        Heard::Refused(e) => output::put_refusal(out, at, e),
-        Heard::Bad => output::put_bad(out, at),
-    }
-}
-
 // The weights are read before the FEN.
-pub(crate) fn evalw(arg: &[u8], out: &mut [u8], at: usize) -> usize
-    ensures { λ r. ⌜ Adds (evalwAnswer (now (arg .entry))) (now (out .entry)) at (now (out .exit)) r ⌝ }
-{
+pub(crate) fn evalw(arg: &[u8], out: &mut [u8], at: usize) -> usize {
     if words::blanks(arg) != 5 {
         return output::put_bad(out, at);
     }
+    let fen = words::first(arg);
     match read_weights(arg) {
-        Weights::Classical(w) => weighed(w, words::first(arg), out, at),
+        Weights::Classical(w) => about(Task::Weigh(w), Form::Either, fen, fen, out, at),
         Weights::Bad => output::put_bad(out, at),
     }
+}
+
+// A square's number, bit or row.
+fn put_number(out: &mut [u8], at: usize, n: Numbered) -> usize {
+    match n {
+        Numbered::Number(k) => output::put_decimal(out, at, k as u64),
+        Numbered::Refused(_) => at,
+    }
+}
+
+// The number, the bit and the row of a square.
+pub(crate) fn square(word: &[u8], out: &mut [u8], at: usize) -> usize {
+    match heard::square(word) {
+        Placing::Square(k) => {
+            let a = answers::put_ok(out, at);
+            let b = output::put_decimal(out, a, k as u64);
+            let c = output::put_byte(out, b, b' ');
+            let d = put_number(out, c, squares::square::bit(k));
+            let e = output::put_byte(out, d, b' ');
+            put_number(out, e, squares::square::row(k))
+        }
+        Placing::Refused(e) => output::put_refusal(out, at, e),
+        Placing::Bad => output::put_bad(out, at),
+    }
+}
+
+// The side of a word: W or B alone.
+fn side(word: &[u8]) -> Sided {
+    if word.len() == 1 {
+        return Color::from_char(word[0]);
+    }
+    Sided::Refused(Refusal::NoSide)
+}
+
+// Three sets and a side.
+fn sets(arg: &[u8], out: &mut [u8], at: usize) -> usize {
+    let Parsed::Value(white) = numbers::set(words::word(arg, 0)) else {
+        return output::put_bad(out, at);
+    };
+    let Parsed::Value(black) = numbers::set(words::word(arg, 1)) else {
+        return output::put_bad(out, at);
+    };
+    let Parsed::Value(kings) = numbers::set(words::word(arg, 2)) else {
+        return output::put_bad(out, at);
+    };
+    match side(words::word(arg, 3)) {
+        Sided::Side(c) => {
+            answers::tell_placed(out, at, position::from_parts(white, black, kings, c))
+        }
+        Sided::Refused(_) => output::put_bad(out, at),
+    }
+}
+
+pub(crate) fn parts(arg: &[u8], out: &mut [u8], at: usize) -> usize {
+    if words::blanks(arg) == 3 {
+        return sets(arg, out, at);
+    }
+    output::put_bad(out, at)
 }

@@ -2,7 +2,6 @@
 use crate::requests;
 use libc::STDOUT_FILENO;
 use texts::bytes;
-use wording::output;
 ghost use Prim.Native.Nat.{_≤_, _<_};
 ghost use lib.ListN.{length};
 
@@ -20,8 +19,13 @@ fn answer_at(line: &[u8], out: &mut [u8], at: usize) -> usize
     requires { ⌜ at ≤ length (now out) ⌝ }
     ensures { λ r. ⌜ r ≤ length (now (out .entry)) ⌝ }
 {
+    let room = out.len() - at;
     let n = requests::answer(line, &mut out[at..]);
-    output::put_byte(out, at + n, b'\n')
+    if n < room {
+        out[at + n] = b'\n';
+        return at + n + 1;
+    }
+    out.len()
 }
 
 // A place with room for an answer: this one, or the start once what is there is written.

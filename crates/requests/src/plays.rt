@@ -3,8 +3,6 @@
 // refused; `record` tells ` N` of each record, 0 where it is accepted. Both end with ` | FEN OUTCOME COUNT1 COUNT2 TIMES MOVES`.
 // A word that is no text or no record breaks the whole request.
 use crate::answers;
-use crate::heard::Form;
-use crate::heard::Heard;
 use crate::heard::Meant;
 use crate::heard;
 use crate::states;
@@ -26,7 +24,7 @@ ghost use mathlib.Core.Path.{_≡_};
 ghost use Rattle.squares.specs.declared.refusal.Refusal.the-variants.{BadMoveText};
 ghost use Rattle.games.specs.Play.{refusedPlay};
 ghost use Rattle.wording.specs.Output.{Adds};
-ghost use Rattle.requests.specs.Plays.{afterComma, recordOf, isTextOf, isRecordOf, readableOf, allReadable, wordsOf, playTextOf, playRecordOf, playWordOf, meantWord, moveOfWord, textTold, recordTold, wordTold, gameText, playsAnswer, gameAnswer, freshAnswer, outcomeAnswer, gamesOf};
+ghost use Rattle.requests.specs.Plays.{afterComma, recordOf, isTextOf, isRecordOf, readableOf, allReadable, wordsOf, playTextOf, playRecordOf, playWordOf, meantWord, moveOfWord, textTold, recordTold, wordTold, gameText, playsAnswer, freshAnswer};
 
 // How the plays of a game are given.
 pub enum Given {
@@ -224,7 +222,7 @@ fn play_words(given: Given, start: Game, s: &[u8], out: &mut [u8], at: usize) ->
 }
 
 // The plays on a new game.
-fn plays(given: Given, p: Position, s: &[u8], out: &mut [u8], at: usize) -> usize
+pub(crate) fn plays(given: Given, p: Position, s: &[u8], out: &mut [u8], at: usize) -> usize
     ensures { λ r. ⌜ Adds (playsAnswer given p (now (s .entry))) (now (out .entry)) at (now (out .exit)) r ⌝ }
 {
     if all_readable(given, s) {
@@ -236,48 +234,12 @@ fn plays(given: Given, p: Position, s: &[u8], out: &mut [u8], at: usize) -> usiz
     output::put_bad(out, at)
 }
 
-fn game(given: Given, arg: &[u8], out: &mut [u8], at: usize) -> usize
-    ensures { λ r. ⌜ Adds (gameAnswer given (now (arg .entry))) (now (out .entry)) at (now (out .exit)) r ⌝ }
-{
-    match heard::position(Form::Either, words::first(arg)) {
-        Heard::Position(p) => plays(given, p, words::rest(arg), out, at),
-        Heard::Refused(e) => output::put_refusal(out, at, e),
-        Heard::Bad => output::put_bad(out, at),
-    }
-}
-
 // The outcome of a new game.
-fn fresh(p: Position, out: &mut [u8], at: usize) -> usize
+pub(crate) fn fresh(p: Position, out: &mut [u8], at: usize) -> usize
     ensures { λ r. ⌜ Adds (freshAnswer p) (now (out .entry)) at (now (out .exit)) r ⌝ }
 {
     let begun = Game::from_position(p);
     let game = begun.game;
-    let k = answers::put_ok(out, at);
+    let k = output::put(out, at, b"ok ");
     states::put_judged(out, k, game.outcome())
-}
-
-fn outcome(arg: &[u8], out: &mut [u8], at: usize) -> usize
-    ensures { λ r. ⌜ Adds (outcomeAnswer (now (arg .entry))) (now (out .entry)) at (now (out .exit)) r ⌝ }
-{
-    match heard::position(Form::Either, arg) {
-        Heard::Position(p) => fresh(p, out, at),
-        Heard::Refused(e) => output::put_refusal(out, at, e),
-        Heard::Bad => output::put_bad(out, at),
-    }
-}
-
-// Requests about games.
-pub(crate) fn games(name: &[u8], arg: &[u8], out: &mut [u8], at: usize) -> usize
-    ensures { λ r. ⌜ Adds (gamesOf (now (name .entry)) (now (arg .entry))) (now (out .entry)) at (now (out .exit)) r ⌝ }
-{
-    if words::same(name, b"play") {
-        return game(Given::Text, arg, out, at);
-    }
-    if words::same(name, b"record") {
-        return game(Given::Record, arg, out, at);
-    }
-    if words::same(name, b"outcome") {
-        return outcome(arg, out, at);
-    }
-    output::put_bad(out, at)
 }

@@ -1,118 +1,144 @@
 // A request line and its answer: by the request's name, which is the line's first word.
 use crate::answers::Asked;
 use crate::asked;
+use crate::asked::Task;
 use crate::heard::Form;
-use crate::plays;
 use wording::output;
 use wording::words;
 ghost use mathlib.Core.Path.{_≡_};
 ghost use Prim.Native.Nat.{min};
 ghost use lib.ListN.{length};
 ghost use Rattle.wording.specs.Output.{Adds, written};
-ghost use Rattle.requests.specs.Requests.{countingOf, wordingOf, ofPosition, ofMoves, ofText, answerOf};
+ghost use Rattle.requests.specs.Requests.{countingOf, wordingOf, playingOf, placeOf, kindOf, kindAnswer, answerOf};
 
 // The longest line that is looked at.
 pub const LONGEST: usize = 65536;
 
+// What a request's name asks for.
+pub enum Kind {
+    About(Form, Asked),
+    Rest(Task),
+    Atmost,
+    Evalw,
+    Square,
+    Parts,
+    Outcome,
+    Unknown,
+}
+
+// Requests about games.
+fn games(name: &[u8]) -> Kind {
+    if words::same(name, b"play") {
+        return Kind::Rest(Task::Play);
+    }
+    if words::same(name, b"record") {
+        return Kind::Rest(Task::Record);
+    }
+    if words::same(name, b"outcome") {
+        return Kind::Outcome;
+    }
+    Kind::Unknown
+}
+
 // Requests with numbers.
-fn counting(name: &[u8], arg: &[u8], out: &mut [u8], at: usize) -> usize
-    ensures { λ r. ⌜ Adds (countingOf (now (name .entry)) (now (arg .entry))) (now (out .entry)) at (now (out .exit)) r ⌝ }
-{
+fn counting(name: &[u8]) -> Kind {
     if words::same(name, b"perft") {
-        return asked::perft(arg, out, at);
+        return Kind::Rest(Task::Perft);
     }
     if words::same(name, b"divide") {
-        return asked::divide(arg, out, at);
+        return Kind::Rest(Task::Divide);
     }
     if words::same(name, b"atmost") {
-        return asked::atmost(arg, out, at);
+        return Kind::Atmost;
     }
     if words::same(name, b"evalw") {
-        return asked::evalw(arg, out, at);
+        return Kind::Evalw;
     }
-    plays::games(name, arg, out, at)
+    games(name)
 }
 
-// Requests with other words.
-fn wording(name: &[u8], arg: &[u8], out: &mut [u8], at: usize) -> usize
-    ensures { λ r. ⌜ Adds (wordingOf (now (name .entry)) (now (arg .entry))) (now (out .entry)) at (now (out .exit)) r ⌝ }
-{
+// Requests with texts beside a position, or without one.
+fn wording(name: &[u8]) -> Kind {
     if words::same(name, b"parse") {
-        return asked::parse(arg, out, at);
+        return Kind::Rest(Task::Parse);
     }
     if words::same(name, b"after") {
-        return asked::after(arg, out, at);
+        return Kind::Rest(Task::After);
     }
     if words::same(name, b"square") {
-        return asked::square(arg, out, at);
+        return Kind::Square;
     }
     if words::same(name, b"parts") {
-        return asked::parts(arg, out, at);
+        return Kind::Parts;
     }
-    counting(name, arg, out, at)
+    counting(name)
 }
 
-// Requests about a FEN word alone, which may be Hub.
-fn of_position(name: &[u8], arg: &[u8], out: &mut [u8], at: usize) -> usize
-    ensures { λ r. ⌜ Adds (ofPosition (now (name .entry)) (now (arg .entry))) (now (out .entry)) at (now (out .exit)) r ⌝ }
-{
-    if words::same(name, b"bits") {
-        return asked::about(Form::Either, Asked::Bits, arg, out, at);
-    }
-    if words::same(name, b"eval") {
-        return asked::about(Form::Either, Asked::Eval, arg, out, at);
-    }
-    if words::same(name, b"hash") {
-        return asked::about(Form::Either, Asked::Hash, arg, out, at);
-    }
-    if words::same(name, b"flip") {
-        return asked::about(Form::Either, Asked::Flip, arg, out, at);
-    }
-    wording(name, arg, out, at)
-}
-
-fn of_moves(name: &[u8], arg: &[u8], out: &mut [u8], at: usize) -> usize
-    ensures { λ r. ⌜ Adds (ofMoves (now (name .entry)) (now (arg .entry))) (now (out .entry)) at (now (out .exit)) r ⌝ }
-{
+// Requests about the moves of a FEN word, which may be Hub.
+fn playing(name: &[u8]) -> Kind {
     if words::same(name, b"moves") {
-        return asked::about(Form::Either, Asked::Moves, arg, out, at);
+        return Kind::About(Form::Either, Asked::Moves);
     }
     if words::same(name, b"caps") {
-        return asked::about(Form::Either, Asked::Caps, arg, out, at);
+        return Kind::About(Form::Either, Asked::Caps);
     }
     if words::same(name, b"quiet") {
-        return asked::about(Form::Either, Asked::Quiet, arg, out, at);
+        return Kind::About(Form::Either, Asked::Quiet);
     }
-    of_position(name, arg, out, at)
+    wording(name)
 }
 
-// Requests about a FEN or a Hub text.
-fn of_text(name: &[u8], arg: &[u8], out: &mut [u8], at: usize) -> usize
-    ensures { λ r. ⌜ Adds (ofText (now (name .entry)) (now (arg .entry))) (now (out .entry)) at (now (out .exit)) r ⌝ }
-{
+// Requests about the position of a FEN word, which may be Hub.
+fn place(name: &[u8]) -> Kind {
+    if words::same(name, b"bits") {
+        return Kind::About(Form::Either, Asked::Bits);
+    }
+    if words::same(name, b"eval") {
+        return Kind::About(Form::Either, Asked::Eval);
+    }
+    if words::same(name, b"hash") {
+        return Kind::About(Form::Either, Asked::Hash);
+    }
+    if words::same(name, b"flip") {
+        return Kind::About(Form::Either, Asked::Flip);
+    }
+    playing(name)
+}
+
+fn kind_of(name: &[u8]) -> Kind {
     if words::same(name, b"fen") {
-        return asked::about(Form::Fen, Asked::Fen, arg, out, at);
+        return Kind::About(Form::Fen, Asked::Fen);
     }
     if words::same(name, b"hub") {
-        return asked::about(Form::Hub, Asked::Hub, arg, out, at);
+        return Kind::About(Form::Hub, Asked::Hub);
     }
     if words::same(name, b"fen2hub") {
-        return asked::about(Form::Fen, Asked::Hub, arg, out, at);
+        return Kind::About(Form::Fen, Asked::Hub);
     }
     if words::same(name, b"hub2fen") {
-        return asked::about(Form::Hub, Asked::Fen, arg, out, at);
+        return Kind::About(Form::Hub, Asked::Fen);
     }
-    of_moves(name, arg, out, at)
+    place(name)
+}
+
+fn answer_kind(kind: Kind, arg: &[u8], out: &mut [u8], at: usize) -> usize {
+    match kind {
+        Kind::About(form, asked) => asked::about(Task::Tell(asked), form, arg, arg, out, at),
+        Kind::Rest(task) => asked::with_rest(task, arg, out, at),
+        Kind::Atmost => asked::atmost(arg, out, at),
+        Kind::Evalw => asked::evalw(arg, out, at),
+        Kind::Square => asked::square(arg, out, at),
+        Kind::Parts => asked::parts(arg, out, at),
+        Kind::Outcome => asked::about(Task::Outcome, Form::Either, arg, arg, out, at),
+        Kind::Unknown => output::put_bad(out, at),
+    }
 }
 
 // The answer to a request line (without its line feed), at the start of the lent bytes; what has no room is left out.
 // How many bytes it has there.
-pub fn answer(line: &[u8], out: &mut [u8]) -> usize
-    ensures { λ r. ⌜ r ≡ min (length (answerOf (now (line .entry)))) (length (now (out .entry))) ⌝ }
-    ensures { λ r. ⌜ now (out .exit) ≡ written (answerOf (now (line .entry))) (now (out .entry)) ⌝ }
-{
+pub fn answer(line: &[u8], out: &mut [u8]) -> usize {
     if LONGEST < line.len() {
         return output::put_bad(out, 0);
     }
-    of_text(words::first(line), words::rest(line), out, 0)
+    answer_kind(kind_of(words::first(line)), words::rest(line), out, 0)
 }

@@ -1,82 +1,70 @@
+-- Move by move, each with its count.
+use mathlib.Core.Path.{_≡_, refl, ap, sym, _∙_}
+use Prim.Native.Nat.{ℕ, _≤_, _<_, _-_, _+_, min}
+use lib.ListN.{length, take, drop, getD}
+use denote.Ref.{now}
+use Rattle.wording.proofs.Pieces as laws
+use Rattle.requests.proofs.Listing as listing
+use Rattle.requests.specs.Answers.{movesText, countsText}
+use Rattle.wording.specs.Output.{Adds}
 use borrow.Author.Needs.{needs}
 use native.Mathlib.Omega.{arith}
 use Rattle.requests.proofs.answers.put_counts.Statement.{statement}
 use Rattle.requests.proofs.answers.put_counts.Tie as tie
-use Rattle.requests.proofs.answers.put_counts.Reads as reads
-use Rattle.requests.proofs.answers.put_counts.Lts as lts
-use Rattle.requests.proofs.answers.put_move.Reads as put-move-reads
-use Rattle.requests.proofs.output.put_byte.Reads as put-byte-reads
-use Rattle.requests.proofs.output.put_decimal.Reads as put-decimal-reads
 
 abbrev Inv-loop : tie.InvT-loop
-Inv-loop out₀ at list counts len k₀ i₀ out k i = ?
+Inv-loop out₀ at list counts len k₀ i₀ out k i = (i ≤ 256) × (i ≤ list .len) × (length out ≡ length out₀) × Adds (countsText (list .moves) counts i) out₀ at out k
 
 abbrev μ-loop : tie.MeasureT-loop
-μ-loop out₀ at list counts len k₀ i₀ out k i = ?
+μ-loop out₀ at list counts len k₀ i₀ out k i = 256 - i
 
--- src/answers.rt:202:5
 loop-holds : tie.Need-loop-holds Inv-loop μ-loop
-loop-holds c = ?
+loop-holds c = (search needs, search needs, refl, listing.counts-none _ _ _ _)
 
--- src/answers.rt:204:13
 same-length : tie.Need-same-length Inv-loop μ-loop
-same-length c = ?
+same-length c = search needs
 
--- src/answers.rt:204:13
 returns : tie.Need-returns Inv-loop μ-loop
-returns c = ?
+returns c = laws.adds-as (ap (countsText _ _) (omega arith)) (c .before .before .loop .inv .3)
 
--- src/answers.rt:206:17
 mul-m : tie.Need-mul-m Inv-loop μ-loop
-mul-m c = ?
+mul-m c = search needs
 
--- src/answers.rt:206:17
 element-copy-out-m : tie.Need-element-copy-out-m Inv-loop μ-loop
-element-copy-out-m c = ?
+element-copy-out-m c = search needs
 
--- src/answers.rt:207:13
 put-byte-requires : tie.Need-put-byte-requires Inv-loop μ-loop
-put-byte-requires c κs = ?
+put-byte-requires c κs = search needs
 
--- src/answers.rt:208:13
 put-move-requires : tie.Need-put-move-requires Inv-loop μ-loop
-put-move-requires c κs = ?
+put-move-requires c κs = search needs
 
--- src/answers.rt:209:13
 put-byte-requires-2 : tie.Need-put-byte-requires-2 Inv-loop μ-loop
-put-byte-requires-2 c κs = ?
+put-byte-requires-2 c κs = search needs
 
--- src/answers.rt:210:41
 mul-put-decimal : tie.Need-mul-put-decimal Inv-loop μ-loop
-mul-put-decimal c = ?
+mul-put-decimal c = search needs
 
--- src/answers.rt:210:41
 array-read-put-decimal : tie.Need-array-read-put-decimal Inv-loop μ-loop
-array-read-put-decimal c = ?
+array-read-put-decimal c = search needs
 
--- src/answers.rt:210:9
 put-decimal-requires : tie.Need-put-decimal-requires Inv-loop μ-loop
-put-decimal-requires c κs = ?
+put-decimal-requires c κs = search needs
 
--- src/answers.rt:211:9
 add-i : tie.Need-add-i Inv-loop μ-loop
-add-i c = ?
+add-i c = search needs
 
--- src/answers.rt:202:5
 loop-less : tie.Need-loop-less Inv-loop μ-loop
-loop-less c = ?
+loop-less c = search needs
 
--- src/answers.rt:202:5
 loop-again : tie.Need-loop-again Inv-loop μ-loop
-loop-again c = ?
+loop-again c = (search needs, search needs, search needs, listing.counts-next _ _ _ (c .before .before .before .before .before .before .before .before .before .before .before .before .before .before .before .before .before .before .before .loop .inv .3) (c .before .before .before .before .before .before .before .before .before .before .before .before .before .before .put-byte .ensures) (c .before .before .before .before .before .before .before .before .before .before .put-move .ensures) (c .before .before .before .before .before .before .put-byte2 .ensures) (c .before .before .put-decimal .ensures))
 
--- src/answers.rt:196:1
 same-length-2 : tie.Need-same-length-2 Inv-loop μ-loop
-same-length-2 c = ?
+same-length-2 c = search needs
 
--- src/answers.rt:196:1
 returns-2 : tie.Need-returns-2 Inv-loop μ-loop
-returns-2 c = ?
+returns-2 c = laws.adds-as (ap (countsText _ _) (omega arith)) (c .before .loop .inv .3)
 
 pub put-counts-spec : {M : Type 1} → statement M
 put-counts-spec =

@@ -1,51 +1,45 @@
+-- The text in lent space that is long enough for every one.
+use mathlib.Core.Path.{_≡_, refl, ap, sym, _∙_}
+use Prim.Native.Nat.{ℕ, _≤_, _<_, _-_, _+_, min}
+use lib.ListN.{length, take, drop, getD}
+use denote.Ref.{now}
+use Rattle.requests.proofs.Told as told
+use Rattle.wording.proofs.Pieces as laws
+use lib.Seq.{length-take-le}
 use borrow.Author.Needs.{needs}
 use native.Mathlib.Omega.{arith}
 use Rattle.requests.proofs.answers.put_move.Statement.{statement}
 use Rattle.requests.proofs.answers.put_move.Tie as tie
-use Rattle.requests.proofs.answers.put_move.Reads as reads
-use Rattle.requests.proofs.answers.put_move.Lts as lts
-use Rattle.notation.proofs.moves.to_hub.Reads as to-hub-reads
-use Rattle.requests.proofs.output.put.Reads as put-reads
 
--- src/answers.rt:154:38
 slice-aggregate-to-hub : tie.Need-slice-aggregate-to-hub
 slice-aggregate-to-hub c = search needs
 
--- src/answers.rt:154:11
 to-hub-requires : tie.Need-to-hub-requires
 to-hub-requires c κs = search needs
 
--- src/answers.rt:155:23
 enum-known-n : tie.Need-enum-known-n
 enum-known-n c = search needs
 
--- src/answers.rt:155:50
 array-share-prefix-space : tie.Need-array-share-prefix-space
-array-share-prefix-space c = ?
+array-share-prefix-space c = told.move-told (c .before .before .before .before .before .before .before .before .args .m) _ refl _ _ _ (c .before .before .before .before .before .to-hub .ensures .0) (c .before .before .before .before .before .to-hub .ensures .1) (c .before .before .n .given .1) .within
 
--- src/answers.rt:155:50
 slice-aggregate-put : tie.Need-slice-aggregate-put
-slice-aggregate-put c = ?
+slice-aggregate-put c = sym (length-take-le _ _ (told.move-told (c .before .before .before .before .before .before .before .before .before .args .m) _ refl _ _ _ (c .before .before .before .before .before .before .to-hub .ensures .0) (c .before .before .before .before .before .before .to-hub .ensures .1) (c .before .before .before .n .given .1) .within))
 
--- src/answers.rt:155:29
 put-requires : tie.Need-put-requires
 put-requires c κs = search needs
 
--- src/answers.rt:156:30
 enum-told : tie.Need-enum-told
 enum-told c = search needs
 
--- src/answers.rt:150:1
 same-length : tie.Need-same-length
 same-length c = search needs
 
--- src/answers.rt:150:1
 returns : tie.Need-returns
-returns c = ?
+returns c = laws.adds-as (told.move-told (c .before .before .before .before .before .before .before .before .before .before .before .before .args .m) _ refl _ _ _ (c .before .before .before .before .before .before .before .before .before .to-hub .ensures .0) (c .before .before .before .before .before .before .before .before .before .to-hub .ensures .1) (c .before .before .before .before .before .before .n .given .1) .text) (c .before .before .put .ensures)
 
--- src/answers.rt:150:1
 returns-2 : tie.Need-returns-2
-returns-2 c = ?
+returns-2 c = laws.adds-as (sym (told.move-untold (c .before .before .before .before .before .before .args .m) _ refl _ _ (c .before .before .before .to-hub .ensures .0) (c .enum-told .given .1))) (laws.adds-none _ _)
 
 pub put-move-spec : {M : Type 1} → statement M
 put-move-spec =

@@ -1,40 +1,38 @@
+-- 51 bytes, no colon.
+use mathlib.Core.Path.{_≡_, refl, ap, sym, _∙_}
+use Prim.Native.Nat.{ℕ, _≤_, _<_, _-_, _+_, min}
+use lib.ListN.{length, take, drop, getD}
+use denote.Ref.{now}
+use borrow.Author.Tests.{eq-eqb, ne-eqb}
+use Rattle.requests.specs.Heard.{eitherOf}
 use borrow.Author.Needs.{needs}
 use native.Mathlib.Omega.{arith}
 use Rattle.requests.proofs.heard.either.Statement.{statement}
 use Rattle.requests.proofs.heard.either.Tie as tie
-use Rattle.requests.proofs.heard.either.Reads as reads
-use Rattle.requests.proofs.heard.either.Lts as lts
-use Rattle.texts.proofs.bytes.find.Reads as find-reads
-use Rattle.texts.proofs.fen.from_fen.Reads as from-fen-reads
-use Rattle.texts.proofs.hub.from_hub.Reads as from-hub-reads
 
--- src/heard.rt:44:9
 from-fen-requires : tie.Need-from-fen-requires
 from-fen-requires c κs = search needs
 
--- src/heard.rt:44:9
 returns : tie.Need-returns
-returns c = ?
+unfolding eitherOf
+returns c = rw (ne-eqb (length (now (c .before .before .before .args .text))) 51 (c .before .if1 .taken)) (c .from-fen .ensures)
 
--- src/heard.rt:46:8
 find-requires : tie.Need-find-requires
 find-requires c κs = search needs
 
--- src/heard.rt:47:9
 from-fen-requires-2 : tie.Need-from-fen-requires-2
 from-fen-requires-2 c κs = search needs
 
--- src/heard.rt:47:9
 returns-2 : tie.Need-returns-2
-returns-2 c = ?
+unfolding eitherOf
+returns-2 c = let f = c .before .before .find in rw (eq-eqb (length (now (c .before .before .before .before .before .args .text))) 51 (c .before .before .before .if1 .left), ← f .ensures .0, ne-eqb (f .result) 51 (c .before .if2 .taken)) (c .from-fen2 .ensures)
 
--- src/heard.rt:49:5
 from-hub-requires : tie.Need-from-hub-requires
 from-hub-requires c κs = search needs
 
--- src/heard.rt:40:1
 returns-3 : tie.Need-returns-3
-returns-3 c = ?
+unfolding eitherOf
+returns-3 c = let f = c .before .before .find in rw (eq-eqb (length (now (c .before .before .before .before .before .args .text))) 51 (c .before .before .before .if1 .left), ← f .ensures .0, eq-eqb (f .result) 51 (c .before .if2 .left)) (c .from-hub .ensures)
 
 pub either-spec : {M : Type 1} → statement M
 either-spec =

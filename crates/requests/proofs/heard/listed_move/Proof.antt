@@ -1,52 +1,44 @@
+-- The escapes undone, then what is read of at most 4,097 bytes.
+use mathlib.Core.Path.{_≡_, refl, ap, sym, _∙_}
+use Prim.Native.Nat.{ℕ, _≤_, _<_, _-_, _+_, min}
+use lib.ListN.{length, take, drop, getD}
+use denote.Ref.{now}
+use Rattle.requests.proofs.Told as told
+use lib.Seq.{length-take-le}
 use borrow.Author.Needs.{needs}
 use native.Mathlib.Omega.{arith}
 use Rattle.requests.proofs.heard.listed_move.Statement.{statement}
 use Rattle.requests.proofs.heard.listed_move.Tie as tie
-use Rattle.requests.proofs.heard.listed_move.Reads as reads
-use Rattle.requests.proofs.heard.listed_move.Lts as lts
-use Rattle.notation.proofs.notation.parse_move.Reads as parse-move-reads
-use Rattle.requests.proofs.escapes.unescape.Reads as unescape-reads
-use Rattle.requests.proofs.heard.mean.Reads as mean-reads
 
--- src/heard.rt:94:35
 slice-aggregate-unescape : tie.Need-slice-aggregate-unescape
 slice-aggregate-unescape c = search needs
 
--- src/heard.rt:94:11
 unescape-requires : tie.Need-unescape-requires
 unescape-requires c κs = search needs
 
--- src/heard.rt:95:24
 enum-known-n : tie.Need-enum-known-n
 enum-known-n c = search needs
 
--- src/heard.rt:95:69
 array-share-prefix-space : tie.Need-array-share-prefix-space
-array-share-prefix-space c = ?
+array-share-prefix-space c = told.said-fits _ _ _ _ refl (c .before .before .before .before .unescape .ensures) _ (c .before .n .given .1)
 
--- src/heard.rt:95:69
 slice-aggregate-parse-move : tie.Need-slice-aggregate-parse-move
-slice-aggregate-parse-move c = ?
+slice-aggregate-parse-move c = sym (length-take-le _ _ (told.said-fits _ _ _ _ refl (c .before .before .before .before .before .unescape .ensures) _ (c .before .before .n .given .1)))
 
--- src/heard.rt:95:35
 parse-move-requires : tie.Need-parse-move-requires
 parse-move-requires c κs = search needs
 
--- src/heard.rt:95:30
 mean-requires : tie.Need-mean-requires
 mean-requires c κs = search needs
 
--- src/heard.rt:96:24
 enum-told : tie.Need-enum-told
 enum-told c = search needs
 
--- src/heard.rt:90:1
 returns : tie.Need-returns
-returns c = ?
+returns c = told.move-meant _ _ _ _ refl (c .before .before .before .before .before .before .before .unescape .ensures) (c .before .before .before .before .before .before .before .before .before .before .args .p) _ _ _ (c .before .before .before .before .n .given .1) (c .before .parse-move .ensures) (c .mean .ensures)
 
--- src/heard.rt:90:1
 returns-2 : tie.Need-returns-2
-returns-2 c = ?
+returns-2 c = told.move-bad _ _ _ _ refl (c .before .before .before .unescape .ensures) (c .before .before .before .before .before .before .args .p) (c .enum-told .given .1)
 
 pub listed-move-spec : {M : Type 1} → statement M
 listed-move-spec =

@@ -1,52 +1,44 @@
+-- The escapes undone, then what is read of at most 4,097 bytes.
+use mathlib.Core.Path.{_≡_, refl, ap, sym, _∙_}
+use Prim.Native.Nat.{ℕ, _≤_, _<_, _-_, _+_, min}
+use lib.ListN.{length, take, drop, getD}
+use denote.Ref.{now}
+use Rattle.requests.proofs.Told as told
+use lib.Seq.{length-take-le}
 use borrow.Author.Needs.{needs}
 use native.Mathlib.Omega.{arith}
 use Rattle.requests.proofs.heard.position.Statement.{statement}
 use Rattle.requests.proofs.heard.position.Tie as tie
-use Rattle.requests.proofs.heard.position.Reads as reads
-use Rattle.requests.proofs.heard.position.Lts as lts
-use Rattle.requests.proofs.escapes.unescape.Reads as unescape-reads
-use Rattle.requests.proofs.heard.hear.Reads as hear-reads
-use Rattle.requests.proofs.heard.read.Reads as read-reads
 
--- src/heard.rt:67:35
 slice-aggregate-unescape : tie.Need-slice-aggregate-unescape
 slice-aggregate-unescape c = search needs
 
--- src/heard.rt:67:11
 unescape-requires : tie.Need-unescape-requires
 unescape-requires c κs = search needs
 
--- src/heard.rt:68:24
 enum-known-n : tie.Need-enum-known-n
 enum-known-n c = search needs
 
--- src/heard.rt:68:46
 array-share-prefix-space : tie.Need-array-share-prefix-space
-array-share-prefix-space c = ?
+array-share-prefix-space c = told.said-fits _ _ _ _ refl (c .before .before .before .before .unescape .ensures) _ (c .before .n .given .1)
 
--- src/heard.rt:68:46
 slice-aggregate-read : tie.Need-slice-aggregate-read
-slice-aggregate-read c = ?
+slice-aggregate-read c = sym (length-take-le _ _ (told.said-fits _ _ _ _ refl (c .before .before .before .before .before .unescape .ensures) _ (c .before .before .n .given .1)))
 
--- src/heard.rt:68:35
 read-requires : tie.Need-read-requires
 read-requires c κs = search needs
 
--- src/heard.rt:68:30
 hear-requires : tie.Need-hear-requires
 hear-requires c κs = search needs
 
--- src/heard.rt:69:24
 enum-told : tie.Need-enum-told
 enum-told c = search needs
 
--- src/heard.rt:63:1
 returns : tie.Need-returns
-returns c = ?
+returns c = told.position-told _ _ _ _ refl (c .before .before .before .before .before .before .before .unescape .ensures) (c .before .before .before .before .before .before .before .before .before .before .args .form) _ _ _ (c .before .before .before .before .n .given .1) (c .before .read .ensures) (c .hear .ensures)
 
--- src/heard.rt:63:1
 returns-2 : tie.Need-returns-2
-returns-2 c = ?
+returns-2 c = told.position-bad _ _ _ _ refl (c .before .before .before .unescape .ensures) (c .before .before .before .before .before .before .args .form) (c .enum-told .given .1)
 
 pub position-spec : {M : Type 1} → statement M
 position-spec =

@@ -1,52 +1,44 @@
+-- The escapes undone, then what is read of at most 4,097 bytes.
+use mathlib.Core.Path.{_≡_, refl, ap, sym, _∙_}
+use Prim.Native.Nat.{ℕ, _≤_, _<_, _-_, _+_, min}
+use lib.ListN.{length, take, drop, getD}
+use denote.Ref.{now}
+use Rattle.requests.proofs.Told as told
+use lib.Seq.{length-take-le}
 use borrow.Author.Needs.{needs}
 use native.Mathlib.Omega.{arith}
 use Rattle.requests.proofs.heard.square.Statement.{statement}
 use Rattle.requests.proofs.heard.square.Tie as tie
-use Rattle.requests.proofs.heard.square.Reads as reads
-use Rattle.requests.proofs.heard.square.Lts as lts
-use Rattle.requests.proofs.escapes.unescape.Reads as unescape-reads
-use Rattle.requests.proofs.heard.place.Reads as place-reads
-use Rattle.texts.proofs.square.from_str.Reads as from-str-reads
 
--- src/heard.rt:121:35
 slice-aggregate-unescape : tie.Need-slice-aggregate-unescape
 slice-aggregate-unescape c = search needs
 
--- src/heard.rt:121:11
 unescape-requires : tie.Need-unescape-requires
 unescape-requires c κs = search needs
 
--- src/heard.rt:122:24
 enum-known-n : tie.Need-enum-known-n
 enum-known-n c = search needs
 
--- src/heard.rt:122:60
 array-share-prefix-space : tie.Need-array-share-prefix-space
-array-share-prefix-space c = ?
+array-share-prefix-space c = told.said-fits _ _ _ _ refl (c .before .before .before .before .unescape .ensures) _ (c .before .n .given .1)
 
--- src/heard.rt:122:60
 slice-aggregate-from-str : tie.Need-slice-aggregate-from-str
-slice-aggregate-from-str c = ?
+slice-aggregate-from-str c = sym (length-take-le _ _ (told.said-fits _ _ _ _ refl (c .before .before .before .before .before .unescape .ensures) _ (c .before .before .n .given .1)))
 
--- src/heard.rt:122:36
 from-str-requires : tie.Need-from-str-requires
 from-str-requires c κs = search needs
 
--- src/heard.rt:122:30
 place-requires : tie.Need-place-requires
 place-requires c κs = search needs
 
--- src/heard.rt:123:24
 enum-told : tie.Need-enum-told
 enum-told c = search needs
 
--- src/heard.rt:117:1
 returns : tie.Need-returns
-returns c = ?
+returns c = told.square-told _ _ _ _ refl (c .before .before .before .before .before .before .before .unescape .ensures) _ _ _ (c .before .before .before .before .n .given .1) (c .before .from-str .ensures) (c .place .ensures)
 
--- src/heard.rt:117:1
 returns-2 : tie.Need-returns-2
-returns-2 c = ?
+returns-2 c = told.square-bad _ _ _ _ refl (c .before .before .before .unescape .ensures) (c .enum-told .given .1)
 
 pub square-spec : {M : Type 1} → statement M
 square-spec =

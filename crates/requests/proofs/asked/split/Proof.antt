@@ -1,0 +1,61 @@
+-- A number that was read has 32 bits.
+use mathlib.Core.Path.{_≡_, refl, ap, sym, _∙_}
+use Prim.Native.Nat.{ℕ, _≤_, _<_, _-_, _+_, min}
+use lib.ListN.{length, take, drop, getD}
+use denote.Ref.{now}
+use Rattle.wording.specs.Numbers.{AtMost}
+use Rattle.wording.specs.declared.numbers.Parsed.{Parsed}
+use mathlib.Core.Path.{subst}
+use borrow.Author.Needs.{needs}
+use native.Mathlib.Omega.{arith}
+use Rattle.requests.proofs.asked.split.Statement.{statement}
+use Rattle.requests.proofs.asked.split.Tie as tie
+
+unsigned-requires : tie.Need-unsigned-requires
+unsigned-requires c κs = search needs
+
+enum-known-n : tie.Need-enum-known-n
+enum-known-n c = search needs
+
+cast-divide : tie.Need-cast-divide
+cast-divide c = let h = subst (λ (x : Parsed). AtMost 4294967295 x) (c .before .before .n .given .1) (c .before .before .before .before .unsigned .ensures .1) in omega (arith, h)
+
+divide-requires : tie.Need-divide-requires
+divide-requires c κs = search needs
+
+tell-divided-requires : tie.Need-tell-divided-requires
+tell-divided-requires c κs = search needs
+
+enum-told : tie.Need-enum-told
+enum-told c = search needs
+
+put-bad-requires : tie.Need-put-bad-requires
+put-bad-requires c κs = search needs
+
+same-length : tie.Need-same-length
+same-length c = search needs
+
+returns : tie.Need-returns
+returns c = search needs
+
+same-length-2 : tie.Need-same-length-2
+same-length-2 c = search needs
+
+returns-2 : tie.Need-returns-2
+returns-2 c = search needs
+
+pub split-spec : {M : Type 1} → statement M
+split-spec =
+    tie.close
+    (tie.spec
+    unsigned-requires
+    enum-known-n
+    cast-divide
+    divide-requires
+    tell-divided-requires
+    enum-told
+    put-bad-requires
+    same-length
+    returns
+    same-length-2
+    returns-2)
