@@ -1,2 +1,3 @@
 pub mod Told
 pub mod Listing
+pub mod PlayLaws

@@ -51,14 +51,14 @@ abbrev pub countWord : Counted → List ℕ
 countWord (counted.Count n) = decimal n
 countWord (counted.Refused e) = []
 
--- the outcome, plies without capture or man move, plies since capture or promotion (up to 32), how often the position has
--- stood; a mark before each
+-- plies without capture or man move, plies since capture or promotion (up to 32); a mark before each
+unfoldable pub pliesText : ℕ → Game → List ℕ
+pliesText mark g = mark ∷ (countWord (reversiblePliesOf g) ++ (mark ∷ decimal (g .material)))
+
+-- the outcome, both counts, how often the position has stood; a mark before each
 unfoldable pub stateText : ℕ → Game → List ℕ
 stateText mark g =
-    mark ∷ (judgedWord (outcomeOf g)
-    ++ (mark ∷ (countWord (reversiblePliesOf g)
-    ++ (mark ∷ (decimal (g .material)
-    ++ (mark ∷ countWord (repetitionsOf g)))))))
+    mark ∷ (judgedWord (outcomeOf g) ++ (pliesText mark g ++ (mark ∷ countWord (repetitionsOf g))))
 
 -- ---- the game after the last play
 abbrev pub standWord : Placed → List ℕ

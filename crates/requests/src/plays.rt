@@ -3,8 +3,8 @@
 // refused; `record` tells ` N` of each record, 0 where it is accepted. Both end with ` | FEN OUTCOME COUNT1 COUNT2 TIMES MOVES`.
 // A word that is no text or no record breaks the whole request.
 use crate::answers;
-use crate::heard::Meant;
 use crate::heard;
+use crate::heard::Meant;
 use crate::states;
 use games::game::Game;
 use games::game::Played;
@@ -14,10 +14,10 @@ use positions::position::Position;
 use squares::refusal::Answer;
 use squares::refusal::Refusal;
 use texts::bytes;
-use wording::escapes::Undone;
 use wording::escapes;
-use wording::numbers::Parsed;
+use wording::escapes::Undone;
 use wording::numbers;
+use wording::numbers::Parsed;
 use wording::output;
 use wording::words;
 ghost use mathlib.Core.Path.{_≡_};

@@ -15,7 +15,7 @@ use squares::refusal::Answer;
 use squares::refusal::Refusal;
 use wording::output;
 ghost use Rattle.wording.specs.Output.{Adds};
-ghost use Rattle.requests.specs.States.{winnerWord, outcomeWord, judgedWord, countWord, stateText, standWord, numberWord, movesWord, endText};
+ghost use Rattle.requests.specs.States.{winnerWord, outcomeWord, judgedWord, countWord, pliesText, stateText, standWord, numberWord, movesWord, endText};
 
 fn put_winner(out: &mut [u8], at: usize, w: Winner) -> usize
     ensures { λ r. ⌜ Adds (winnerWord w) (now (out .entry)) at (now (out .exit)) r ⌝ }
@@ -62,18 +62,25 @@ fn put_count(out: &mut [u8], at: usize, c: Counted) -> usize
     }
 }
 
+// Both counts, a mark before each.
+fn put_plies(out: &mut [u8], at: usize, g: Game, mark: u8) -> usize
+    ensures { λ r. ⌜ Adds (pliesText mark g) (now (out .entry)) at (now (out .exit)) r ⌝ }
+{
+    let a = output::put_byte(out, at, mark);
+    let b = put_count(out, a, g.reversible_plies());
+    let c = output::put_byte(out, b, mark);
+    output::put_decimal(out, c, g.material as u64)
+}
+
 // The outcome, both counts and how often the position has stood, a mark before each.
 pub(crate) fn put_state(out: &mut [u8], at: usize, g: Game, mark: u8) -> usize
     ensures { λ r. ⌜ Adds (stateText mark g) (now (out .entry)) at (now (out .exit)) r ⌝ }
 {
     let a = output::put_byte(out, at, mark);
     let b = put_judged(out, a, g.outcome());
-    let c = output::put_byte(out, b, mark);
-    let d = put_count(out, c, g.reversible_plies());
-    let e = output::put_byte(out, d, mark);
-    let f = output::put_decimal(out, e, g.material as u64);
-    let h = output::put_byte(out, f, mark);
-    put_count(out, h, g.repetitions())
+    let c = put_plies(out, b, g, mark);
+    let d = output::put_byte(out, c, mark);
+    put_count(out, d, g.repetitions())
 }
 
 fn put_stand(out: &mut [u8], at: usize, p: Placed) -> usize

@@ -1,50 +1,45 @@
+-- Behind the first comma, or nothing.
+use mathlib.Core.Path.{_≡_, refl, ap, sym, _∙_, subst}
+use Prim.Native.Nat.{ℕ, _≤_, _<_, _-_, _+_}
+use mathlib.Core.List.{List, _++_}
+use lib.ListN.{length, take, drop}
+use denote.Ref.{now}
+use Rattle.requests.proofs.PlayLaws as laws
+use Rattle.texts.proofs.Cuts as cuts
 use borrow.Author.Needs.{needs}
 use native.Mathlib.Omega.{arith}
 use Rattle.requests.proofs.plays.after_comma.Statement.{statement}
 use Rattle.requests.proofs.plays.after_comma.Tie as tie
-use Rattle.requests.proofs.plays.after_comma.Reads as reads
-use Rattle.requests.proofs.plays.after_comma.Lts as lts
-use Rattle.texts.proofs.bytes.find.Reads as find-reads
 
--- src/plays.rt:47:9
 find-requires : tie.Need-find-requires
 find-requires c κs = search needs
 
--- src/plays.rt:48:25
 add-result : tie.Need-add-result
 add-result c = search needs
 
--- src/plays.rt:48:22
 sub-result : tie.Need-sub-result
 sub-result c = search needs
 
--- src/plays.rt:48:22
 part-result-start : tie.Need-part-result-start
 part-result-start c = search needs
 
--- src/plays.rt:48:22
 part-result-end : tie.Need-part-result-end
 part-result-end c = search needs
 
--- src/plays.rt:48:43
 sub-result-2 : tie.Need-sub-result-2
 sub-result-2 c = search needs
 
--- src/plays.rt:48:43
 part-result-start-2 : tie.Need-part-result-start-2
 part-result-start-2 c = search needs
 
--- src/plays.rt:48:43
 part-result-end-2 : tie.Need-part-result-end-2
 part-result-end-2 c = search needs
 
--- src/plays.rt:44:1
 returns : tie.Need-returns
-returns c = search needs
+returns c = let s = now (c .before .before .before .before .args .s) in cuts.rest s (c .before .before .find .result + 1) ∙ laws.comma-hit s (c .before .before .find .result) (c .before .before .find .ensures .0)
 
--- src/plays.rt:44:1
 returns-2 : tie.Need-returns-2
-returns-2 c = search needs
+returns-2 c = let s = now (c .before .before .before .before .args .s) in cuts.rest s (c .before .before .find .result) ∙ laws.comma-none s (c .before .before .find .result) (c .before .before .find .ensures .0) (c .before .if1 .left)
 
 pub after-comma-spec : {M : Type 1} → statement M
 after-comma-spec =

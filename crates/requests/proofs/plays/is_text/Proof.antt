@@ -1,34 +1,32 @@
+-- Undoing the escapes says it.
+use mathlib.Core.Path.{_≡_, refl, ap, sym, _∙_, subst}
+use Prim.Native.Nat.{ℕ, _≤_, _<_, _-_, _+_}
+use mathlib.Core.List.{List, _++_}
+use lib.ListN.{length, take, drop}
+use denote.Ref.{now}
+use Rattle.requests.proofs.PlayLaws as laws
 use borrow.Author.Needs.{needs}
 use native.Mathlib.Omega.{arith}
 use Rattle.requests.proofs.plays.is_text.Statement.{statement}
 use Rattle.requests.proofs.plays.is_text.Tie as tie
-use Rattle.requests.proofs.plays.is_text.Reads as reads
-use Rattle.requests.proofs.plays.is_text.Lts as lts
-use Rattle.wording.proofs.escapes.unescape.Reads as unescape-reads
 
--- src/plays.rt:86:35
 slice-aggregate-unescape : tie.Need-slice-aggregate-unescape
 slice-aggregate-unescape c = search needs
 
--- src/plays.rt:86:11
 unescape-requires : tie.Need-unescape-requires
 unescape-requires c κs = search needs
 
--- src/plays.rt:87:30
 enum-told : tie.Need-enum-told
 enum-told c = search needs
 
--- src/plays.rt:88:24
 enum-told-2 : tie.Need-enum-told-2
 enum-told-2 c = search needs
 
--- src/plays.rt:82:1
 returns : tie.Need-returns
-returns c = search needs
+returns c = laws.is-text _ _ _ _ (c .before .before .before .unescape .ensures) _ (c .enum-told .given .1)
 
--- src/plays.rt:82:1
 returns-2 : tie.Need-returns-2
-returns-2 c = search needs
+returns-2 c = laws.is-broken _ _ _ _ (c .before .before .before .unescape .ensures) (c .enum-told2 .given .1)
 
 pub is-text-spec : {M : Type 1} → statement M
 is-text-spec =

@@ -1,36 +1,35 @@
+-- Piece by piece.
+use mathlib.Core.Path.{_≡_, refl, ap, sym, _∙_, subst}
+use Prim.Native.Nat.{ℕ, _≤_, _<_, _-_, _+_}
+use mathlib.Core.List.{List, _++_}
+use lib.ListN.{length, take, drop}
+use denote.Ref.{now}
+use Rattle.wording.proofs.Pieces as pieces
+use Rattle.requests.specs.Plays.{recordTold}
+use Rattle.wording.specs.Output.{decimal}
 use borrow.Author.Needs.{needs}
 use native.Mathlib.Omega.{arith}
 use Rattle.requests.proofs.plays.tell_record.Statement.{statement}
 use Rattle.requests.proofs.plays.tell_record.Tie as tie
-use Rattle.requests.proofs.plays.tell_record.Reads as reads
-use Rattle.requests.proofs.plays.tell_record.Lts as lts
-use Rattle.squares.proofs.refusal.Answer.number.Reads as number-reads
-use Rattle.wording.proofs.output.put_byte.Reads as put-byte-reads
-use Rattle.wording.proofs.output.put_decimal.Reads as put-decimal-reads
 
--- src/plays.rt:195:9
 put-byte-requires : tie.Need-put-byte-requires
 put-byte-requires c κs = search needs
 
--- src/plays.rt:196:33
 number-requires : tie.Need-number-requires
 number-requires c κs = search needs
 
--- src/plays.rt:196:33
 cast-put-decimal : tie.Need-cast-put-decimal
 cast-put-decimal c = search needs
 
--- src/plays.rt:196:5
 put-decimal-requires : tie.Need-put-decimal-requires
 put-decimal-requires c κs = search needs
 
--- src/plays.rt:191:1
 same-length : tie.Need-same-length
 same-length c = search needs
 
--- src/plays.rt:191:1
 returns : tie.Need-returns
-returns c = search needs
+unfolding recordTold
+returns c = pieces.adds-then (c .before .before .before .before .before .before .before .put-byte .ensures) (pieces.adds-as (ap decimal (c .before .before .before .number .ensures)) (c .before .before .put-decimal .ensures))
 
 pub tell-record-spec : {M : Type 1} → statement M
 tell-record-spec =

@@ -1,34 +1,33 @@
+-- By the case.
+use mathlib.Core.Path.{_≡_, refl, ap, sym, _∙_, subst}
+use Prim.Native.Nat.{ℕ, _≤_, _<_, _-_, _+_}
+use mathlib.Core.List.{List, _++_}
+use lib.ListN.{length, take, drop}
+use denote.Ref.{now}
+use Rattle.wording.proofs.Pieces as pieces
+use Rattle.requests.specs.States.{countWord}
 use borrow.Author.Needs.{needs}
 use native.Mathlib.Omega.{arith}
 use Rattle.requests.proofs.states.put_count.Statement.{statement}
 use Rattle.requests.proofs.states.put_count.Tie as tie
-use Rattle.requests.proofs.states.put_count.Reads as reads
-use Rattle.requests.proofs.states.put_count.Lts as lts
-use Rattle.wording.proofs.output.put_decimal.Reads as put-decimal-reads
 
--- src/states.rt:59:24
 enum-known-c : tie.Need-enum-known-c
 enum-known-c c = search needs
 
--- src/states.rt:59:30
 put-decimal-requires : tie.Need-put-decimal-requires
 put-decimal-requires c κs = search needs
 
--- src/states.rt:60:32
 enum-told : tie.Need-enum-told
 enum-told c = search needs
 
--- src/states.rt:55:1
 same-length : tie.Need-same-length
 same-length c = search needs
 
--- src/states.rt:55:1
 returns : tie.Need-returns
-returns c = search needs
+returns c = pieces.adds-as (sym (ap countWord (c .before .before .before .before .before .c .given .1))) (c .before .before .put-decimal .ensures)
 
--- src/states.rt:55:1
 returns-2 : tie.Need-returns-2
-returns-2 c = search needs
+returns-2 c = pieces.adds-as (sym (ap countWord (c .enum-told .given .1))) (pieces.adds-none _ _)
 
 pub put-count-spec : {M : Type 1} → statement M
 put-count-spec =

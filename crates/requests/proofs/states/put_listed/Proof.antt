@@ -1,43 +1,42 @@
+-- By the answer.
+use mathlib.Core.Path.{_≡_, refl, ap, sym, _∙_, subst}
+use Prim.Native.Nat.{ℕ, _≤_, _<_, _-_, _+_}
+use mathlib.Core.List.{List, _++_}
+use lib.ListN.{length, take, drop}
+use denote.Ref.{now}
+use Rattle.wording.proofs.Pieces as pieces
+use Rattle.requests.specs.States.{lengthWord, movesWord}
+use Rattle.squares.specs.declared.refusal.Answer.{Answer}
 use borrow.Author.Needs.{needs}
 use native.Mathlib.Omega.{arith}
 use Rattle.requests.proofs.states.put_listed.Statement.{statement}
 use Rattle.requests.proofs.states.put_listed.Tie as tie
-use Rattle.requests.proofs.states.put_listed.Reads as reads
-use Rattle.requests.proofs.states.put_listed.Lts as lts
-use Rattle.requests.proofs.states.put_number.Reads as put-number-reads
-use Rattle.wording.proofs.output.put_decimal.Reads as put-decimal-reads
 
--- src/states.rt:102:45
 enum-told : tie.Need-enum-told
 enum-told c = search needs
 
--- src/states.rt:102:25
 put-decimal-requires : tie.Need-put-decimal-requires
 put-decimal-requires c κs = search needs
 
--- src/states.rt:103:25
 enum-known-answer : tie.Need-enum-known-answer
 enum-known-answer c = search needs
 
--- src/states.rt:103:31
 put-number-requires : tie.Need-put-number-requires
 put-number-requires c κs = search needs
 
--- src/states.rt:96:1
 same-length : tie.Need-same-length
 same-length c = search needs
 
--- src/states.rt:96:1
 returns : tie.Need-returns
-returns c = search needs
+unfolding movesWord
+returns c = pieces.adds-as (sym (ap (λ (a : Answer). lengthWord a (c .before .before .before .before .before .before .before .before .args .l .list .len)) (c .before .before .before .before .enum-told .given .1))) (c .before .before .put-decimal .ensures)
 
--- src/states.rt:96:1
 same-length-2 : tie.Need-same-length-2
 same-length-2 c = search needs
 
--- src/states.rt:96:1
 returns-2 : tie.Need-returns-2
-returns-2 c = search needs
+unfolding movesWord
+returns-2 c = pieces.adds-as (sym (ap (λ (a : Answer). lengthWord a (c .before .before .before .before .before .before .before .before .before .args .l .list .len)) (c .before .before .before .before .before .answer .given .1))) (c .before .before .put-number .ensures)
 
 pub put-listed-spec : {M : Type 1} → statement M
 put-listed-spec =

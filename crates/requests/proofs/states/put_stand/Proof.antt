@@ -1,34 +1,33 @@
+-- By the case.
+use mathlib.Core.Path.{_≡_, refl, ap, sym, _∙_, subst}
+use Prim.Native.Nat.{ℕ, _≤_, _<_, _-_, _+_}
+use mathlib.Core.List.{List, _++_}
+use lib.ListN.{length, take, drop}
+use denote.Ref.{now}
+use Rattle.wording.proofs.Pieces as pieces
+use Rattle.requests.specs.States.{standWord}
 use borrow.Author.Needs.{needs}
 use native.Mathlib.Omega.{arith}
 use Rattle.requests.proofs.states.put_stand.Statement.{statement}
 use Rattle.requests.proofs.states.put_stand.Tie as tie
-use Rattle.requests.proofs.states.put_stand.Reads as reads
-use Rattle.requests.proofs.states.put_stand.Lts as lts
-use Rattle.requests.proofs.answers.put_fen.Reads as put-fen-reads
 
--- src/states.rt:82:26
 enum-known-p : tie.Need-enum-known-p
 enum-known-p c = search needs
 
--- src/states.rt:82:32
 put-fen-requires : tie.Need-put-fen-requires
 put-fen-requires c κs = search needs
 
--- src/states.rt:83:31
 enum-told : tie.Need-enum-told
 enum-told c = search needs
 
--- src/states.rt:78:1
 same-length : tie.Need-same-length
 same-length c = search needs
 
--- src/states.rt:78:1
 returns : tie.Need-returns
-returns c = search needs
+returns c = pieces.adds-as (sym (ap standWord (c .before .before .before .before .before .p .given .1))) (c .before .before .put-fen .ensures)
 
--- src/states.rt:78:1
 returns-2 : tie.Need-returns-2
-returns-2 c = search needs
+returns-2 c = pieces.adds-as (sym (ap standWord (c .enum-told .given .1))) (pieces.adds-none _ _)
 
 pub put-stand-spec : {M : Type 1} → statement M
 put-stand-spec =
