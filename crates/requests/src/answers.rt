@@ -5,11 +5,11 @@ use movegen::movegen::Listed;
 use movegen::movegen::Tested;
 use movegen::perft::Counted;
 use movegen::perft::Divided;
+use scores::eval;
+use scores::eval::Scored;
 use positions::moves::Move;
 use positions::position::Placed;
 use positions::position::Position;
-use scores::eval;
-use scores::eval::Scored;
 use squares::refusal::Answer;
 use texts::bytes::Wrote;
 use texts::fen;
@@ -56,32 +56,44 @@ fn put_hub(out: &mut [u8], at: usize, p: Position) -> usize
     }
 }
 
-pub(crate) fn put_ok(out: &mut [u8], at: usize) -> usize {
+pub(crate) fn put_ok(out: &mut [u8], at: usize) -> usize
+    ensures { λ r. ⌜ Adds (bytes "ok ") (now (out .entry)) at (now (out .exit)) r ⌝ }
+{
     output::put(out, at, b"ok ")
 }
 
-fn tell_fen(out: &mut [u8], at: usize, p: Position) -> usize {
+fn tell_fen(out: &mut [u8], at: usize, p: Position) -> usize
+    ensures { λ r. ⌜ Adds (fenAnswer p) (now (out .entry)) at (now (out .exit)) r ⌝ }
+{
     let k = put_ok(out, at);
     put_fen(out, k, p)
 }
 
-fn tell_hub(out: &mut [u8], at: usize, p: Position) -> usize {
+fn tell_hub(out: &mut [u8], at: usize, p: Position) -> usize
+    ensures { λ r. ⌜ Adds (hubAnswer p) (now (out .entry)) at (now (out .exit)) r ⌝ }
+{
     let k = put_ok(out, at);
     put_hub(out, k, p)
 }
 
-fn tell_hash(out: &mut [u8], at: usize, p: Position) -> usize {
+fn tell_hash(out: &mut [u8], at: usize, p: Position) -> usize
+    ensures { λ r. ⌜ Adds (hashAnswer p) (now (out .entry)) at (now (out .exit)) r ⌝ }
+{
     let k = put_ok(out, at);
     output::put_hash(out, k, p.hash)
 }
 
 // A set in hexadecimal and a space.
-fn put_set(out: &mut [u8], at: usize, set: u64) -> usize {
+fn put_set(out: &mut [u8], at: usize, set: u64) -> usize
+    ensures { λ r. ⌜ Adds (setWord set) (now (out .entry)) at (now (out .exit)) r ⌝ }
+{
     let k = output::put_hex(out, at, set);
     output::put_byte(out, k, b' ')
 }
 
-fn tell_bits(out: &mut [u8], at: usize, p: Position) -> usize {
+fn tell_bits(out: &mut [u8], at: usize, p: Position) -> usize
+    ensures { λ r. ⌜ Adds (bitsAnswer p) (now (out .entry)) at (now (out .exit)) r ⌝ }
+{
     let side = p.side;
     let k = put_ok(out, at);
     let white = put_set(out, k, p.white);
@@ -93,14 +105,18 @@ fn tell_bits(out: &mut [u8], at: usize, p: Position) -> usize {
 }
 
 // A position as FEN, or the refusal.
-pub(crate) fn tell_placed(out: &mut [u8], at: usize, p: Placed) -> usize {
+pub(crate) fn tell_placed(out: &mut [u8], at: usize, p: Placed) -> usize
+    ensures { λ r. ⌜ Adds (placedAnswer p) (now (out .entry)) at (now (out .exit)) r ⌝ }
+{
     match p {
         Placed::Position(q) => tell_fen(out, at, q),
         Placed::Refused(e) => output::put_refusal(out, at, e),
     }
 }
 
-pub(crate) fn tell_scored(out: &mut [u8], at: usize, s: Scored) -> usize {
+pub(crate) fn tell_scored(out: &mut [u8], at: usize, s: Scored) -> usize
+    ensures { λ r. ⌜ Adds (scoredAnswer s) (now (out .entry)) at (now (out .exit)) r ⌝ }
+{
     match s {
         Scored::Score(z) => {
             let k = put_ok(out, at);
@@ -110,11 +126,15 @@ pub(crate) fn tell_scored(out: &mut [u8], at: usize, s: Scored) -> usize {
     }
 }
 
-fn yes_no(yes: bool) -> u8 {
+fn yes_no(yes: bool) -> u8
+    ensures { λ r. ⌜ r ≡ yesNo yes ⌝ }
+{
     if yes { b'1' } else { b'0' }
 }
 
-fn tell_tested(out: &mut [u8], at: usize, t: Tested) -> usize {
+fn tell_tested(out: &mut [u8], at: usize, t: Tested) -> usize
+    ensures { λ r. ⌜ Adds (testedAnswer t) (now (out .entry)) at (now (out .exit)) r ⌝ }
+{
     match t {
         Tested::Is(yes) => {
             let k = put_ok(out, at);
@@ -124,7 +144,9 @@ fn tell_tested(out: &mut [u8], at: usize, t: Tested) -> usize {
     }
 }
 
-pub(crate) fn tell_counted(out: &mut [u8], at: usize, c: Counted) -> usize {
+pub(crate) fn tell_counted(out: &mut [u8], at: usize, c: Counted) -> usize
+    ensures { λ r. ⌜ Adds (countedAnswer c) (now (out .entry)) at (now (out .exit)) r ⌝ }
+{
     match c {
         Counted::Count(n) => {
             let k = put_ok(out, at);
@@ -165,7 +187,9 @@ fn put_moves(out: &mut [u8], at: usize, list: MoveList) -> usize
 }
 
 // How many moves there are, and each of them.
-pub(crate) fn tell_list(out: &mut [u8], at: usize, l: Listed) -> usize {
+pub(crate) fn tell_list(out: &mut [u8], at: usize, l: Listed) -> usize
+    ensures { λ r. ⌜ Adds (listAnswer l) (now (out .entry)) at (now (out .exit)) r ⌝ }
+{
     let answer = l.answer;
     let list = l.list;
     match answer {
@@ -199,7 +223,9 @@ fn put_counts(out: &mut [u8], at: usize, list: MoveList, counts: [u64; 256]) -> 
     k
 }
 
-pub(crate) fn tell_divided(out: &mut [u8], at: usize, d: Divided) -> usize {
+pub(crate) fn tell_divided(out: &mut [u8], at: usize, d: Divided) -> usize
+    ensures { λ r. ⌜ Adds (dividedAnswer d) (now (out .entry)) at (now (out .exit)) r ⌝ }
+{
     let answer = d.answer;
     let list = d.list;
     let counts = d.counts;
@@ -214,7 +240,9 @@ pub(crate) fn tell_divided(out: &mut [u8], at: usize, d: Divided) -> usize {
 }
 
 // A move's first square, last square and set.
-fn put_record(out: &mut [u8], at: usize, m: Move) -> usize {
+fn put_record(out: &mut [u8], at: usize, m: Move) -> usize
+    ensures { λ r. ⌜ Adds (recordWord m) (now (out .entry)) at (now (out .exit)) r ⌝ }
+{
     let from = output::put_decimal(out, at, m.from as u64);
     let comma = output::put_byte(out, from, b',');
     let to = output::put_decimal(out, comma, m.to as u64);
@@ -223,7 +251,9 @@ fn put_record(out: &mut [u8], at: usize, m: Move) -> usize {
 }
 
 // The move's Hub text, first square, last square and set.
-pub(crate) fn tell_move(out: &mut [u8], at: usize, m: Move) -> usize {
+pub(crate) fn tell_move(out: &mut [u8], at: usize, m: Move) -> usize
+    ensures { λ r. ⌜ Adds (moveAnswer m) (now (out .entry)) at (now (out .exit)) r ⌝ }
+{
     let k = put_ok(out, at);
     let text = put_move(out, k, m);
     let blank = output::put_byte(out, text, b' ');
@@ -231,7 +261,9 @@ pub(crate) fn tell_move(out: &mut [u8], at: usize, m: Move) -> usize {
 }
 
 // The FEN of the position after a move, and its hash.
-pub(crate) fn tell_after(out: &mut [u8], at: usize, p: Placed) -> usize {
+pub(crate) fn tell_after(out: &mut [u8], at: usize, p: Placed) -> usize
+    ensures { λ r. ⌜ Adds (afterAnswer p) (now (out .entry)) at (now (out .exit)) r ⌝ }
+{
     match p {
         Placed::Position(q) => {
             let k = tell_fen(out, at, q);
@@ -242,27 +274,39 @@ pub(crate) fn tell_after(out: &mut [u8], at: usize, p: Placed) -> usize {
     }
 }
 
-fn tell_moves(out: &mut [u8], at: usize, p: Position) -> usize {
+fn tell_moves(out: &mut [u8], at: usize, p: Position) -> usize
+    ensures { λ r. ⌜ Adds (listAnswer (legalMovesOf p 256)) (now (out .entry)) at (now (out .exit)) r ⌝ }
+{
     tell_list(out, at, movegen::movegen::legal_moves(p, MAX_MOVES))
 }
 
-fn tell_eval(out: &mut [u8], at: usize, p: Position) -> usize {
+fn tell_eval(out: &mut [u8], at: usize, p: Position) -> usize
+    ensures { λ r. ⌜ Adds (scoredAnswer (evaluateOf default p)) (now (out .entry)) at (now (out .exit)) r ⌝ }
+{
     tell_scored(out, at, eval::evaluate(p))
 }
 
-fn tell_flip(out: &mut [u8], at: usize, p: Position) -> usize {
+fn tell_flip(out: &mut [u8], at: usize, p: Position) -> usize
+    ensures { λ r. ⌜ Adds (placedAnswer (flippedOf p)) (now (out .entry)) at (now (out .exit)) r ⌝ }
+{
     tell_placed(out, at, p.flipped())
 }
 
-fn tell_caps(out: &mut [u8], at: usize, p: Position) -> usize {
+fn tell_caps(out: &mut [u8], at: usize, p: Position) -> usize
+    ensures { λ r. ⌜ Adds (testedAnswer (hasCapturesOf p)) (now (out .entry)) at (now (out .exit)) r ⌝ }
+{
     tell_tested(out, at, movegen::movegen::has_captures(p))
 }
 
-fn tell_quiet(out: &mut [u8], at: usize, p: Position) -> usize {
+fn tell_quiet(out: &mut [u8], at: usize, p: Position) -> usize
+    ensures { λ r. ⌜ Adds (testedAnswer (hasQuietMovesOf p)) (now (out .entry)) at (now (out .exit)) r ⌝ }
+{
     tell_tested(out, at, movegen::movegen::has_quiet_moves(p))
 }
 
-pub(crate) fn tell(asked: Asked, p: Position, out: &mut [u8], at: usize) -> usize {
+pub(crate) fn tell(asked: Asked, p: Position, out: &mut [u8], at: usize) -> usize
+    ensures { λ r. ⌜ Adds (answerTo asked p) (now (out .entry)) at (now (out .exit)) r ⌝ }
+{
     match asked {
         Asked::Fen => tell_fen(out, at, p),
         Asked::Hub => tell_hub(out, at, p),

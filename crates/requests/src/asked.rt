@@ -8,9 +8,9 @@ use crate::heard::Meant;
 use crate::heard::Placing;
 use crate::plays;
 use crate::plays::Given;
+use scores::eval::Classical;
 use positions::position;
 use positions::position::Position;
-use scores::eval::Classical;
 use squares::piece::Color;
 use squares::piece::Sided;
 use squares::refusal::Refusal;
@@ -38,7 +38,9 @@ pub enum Task {
     Outcome,
 }
 
-fn parsed(p: Position, word: &[u8], out: &mut [u8], at: usize) -> usize {
+fn parsed(p: Position, word: &[u8], out: &mut [u8], at: usize) -> usize
+    ensures { λ r. ⌜ Adds (parsedAnswer p (now (word .entry))) (now (out .entry)) at (now (out .exit)) r ⌝ }
+{
     match heard::listed_move(p, word) {
         Meant::Move(m) => answers::tell_move(out, at, m),
         Meant::Refused(e) => output::put_refusal(out, at, e),
@@ -46,7 +48,9 @@ fn parsed(p: Position, word: &[u8], out: &mut [u8], at: usize) -> usize {
     }
 }
 
-fn successor(p: Position, word: &[u8], out: &mut [u8], at: usize) -> usize {
+fn successor(p: Position, word: &[u8], out: &mut [u8], at: usize) -> usize
+    ensures { λ r. ⌜ Adds (successorAnswer p (now (word .entry))) (now (out .entry)) at (now (out .exit)) r ⌝ }
+{
     match heard::listed_move(p, word) {
         Meant::Move(m) => answers::tell_after(out, at, movegen::movegen::after(p, m)),
         Meant::Refused(e) => output::put_refusal(out, at, e),
@@ -55,29 +59,39 @@ fn successor(p: Position, word: &[u8], out: &mut [u8], at: usize) -> usize {
 }
 
 // A depth of 32 bits.
-fn counted(p: Position, word: &[u8], out: &mut [u8], at: usize) -> usize {
+fn counted(p: Position, word: &[u8], out: &mut [u8], at: usize) -> usize
+    ensures { λ r. ⌜ Adds (depthAnswer p (now (word .entry))) (now (out .entry)) at (now (out .exit)) r ⌝ }
+{
     match numbers::unsigned(word) {
         Parsed::Value(n) => answers::tell_counted(out, at, movegen::perft::perft(p, n as u32)),
         Parsed::Bad => output::put_bad(out, at),
     }
 }
 
-fn split(p: Position, word: &[u8], out: &mut [u8], at: usize) -> usize {
+fn split(p: Position, word: &[u8], out: &mut [u8], at: usize) -> usize
+    ensures { λ r. ⌜ Adds (splitAnswer p (now (word .entry))) (now (out .entry)) at (now (out .exit)) r ⌝ }
+{
     match numbers::unsigned(word) {
         Parsed::Value(n) => answers::tell_divided(out, at, movegen::perft::divide(p, n as u32)),
         Parsed::Bad => output::put_bad(out, at),
     }
 }
 
-fn limited(limit: usize, p: Position, out: &mut [u8], at: usize) -> usize {
+fn limited(limit: usize, p: Position, out: &mut [u8], at: usize) -> usize
+    ensures { λ r. ⌜ Adds (limitAnswer limit p) (now (out .entry)) at (now (out .exit)) r ⌝ }
+{
     answers::tell_list(out, at, movegen::movegen::legal_moves(p, limit))
 }
 
-fn weighed(w: Classical, p: Position, out: &mut [u8], at: usize) -> usize {
+fn weighed(w: Classical, p: Position, out: &mut [u8], at: usize) -> usize
+    ensures { λ r. ⌜ Adds (weighedAnswer w p) (now (out .entry)) at (now (out .exit)) r ⌝ }
+{
     answers::tell_scored(out, at, w.evaluate(p))
 }
 
-fn work(task: Task, p: Position, rest: &[u8], out: &mut [u8], at: usize) -> usize {
+fn work(task: Task, p: Position, rest: &[u8], out: &mut [u8], at: usize) -> usize
+    ensures { λ r. ⌜ Adds (workAnswer task p (now (rest .entry))) (now (out .entry)) at (now (out .exit)) r ⌝ }
+{
     match task {
         Task::Tell(asked) => answers::tell(asked, p, out, at),
         Task::Parse => parsed(p, rest, out, at),
@@ -100,7 +114,9 @@ pub(crate) fn about(
     rest: &[u8],
     out: &mut [u8],
     at: usize,
-) -> usize {
+) -> usize
+    ensures { λ r. ⌜ Adds (heardAnswer task form (now (word .entry)) (now (rest .entry))) (now (out .entry)) at (now (out .exit)) r ⌝ }
+{
     match heard::position(form, word) {
         Heard::Position(p) => work(task, p, rest, out, at),
         Heard::Refused(e) => output::put_refusal(out, at, e),
@@ -109,7 +125,9 @@ pub(crate) fn about(
 }
 
 // A FEN word, then the rest of the line.
-pub(crate) fn with_rest(task: Task, arg: &[u8], out: &mut [u8], at: usize) -> usize {
+pub(crate) fn with_rest(task: Task, arg: &[u8], out: &mut [u8], at: usize) -> usize
+    ensures { λ r. ⌜ Adds (restAnswer task (now (arg .entry))) (now (out .entry)) at (now (out .exit)) r ⌝ }
+{
     about(
         task,
         Form::Either,
@@ -121,7 +139,9 @@ pub(crate) fn with_rest(task: Task, arg: &[u8], out: &mut [u8], at: usize) -> us
 }
 
 // The limit stands before the FEN and is read first.
-pub(crate) fn atmost(arg: &[u8], out: &mut [u8], at: usize) -> usize {
+pub(crate) fn atmost(arg: &[u8], out: &mut [u8], at: usize) -> usize
+    ensures { λ r. ⌜ Adds (atmostAnswer (now (arg .entry))) (now (out .entry)) at (now (out .exit)) r ⌝ }
+{
     let fen = words::rest(arg);
     match numbers::unsigned(words::first(arg)) {
         Parsed::Value(n) => about(Task::Limit(n as usize), Form::Either, fen, fen, out, at),
@@ -135,7 +155,9 @@ pub enum Weights {
     Bad,
 }
 
-fn read_weights(arg: &[u8]) -> Weights {
+fn read_weights(arg: &[u8]) -> Weights
+    ensures { λ r. ⌜ r ≡ weightsOf (now (arg .entry)) ⌝ }
+{
     let Signed::Value(man) = numbers::read_signed(words::word(arg, 1)) else {
         return Weights::Bad;
     };
@@ -161,7 +183,9 @@ fn read_weights(arg: &[u8]) -> Weights {
 }
 
 // The weights are read before the FEN.
-pub(crate) fn evalw(arg: &[u8], out: &mut [u8], at: usize) -> usize {
+pub(crate) fn evalw(arg: &[u8], out: &mut [u8], at: usize) -> usize
+    ensures { λ r. ⌜ Adds (evalwAnswer (now (arg .entry))) (now (out .entry)) at (now (out .exit)) r ⌝ }
+{
     if words::blanks(arg) != 5 {
         return output::put_bad(out, at);
     }
@@ -173,7 +197,9 @@ pub(crate) fn evalw(arg: &[u8], out: &mut [u8], at: usize) -> usize {
 }
 
 // A square's number, bit or row.
-fn put_number(out: &mut [u8], at: usize, n: Numbered) -> usize {
+fn put_number(out: &mut [u8], at: usize, n: Numbered) -> usize
+    ensures { λ r. ⌜ Adds (numberWord n) (now (out .entry)) at (now (out .exit)) r ⌝ }
+{
     match n {
         Numbered::Number(k) => output::put_decimal(out, at, k as u64),
         Numbered::Refused(_) => at,
@@ -181,7 +207,9 @@ fn put_number(out: &mut [u8], at: usize, n: Numbered) -> usize {
 }
 
 // The number, the bit and the row of a square.
-pub(crate) fn square(word: &[u8], out: &mut [u8], at: usize) -> usize {
+pub(crate) fn square(word: &[u8], out: &mut [u8], at: usize) -> usize
+    ensures { λ r. ⌜ Adds (squareAnswer (now (word .entry))) (now (out .entry)) at (now (out .exit)) r ⌝ }
+{
     match heard::square(word) {
         Placing::Square(k) => {
             let a = answers::put_ok(out, at);
@@ -197,7 +225,9 @@ pub(crate) fn square(word: &[u8], out: &mut [u8], at: usize) -> usize {
 }
 
 // The side of a word: W or B alone.
-fn side(word: &[u8]) -> Sided {
+fn side(word: &[u8]) -> Sided
+    ensures { λ r. ⌜ r ≡ sideOf (now (word .entry)) ⌝ }
+{
     if word.len() == 1 {
         return Color::from_char(word[0]);
     }
@@ -205,7 +235,9 @@ fn side(word: &[u8]) -> Sided {
 }
 
 // Three sets and a side.
-fn sets(arg: &[u8], out: &mut [u8], at: usize) -> usize {
+fn sets(arg: &[u8], out: &mut [u8], at: usize) -> usize
+    ensures { λ r. ⌜ Adds (setsAnswer (now (arg .entry))) (now (out .entry)) at (now (out .exit)) r ⌝ }
+{
     let Parsed::Value(white) = numbers::set(words::word(arg, 0)) else {
         return output::put_bad(out, at);
     };
@@ -223,7 +255,9 @@ fn sets(arg: &[u8], out: &mut [u8], at: usize) -> usize {
     }
 }
 
-pub(crate) fn parts(arg: &[u8], out: &mut [u8], at: usize) -> usize {
+pub(crate) fn parts(arg: &[u8], out: &mut [u8], at: usize) -> usize
+    ensures { λ r. ⌜ Adds (partsAnswer (now (arg .entry))) (now (out .entry)) at (now (out .exit)) r ⌝ }
+{
     if words::blanks(arg) == 3 {
         return sets(arg, out, at);
     }

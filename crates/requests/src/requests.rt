@@ -9,7 +9,7 @@ ghost use mathlib.Core.Path.{_≡_};
 ghost use Prim.Native.Nat.{min};
 ghost use lib.ListN.{length};
 ghost use Rattle.wording.specs.Output.{Adds, written};
-ghost use Rattle.requests.specs.Requests.{countingOf, wordingOf, playingOf, placeOf, kindOf, kindAnswer, answerOf};
+ghost use Rattle.requests.specs.Requests.{gamesOf, countingOf, wordingOf, playingOf, placeOf, kindOf, kindAnswer, answerOf};
 
 // The longest line that is looked at.
 pub const LONGEST: usize = 65536;
@@ -27,7 +27,9 @@ pub enum Kind {
 }
 
 // Requests about games.
-fn games(name: &[u8]) -> Kind {
+fn games(name: &[u8]) -> Kind
+    ensures { λ r. ⌜ r ≡ gamesOf (now (name .entry)) ⌝ }
+{
     if words::same(name, b"play") {
         return Kind::Rest(Task::Play);
     }
@@ -41,7 +43,9 @@ fn games(name: &[u8]) -> Kind {
 }
 
 // Requests with numbers.
-fn counting(name: &[u8]) -> Kind {
+fn counting(name: &[u8]) -> Kind
+    ensures { λ r. ⌜ r ≡ countingOf (now (name .entry)) ⌝ }
+{
     if words::same(name, b"perft") {
         return Kind::Rest(Task::Perft);
     }
@@ -58,7 +62,9 @@ fn counting(name: &[u8]) -> Kind {
 }
 
 // Requests with texts beside a position, or without one.
-fn wording(name: &[u8]) -> Kind {
+fn wording(name: &[u8]) -> Kind
+    ensures { λ r. ⌜ r ≡ wordingOf (now (name .entry)) ⌝ }
+{
     if words::same(name, b"parse") {
         return Kind::Rest(Task::Parse);
     }
@@ -75,7 +81,9 @@ fn wording(name: &[u8]) -> Kind {
 }
 
 // Requests about the moves of a FEN word, which may be Hub.
-fn playing(name: &[u8]) -> Kind {
+fn playing(name: &[u8]) -> Kind
+    ensures { λ r. ⌜ r ≡ playingOf (now (name .entry)) ⌝ }
+{
     if words::same(name, b"moves") {
         return Kind::About(Form::Either, Asked::Moves);
     }
@@ -89,7 +97,9 @@ fn playing(name: &[u8]) -> Kind {
 }
 
 // Requests about the position of a FEN word, which may be Hub.
-fn place(name: &[u8]) -> Kind {
+fn place(name: &[u8]) -> Kind
+    ensures { λ r. ⌜ r ≡ placeOf (now (name .entry)) ⌝ }
+{
     if words::same(name, b"bits") {
         return Kind::About(Form::Either, Asked::Bits);
     }
@@ -105,7 +115,9 @@ fn place(name: &[u8]) -> Kind {
     playing(name)
 }
 
-fn kind_of(name: &[u8]) -> Kind {
+fn kind_of(name: &[u8]) -> Kind
+    ensures { λ r. ⌜ r ≡ kindOf (now (name .entry)) ⌝ }
+{
     if words::same(name, b"fen") {
         return Kind::About(Form::Fen, Asked::Fen);
     }
@@ -121,7 +133,9 @@ fn kind_of(name: &[u8]) -> Kind {
     place(name)
 }
 
-fn answer_kind(kind: Kind, arg: &[u8], out: &mut [u8], at: usize) -> usize {
+fn answer_kind(kind: Kind, arg: &[u8], out: &mut [u8], at: usize) -> usize
+    ensures { λ r. ⌜ Adds (kindAnswer kind (now (arg .entry))) (now (out .entry)) at (now (out .exit)) r ⌝ }
+{
     match kind {
         Kind::About(form, asked) => asked::about(Task::Tell(asked), form, arg, arg, out, at),
         Kind::Rest(task) => asked::with_rest(task, arg, out, at),
@@ -136,7 +150,10 @@ fn answer_kind(kind: Kind, arg: &[u8], out: &mut [u8], at: usize) -> usize {
 
 // The answer to a request line (without its line feed), at the start of the lent bytes; what has no room is left out.
 // How many bytes it has there.
-pub fn answer(line: &[u8], out: &mut [u8]) -> usize {
+pub fn answer(line: &[u8], out: &mut [u8]) -> usize
+    ensures { λ r. ⌜ r ≡ min (length (answerOf (now (line .entry)))) (length (now (out .entry))) ⌝ }
+    ensures { λ r. ⌜ now (out .exit) ≡ written (answerOf (now (line .entry))) (now (out .entry)) ⌝ }
+{
     if LONGEST < line.len() {
         return output::put_bad(out, 0);
     }

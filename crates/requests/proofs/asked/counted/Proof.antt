@@ -1,12 +1,18 @@
 -- A number that was read has 32 bits.
 use mathlib.Core.Path.{_≡_, refl, ap, sym, _∙_}
-use Prim.Native.Nat.{ℕ, _≤_, _<_, _-_, _+_, min}
-use lib.ListN.{length, take, drop, getD}
+use mathlib.Core.List.{[], _∷_}
+use Prim.Native.Nat.{ℕ, _-_}
+use lib.ListN.{length}
 use denote.Ref.{now}
+use borrow.Author.Tests.{lt-ltb, le-ltb, eq-eqb, ne-eqb}
+use borrow.Author.Needs.{needs}
+use Rattle.wording.proofs.Pieces as laws
+use Rattle.requests.proofs.Whole as law
+use Rattle.requests.specs.Answers as told
+use Rattle.requests.specs.Requests as asked
 use Rattle.wording.specs.Numbers.{AtMost}
 use Rattle.wording.specs.declared.numbers.Parsed.{Parsed}
 use mathlib.Core.Path.{subst}
-use borrow.Author.Needs.{needs}
 use native.Mathlib.Omega.{arith}
 use Rattle.requests.proofs.asked.counted.Statement.{statement}
 use Rattle.requests.proofs.asked.counted.Tie as tie
@@ -18,6 +24,7 @@ enum-known-n : tie.Need-enum-known-n
 enum-known-n c = search needs
 
 cast-perft : tie.Need-cast-perft
+unfolding asked.depthAnswer
 cast-perft c = let h = subst (λ (x : Parsed). AtMost 4294967295 x) (c .before .before .n .given .1) (c .before .before .before .before .unsigned .ensures .1) in omega (arith, h)
 
 perft-requires : tie.Need-perft-requires
@@ -36,13 +43,15 @@ same-length : tie.Need-same-length
 same-length c = search needs
 
 returns : tie.Need-returns
-returns c = search needs
+unfolding asked.depthAnswer
+returns c = rw (← c .before .before .before .before .before .before .before .before .unsigned .ensures .0, c .before .before .before .before .before .before .n .given .1) (laws.adds-as (ap told.countedAnswer (c .before .before .before .perft .ensures)) (c .before .before .tell-counted .ensures))
 
 same-length-2 : tie.Need-same-length-2
 same-length-2 c = search needs
 
 returns-2 : tie.Need-returns-2
-returns-2 c = search needs
+unfolding asked.depthAnswer
+returns-2 c = rw (← c .before .before .before .before .before .before .unsigned .ensures .0, c .before .before .before .before .enum-told .given .1) (c .before .before .put-bad .ensures)
 
 pub counted-spec : {M : Type 1} → statement M
 counted-spec =

@@ -1,0 +1,31 @@
+-- A whole answer, from the start of the lent bytes on; the side of a word.
+use Prim.Native.Nat.{ℕ, min}
+use mathlib.Core.Path.{_≡_, refl, ap, sym}
+use mathlib.Core.List.{List, [], _∷_, _++_}
+use native.Mathlib.Omega.{arith}
+use lib.ListN.{length, getD}
+use lib.Seq.{take-nil}
+use Rattle.squares.specs.Pieces.{colorFromCharOf}
+use Rattle.squares.specs.declared.piece.Sided.the-variants as sided
+use Rattle.squares.specs.declared.refusal.Refusal.the-variants.{NoSide}
+use Rattle.wording.specs.Output.{written, Holds, Adds}
+use Rattle.requests.specs.Requests.{sideOf}
+
+start : (o : List ℕ) → Holds o [] o 0
+unfolding written
+start o = record { bytes = sym (ap (λ (y : List ℕ). y ++ o) (take-nil (length o))); place = omega arith }
+
+pub whole : {s o new : List ℕ} {end : ℕ} → Adds s o 0 new end → (end ≡ min (length s) (length o)) × (new ≡ written s o)
+whole {s} {o} a = let h = a .held o [] (start o) in (h .place, h .bytes)
+
+pub side-one : (s : List ℕ) → length s ≡ 1 → sideOf s ≡ colorFromCharOf (getD s 0 0)
+unfolding sideOf
+side-one [] e = absurd (omega arith)
+side-one (c ∷ []) e = refl
+side-one (c ∷ (d ∷ s)) e = absurd (omega arith)
+
+pub side-other : (s : List ℕ) → (length s ≡ 1 → ⊥) → sideOf s ≡ sided.Refused NoSide
+unfolding sideOf
+side-other [] e = refl
+side-other (c ∷ []) e = absurd (e refl)
+side-other (c ∷ (d ∷ s)) e = refl

@@ -1,0 +1,35 @@
+-- The list of at most 256 moves.
+use mathlib.Core.Path.{_≡_, refl, ap, sym, _∙_}
+use mathlib.Core.List.{[], _∷_}
+use Prim.Native.Nat.{ℕ, _-_}
+use lib.ListN.{length}
+use denote.Ref.{now}
+use borrow.Author.Tests.{lt-ltb, le-ltb, eq-eqb, ne-eqb}
+use borrow.Author.Needs.{needs}
+use Rattle.wording.proofs.Pieces as laws
+use Rattle.requests.proofs.Whole as law
+use Rattle.requests.specs.Answers as told
+use Rattle.requests.specs.Requests as asked
+use Rattle.requests.proofs.answers.tell_moves.Statement.{statement}
+use Rattle.requests.proofs.answers.tell_moves.Tie as tie
+
+legal-moves-requires : tie.Need-legal-moves-requires
+legal-moves-requires c κs = search needs
+
+tell-list-requires : tie.Need-tell-list-requires
+tell-list-requires c κs = search needs
+
+same-length : tie.Need-same-length
+same-length c = search needs
+
+returns : tie.Need-returns
+returns c = laws.adds-as (ap told.listAnswer (c .before .before .before .legal-moves .ensures)) (c .before .before .tell-list .ensures)
+
+pub tell-moves-spec : {M : Type 1} → statement M
+tell-moves-spec =
+    tie.close
+    (tie.spec
+    legal-moves-requires
+    tell-list-requires
+    same-length
+    returns)

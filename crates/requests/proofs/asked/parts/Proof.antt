@@ -1,0 +1,49 @@
+-- Four words.
+use mathlib.Core.Path.{_≡_, refl, ap, sym, _∙_}
+use mathlib.Core.List.{[], _∷_}
+use Prim.Native.Nat.{ℕ, _-_}
+use lib.ListN.{length}
+use denote.Ref.{now}
+use borrow.Author.Tests.{lt-ltb, le-ltb, eq-eqb, ne-eqb}
+use borrow.Author.Needs.{needs}
+use Rattle.wording.proofs.Pieces as laws
+use Rattle.requests.proofs.Whole as law
+use Rattle.requests.specs.Answers as told
+use Rattle.requests.specs.Requests as asked
+use Rattle.requests.proofs.asked.parts.Statement.{statement}
+use Rattle.requests.proofs.asked.parts.Tie as tie
+
+blanks-requires : tie.Need-blanks-requires
+blanks-requires c κs = search needs
+
+sets-requires : tie.Need-sets-requires
+sets-requires c κs = search needs
+
+same-length : tie.Need-same-length
+same-length c = search needs
+
+returns : tie.Need-returns
+unfolding asked.partsAnswer
+returns c = rw (← c .before .before .before .before .before .blanks .ensures, eq-eqb _ 3 (c .before .before .before .before .if1 .taken)) (c .before .before .sets .ensures)
+
+put-bad-requires : tie.Need-put-bad-requires
+put-bad-requires c κs = search needs
+
+same-length-2 : tie.Need-same-length-2
+same-length-2 c = search needs
+
+returns-2 : tie.Need-returns-2
+unfolding asked.partsAnswer
+returns-2 c = rw (← c .before .before .before .before .before .blanks .ensures, ne-eqb _ 3 (c .before .before .before .before .if1 .left)) (c .before .before .put-bad .ensures)
+
+pub parts-spec : {M : Type 1} → statement M
+parts-spec =
+    tie.close
+    (tie.spec
+    blanks-requires
+    sets-requires
+    same-length
+    returns
+    put-bad-requires
+    same-length-2
+    returns-2)

@@ -1,0 +1,35 @@
+-- One letter.
+use mathlib.Core.Path.{_≡_, refl, ap, sym, _∙_}
+use mathlib.Core.List.{[], _∷_}
+use Prim.Native.Nat.{ℕ, _-_}
+use lib.ListN.{length}
+use denote.Ref.{now}
+use borrow.Author.Tests.{lt-ltb, le-ltb, eq-eqb, ne-eqb}
+use borrow.Author.Needs.{needs}
+use Rattle.wording.proofs.Pieces as laws
+use Rattle.requests.proofs.Whole as law
+use Rattle.requests.specs.Answers as told
+use Rattle.requests.specs.Requests as asked
+use Rattle.requests.proofs.asked.side.Statement.{statement}
+use Rattle.requests.proofs.asked.side.Tie as tie
+
+shared-slice-read-from-char : tie.Need-shared-slice-read-from-char
+shared-slice-read-from-char c = search needs
+
+from-char-requires : tie.Need-from-char-requires
+from-char-requires c κs = search needs
+
+returns : tie.Need-returns
+returns c = c .from-char .ensures ∙ sym (law.side-one (now (c .before .before .before .before .args .word)) (c .before .before .if1 .taken))
+
+returns-2 : tie.Need-returns-2
+returns-2 c = sym (law.side-other (now (c .before .before .args .word)) (c .if1 .left))
+
+pub side-spec : {M : Type 1} → statement M
+side-spec =
+    tie.close
+    (tie.spec
+    shared-slice-read-from-char
+    from-char-requires
+    returns
+    returns-2)

@@ -1,0 +1,40 @@
+-- The first word, then the rest.
+use mathlib.Core.Path.{_≡_, refl, ap, sym, _∙_}
+use mathlib.Core.List.{[], _∷_}
+use Prim.Native.Nat.{ℕ, _-_}
+use lib.ListN.{length}
+use denote.Ref.{now}
+use borrow.Author.Tests.{lt-ltb, le-ltb, eq-eqb, ne-eqb}
+use borrow.Author.Needs.{needs}
+use Rattle.wording.proofs.Pieces as laws
+use Rattle.requests.proofs.Whole as law
+use Rattle.requests.specs.Answers as told
+use Rattle.requests.specs.Requests as asked
+use Rattle.requests.proofs.asked.with_rest.Statement.{statement}
+use Rattle.requests.proofs.asked.with_rest.Tie as tie
+
+first-requires : tie.Need-first-requires
+first-requires c κs = search needs
+
+rest-requires : tie.Need-rest-requires
+rest-requires c κs = search needs
+
+about-requires : tie.Need-about-requires
+about-requires c κs = search needs
+
+same-length : tie.Need-same-length
+same-length c = search needs
+
+returns : tie.Need-returns
+unfolding asked.restAnswer
+returns c = rw (← c .before .before .before .before .before .first .ensures, ← c .before .before .before .before .rest .ensures) (c .before .before .about .ensures)
+
+pub with-rest-spec : {M : Type 1} → statement M
+with-rest-spec =
+    tie.close
+    (tie.spec
+    first-requires
+    rest-requires
+    about-requires
+    same-length
+    returns)

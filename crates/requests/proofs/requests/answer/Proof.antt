@@ -1,0 +1,57 @@
+-- A line that is too long is a bad request; else by its first word.
+use mathlib.Core.Path.{_≡_, refl, ap, sym, _∙_}
+use mathlib.Core.List.{[], _∷_}
+use Prim.Native.Nat.{ℕ, _-_}
+use lib.ListN.{length}
+use denote.Ref.{now}
+use borrow.Author.Tests.{lt-ltb, le-ltb, eq-eqb, ne-eqb}
+use borrow.Author.Needs.{needs}
+use Rattle.wording.proofs.Pieces as laws
+use Rattle.requests.proofs.Whole as law
+use Rattle.requests.specs.Answers as told
+use Rattle.requests.specs.Requests as asked
+use Rattle.requests.proofs.requests.answer.Statement.{statement}
+use Rattle.requests.proofs.requests.answer.Tie as tie
+
+put-bad-requires : tie.Need-put-bad-requires
+put-bad-requires c κs = search needs
+
+same-length : tie.Need-same-length
+same-length c = search needs
+
+returns : tie.Need-returns
+unfolding asked.answerOf
+returns c = rw (lt-ltb 65536 _ (c .before .before .before .before .if1 .taken)) (law.whole (c .before .before .put-bad .ensures))
+
+first-requires : tie.Need-first-requires
+first-requires c κs = search needs
+
+kind-of-requires : tie.Need-kind-of-requires
+kind-of-requires c κs = search needs
+
+rest-requires : tie.Need-rest-requires
+rest-requires c κs = search needs
+
+answer-kind-requires : tie.Need-answer-kind-requires
+answer-kind-requires c κs = search needs
+
+same-length-2 : tie.Need-same-length-2
+same-length-2 c = search needs
+
+returns-2 : tie.Need-returns-2
+unfolding asked.answerOf
+returns-2 c = rw (le-ltb 65536 _ (c .before .before .before .before .before .before .before .if1 .left), ← c .before .before .before .before .before .before .first .ensures, ← c .before .before .before .before .before .kind-of .ensures, ← c .before .before .before .before .rest .ensures) (law.whole (c .before .before .answer-kind .ensures))
+
+pub answer-spec : {M : Type 1} → statement M
+answer-spec =
+    tie.close
+    (tie.spec
+    put-bad-requires
+    same-length
+    returns
+    first-requires
+    kind-of-requires
+    rest-requires
+    answer-kind-requires
+    same-length-2
+    returns-2)
