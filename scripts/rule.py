@@ -1,19 +1,21 @@
 """What `dame` answers, from what the Rust's line protocol answers. Shared by scripts/dame and scripts/compare.
 
 The two agree byte for byte but for the cases below, each of which is written here as a rule and not as stored answers:
-  names      `movebits`, `list`, `naive`, `calls`, `sequences`, `keys`, `play` and `outcome` are no requests of `dame`
-  words      `bad number` and `bad escape` are `bad request`, and so is a side in `parts` other than W or B
+  names      `movebits`, `list`, `naive`, `calls`, `sequences` and `keys` are no requests of `dame`
+  words      `bad number` and `bad escape` are `bad request`, and so is a side in `parts` other than W or B; a bad escape in a
+             text of `play` breaks the whole request
   length     a line of more than 65,536 bytes is a bad request
   limits     a depth above 7 and a weight outside -10,000 to 10,000 are refused with 10, after the FEN's refusals
   atmost     the Rust has no such request: its list without a limit, then 10 above 256 and 17 above the limit
-  panics     where the Rust panics at a 257th entry, the list without a limit decides: 17, or what it says
+  record     the Rust has no such request: the position's refusals, else the game by scripts/gamerule.py
+  panics     where the Rust panics at a 257th entry, the list without a limit decides: 17, or what it says; a game goes on
 """
 import re
 import subprocess
 
 MASK = 2 ** 64 - 1
 BAD = b"bad request"
-NAMES = (b"fen hub fen2hub hub2fen square parts bits moves parse after perft divide eval evalw hash flip caps quiet").split()
+NAMES = (b"fen hub fen2hub hub2fen square parts bits moves parse after perft divide eval evalw hash flip caps quiet play outcome record").split()
 
 
 class Draw:
@@ -130,6 +132,8 @@ def asked(line):
         return b"list " + fen, "atmost", n
     if name not in NAMES:
         return None, "names", BAD
+    if name == b"record":
+        return b"bits " + arg.partition(b" ")[0], "record", None
     if name == b"parts":
         words = arg.split(b" ")
         if len(words) == 4 and words[3] not in (b"W", b"B"):
@@ -152,8 +156,10 @@ def answer(oracle, line, rule, extra, told):
     """`dame`'s answer and the rule that made it."""
     if told is None:
         return extra, rule
-    if told in (b"bad number", b"bad escape"):
+    if told in (b"bad number", b"bad escape") or (line.startswith(b"play ") and b" !escape" in told):
         return BAD, "words"
+    if rule == "record" and told.startswith(b"ok"):
+        return gamerule.recorded(oracle, line), rule
     if rule == "limits" and told.startswith(b"ok"):
         return b"err 10 0", rule
     if rule == "atmost" and told.startswith(b"ok"):
@@ -169,6 +175,8 @@ def answer(oracle, line, rule, extra, told):
 def panicked(oracle, line):
     name, _, arg = line.partition(b" ")
     fen, _, rest = arg.partition(b" ")
+    if name == b"play":
+        return gamerule.played(oracle, line)
     if name == b"moves":
         told, moves = oracle.listed(arg)
         return told if len(moves) <= 256 else b"err 17 0"
@@ -229,3 +237,6 @@ def fitting(moves, text):
         if hub:
             return hub
     return [m for m in moves if m[1] == squares[-1]]
+
+
+import gamerule  # noqa: E402  (it uses what stands above)

@@ -147,7 +147,7 @@ too-long : (s : List ℕ) → 4096 < length s → readable s ≡ false
 unfolding readable
 too-long s h = rw (lt-leb (length s) 4096 h)
 
-cut : {A : Type 0} (f : List ℕ → A) (a : A) → ((s : List ℕ) → readable s ≡ false → f s ≡ a) → (t : List ℕ) → f (take 4097 t) ≡ f t
+pub cut : {A : Type 0} (f : List ℕ → A) (a : A) → ((s : List ℕ) → readable s ≡ false → f s ≡ a) → (t : List ℕ) → f (take 4097 t) ≡ f t
 cut f a g t = go (leb (length t) 4097) refl
   where
     go : (b : Bool) → leb (length t) 4097 ≡ b → f (take 4097 t) ≡ f t
@@ -186,11 +186,11 @@ unfolding parseMoveOf readMoveOf
 move-refused p s e = rw e
 
 -- ---- what undoing the escapes of a word gave
-record Spelt (s o out : List ℕ) (n : ℕ) : Type 0 where
-  done : List ℕ
-  whole : plain s ≡ text done
-  part : take n out ≡ take (length o) done
-  within : n ≤ length out
+pub record Spelt (s o out : List ℕ) (n : ℕ) : Type 0 where
+  pub done : List ℕ
+  pub whole : plain s ≡ text done
+  pub part : take n out ≡ take (length o) done
+  pub within : n ≤ length out
 
 part-of : (o t out : List ℕ) (n : ℕ) → Holds o t out (min (length t) (length o)) → n ≡ min (length t) (length o) → take n out ≡ take (length o) t
 unfolding written
@@ -215,13 +215,13 @@ broken-said s o out u = go (plain s) refl
     go broken e = e
 
 module _ (s o out : List ℕ) (r : Undone) (long : length o ≡ 4097) (u : Undid s o out r) where
-  said : (n : ℕ) → r ≡ undone.Length n → Spelt s o out n
+  pub said : (n : ℕ) → r ≡ undone.Length n → Spelt s o out n
   said n q = spelt s o out n (subst (λ (x : Undone). Undid s o out x) q u)
 
-  said-broken : r ≡ undone.Bad → plain s ≡ broken
+  pub said-broken : r ≡ undone.Bad → plain s ≡ broken
   said-broken q = broken-said s o out (subst (λ (x : Undone). Undid s o out x) q u)
 
-  cut-part : (n : ℕ) (w : Spelt s o out n) → take n out ≡ take 4097 (w .done)
+  pub cut-part : (n : ℕ) (w : Spelt s o out n) → take n out ≡ take 4097 (w .done)
   cut-part n w = w .part ∙ ap (λ (k : ℕ). take k (w .done)) long
 
   pub said-fits : (n : ℕ) → r ≡ undone.Length n → n ≤ length out

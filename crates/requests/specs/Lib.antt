@@ -1,3 +1,5 @@
 pub mod Heard
 pub mod Answers
+pub mod States
+pub mod Plays
 pub mod Requests

@@ -27,6 +27,8 @@ use Rattle.wording.specs.Words.{sameText, firstWord, afterWord, wordAt, blanksI
 use Rattle.wording.specs.Numbers.{unsignedOf, setOf, signedOf}
 use Rattle.requests.specs.Heard.{positionOf, listedMoveOf, squareOf}
 use Rattle.requests.specs.Answers.{ok, scoredAnswer, countedAnswer, placedAnswer, listAnswer, dividedAnswer, moveAnswer, afterAnswer, answerTo}
+use Rattle.requests.specs.Plays.{playsAnswer, freshAnswer}
+use Rattle.requests.specs.declared.plays.Given.the-variants as given
 use Rattle.requests.specs.declared.answers.Asked.{Asked}
 use Rattle.requests.specs.declared.answers.Asked.the-variants as asked
 use Rattle.requests.specs.declared.asked.Weights.{Weights}
@@ -99,6 +101,9 @@ workAnswer task.Perft p s = depthAnswer p s
 workAnswer task.Divide p s = splitAnswer p s
 workAnswer (task.Limit n) p s = limitAnswer n p
 workAnswer (task.Weigh w) p s = weighedAnswer w p
+workAnswer task.Play p s = playsAnswer given.Text p s
+workAnswer task.Record p s = playsAnswer given.Record p s
+workAnswer task.Outcome p s = freshAnswer p
 
 -- the position is read before the rest of the line
 unfoldable pub heardAnswer : Task → Form → List ℕ → List ℕ → List ℕ
@@ -161,12 +166,18 @@ unfoldable pub partsAnswer : List ℕ → List ℕ
 partsAnswer arg = cond (eqb (blanksIn arg) 3) (setsAnswer arg) bad
 
 -- ---- by the request's name
+unfoldable pub gamesOf : List ℕ → Kind
+gamesOf name =
+    cond (sameText name (bytes "play")) (kind.Rest task.Play)
+    (cond (sameText name (bytes "record")) (kind.Rest task.Record)
+    (cond (sameText name (bytes "outcome")) kind.Outcome kind.Unknown))
+
 unfoldable pub countingOf : List ℕ → Kind
 countingOf name =
     cond (sameText name (bytes "perft")) (kind.Rest task.Perft)
     (cond (sameText name (bytes "divide")) (kind.Rest task.Divide)
     (cond (sameText name (bytes "atmost")) kind.Atmost
-    (cond (sameText name (bytes "evalw")) kind.Evalw kind.Unknown)))
+    (cond (sameText name (bytes "evalw")) kind.Evalw (gamesOf name))))
 
 unfoldable pub wordingOf : List ℕ → Kind
 wordingOf name =
@@ -202,6 +213,7 @@ kindAnswer kind.Atmost arg = atmostAnswer arg
 kindAnswer kind.Evalw arg = evalwAnswer arg
 kindAnswer kind.Square arg = squareAnswer arg
 kindAnswer kind.Parts arg = partsAnswer arg
+kindAnswer kind.Outcome arg = heardAnswer task.Outcome form.Either arg arg
 kindAnswer kind.Unknown arg = bad
 
 -- a line of more than 65,536 bytes is a bad request, whatever it says

@@ -157,7 +157,7 @@ pub(crate) fn tell_counted(out: &mut [u8], at: usize, c: Counted) -> usize
 }
 
 // A move's Hub text.
-fn put_move(out: &mut [u8], at: usize, m: Move) -> usize
+pub(crate) fn put_move(out: &mut [u8], at: usize, m: Move) -> usize
     ensures { λ r. ⌜ Adds (moveWord m) (now (out .entry)) at (now (out .exit)) r ⌝ }
 {
     let mut space = [0u8; 200];

@@ -6,6 +6,8 @@ use crate::heard::Form;
 use crate::heard::Heard;
 use crate::heard::Meant;
 use crate::heard::Placing;
+use crate::plays;
+use crate::plays::Given;
 use positions::position;
 use positions::position::Position;
 use scores::eval::Classical;
@@ -31,6 +33,9 @@ pub enum Task {
     Divide,
     Limit(usize),
     Weigh(Classical),
+    Play,
+    Record,
+    Outcome,
 }
 
 fn parsed(p: Position, word: &[u8], out: &mut [u8], at: usize) -> usize
@@ -95,6 +100,9 @@ fn work(task: Task, p: Position, rest: &[u8], out: &mut [u8], at: usize) -> usiz
         Task::Divide => split(p, rest, out, at),
         Task::Limit(limit) => limited(limit, p, out, at),
         Task::Weigh(w) => weighed(w, p, out, at),
+        Task::Play => plays::plays(Given::Text, p, rest, out, at),
+        Task::Record => plays::plays(Given::Record, p, rest, out, at),
+        Task::Outcome => plays::fresh(p, out, at),
     }
 }
 

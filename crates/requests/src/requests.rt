@@ -9,7 +9,7 @@ ghost use mathlib.Core.Path.{_≡_};
 ghost use Prim.Native.Nat.{min};
 ghost use lib.ListN.{length};
 ghost use Rattle.wording.specs.Output.{Adds, written};
-ghost use Rattle.requests.specs.Requests.{countingOf, wordingOf, playingOf, placeOf, kindOf, kindAnswer, answerOf};
+ghost use Rattle.requests.specs.Requests.{gamesOf, countingOf, wordingOf, playingOf, placeOf, kindOf, kindAnswer, answerOf};
 
 // The longest line that is looked at.
 pub const LONGEST: usize = 65536;
@@ -22,7 +22,24 @@ pub enum Kind {
     Evalw,
     Square,
     Parts,
+    Outcome,
     Unknown,
+}
+
+// Requests about games.
+fn games(name: &[u8]) -> Kind
+    ensures { λ r. ⌜ r ≡ gamesOf (now (name .entry)) ⌝ }
+{
+    if words::same(name, b"play") {
+        return Kind::Rest(Task::Play);
+    }
+    if words::same(name, b"record") {
+        return Kind::Rest(Task::Record);
+    }
+    if words::same(name, b"outcome") {
+        return Kind::Outcome;
+    }
+    Kind::Unknown
 }
 
 // Requests with numbers.
@@ -41,7 +58,7 @@ fn counting(name: &[u8]) -> Kind
     if words::same(name, b"evalw") {
         return Kind::Evalw;
     }
-    Kind::Unknown
+    games(name)
 }
 
 // Requests with texts beside a position, or without one.
@@ -126,6 +143,7 @@ fn answer_kind(kind: Kind, arg: &[u8], out: &mut [u8], at: usize) -> usize
         Kind::Evalw => asked::evalw(arg, out, at),
         Kind::Square => asked::square(arg, out, at),
         Kind::Parts => asked::parts(arg, out, at),
+        Kind::Outcome => asked::about(Task::Outcome, Form::Either, arg, arg, out, at),
         Kind::Unknown => output::put_bad(out, at),
     }
 }

@@ -55,6 +55,24 @@ enum-known-task-3 c = search needs
 weighed-requires : tie.Need-weighed-requires
 weighed-requires c κs = search needs
 
+enum-told-5 : tie.Need-enum-told-5
+enum-told-5 c = search needs
+
+plays-requires : tie.Need-plays-requires
+plays-requires c κs = search needs
+
+enum-told-6 : tie.Need-enum-told-6
+enum-told-6 c = search needs
+
+plays-requires-2 : tie.Need-plays-requires-2
+plays-requires-2 c κs = search needs
+
+enum-told-7 : tie.Need-enum-told-7
+enum-told-7 c = search needs
+
+fresh-requires : tie.Need-fresh-requires
+fresh-requires c κs = search needs
+
 same-length : tie.Need-same-length
 same-length c = search needs
 
@@ -97,6 +115,24 @@ same-length-7 c = search needs
 returns-7 : tie.Need-returns-7
 returns-7 c = rw (c .before .before .before .before .before .task3 .given .1) (c .before .before .weighed .ensures)
 
+same-length-8 : tie.Need-same-length-8
+same-length-8 c = search needs
+
+returns-8 : tie.Need-returns-8
+returns-8 c = rw (c .before .before .before .before .enum-told5 .given .1) (c .before .before .plays .ensures)
+
+same-length-9 : tie.Need-same-length-9
+same-length-9 c = search needs
+
+returns-9 : tie.Need-returns-9
+returns-9 c = rw (c .before .before .before .before .enum-told6 .given .1) (c .before .before .plays2 .ensures)
+
+same-length-10 : tie.Need-same-length-10
+same-length-10 c = search needs
+
+returns-10 : tie.Need-returns-10
+returns-10 c = rw (c .before .before .before .before .enum-told7 .given .1) (c .before .before .fresh .ensures)
+
 pub work-spec : {M : Type 1} → statement M
 work-spec =
     tie.close
@@ -115,6 +151,12 @@ work-spec =
     limited-requires
     enum-known-task-3
     weighed-requires
+    enum-told-5
+    plays-requires
+    enum-told-6
+    plays-requires-2
+    enum-told-7
+    fresh-requires
     same-length
     returns
     same-length-2
@@ -128,4 +170,10 @@ work-spec =
     same-length-6
     returns-6
     same-length-7
-    returns-7)
+    returns-7
+    same-length-8
+    returns-8
+    same-length-9
+    returns-9
+    same-length-10
+    returns-10)

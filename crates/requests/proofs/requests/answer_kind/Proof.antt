@@ -52,6 +52,12 @@ parts-requires c κs = search needs
 enum-told-5 : tie.Need-enum-told-5
 enum-told-5 c = search needs
 
+about-requires-2 : tie.Need-about-requires-2
+about-requires-2 c κs = search needs
+
+enum-told-6 : tie.Need-enum-told-6
+enum-told-6 c = search needs
+
 put-bad-requires : tie.Need-put-bad-requires
 put-bad-requires c κs = search needs
 
@@ -95,7 +101,13 @@ same-length-7 : tie.Need-same-length-7
 same-length-7 c = search needs
 
 returns-7 : tie.Need-returns-7
-returns-7 c = rw (c .before .before .before .before .enum-told5 .given .1) (c .before .before .put-bad .ensures)
+returns-7 c = rw (c .before .before .before .before .enum-told5 .given .1) (c .before .before .about2 .ensures)
+
+same-length-8 : tie.Need-same-length-8
+same-length-8 c = search needs
+
+returns-8 : tie.Need-returns-8
+returns-8 c = rw (c .before .before .before .before .enum-told6 .given .1) (c .before .before .put-bad .ensures)
 
 pub answer-kind-spec : {M : Type 1} → statement M
 answer-kind-spec =
@@ -114,6 +126,8 @@ answer-kind-spec =
     enum-told-4
     parts-requires
     enum-told-5
+    about-requires-2
+    enum-told-6
     put-bad-requires
     same-length
     returns
@@ -128,4 +142,6 @@ answer-kind-spec =
     same-length-6
     returns-6
     same-length-7
-    returns-7)
+    returns-7
+    same-length-8
+    returns-8)

@@ -53,9 +53,12 @@ returns-4 : tie.Need-returns-4
 unfolding asked.countingOf
 returns-4 c = rw (← c .before .before .before .before .before .before .before .before .before .before .same .ensures, c .before .before .before .before .before .before .before .before .before .if1 .left, ← c .before .before .before .before .before .before .before .same2 .ensures, c .before .before .before .before .before .before .if2 .left, ← c .before .before .before .before .same3 .ensures, c .before .before .before .if3 .left, ← c .before .same4 .ensures, c .if4 .taken)
 
+games-requires : tie.Need-games-requires
+games-requires c κs = search needs
+
 returns-5 : tie.Need-returns-5
 unfolding asked.countingOf
-returns-5 c = rw (← c .before .before .before .before .before .before .before .before .before .before .same .ensures, c .before .before .before .before .before .before .before .before .before .if1 .left, ← c .before .before .before .before .before .before .before .same2 .ensures, c .before .before .before .before .before .before .if2 .left, ← c .before .before .before .before .same3 .ensures, c .before .before .before .if3 .left, ← c .before .same4 .ensures, c .if4 .left)
+returns-5 c = rw (← c .before .before .before .before .before .before .before .before .before .before .before .same .ensures, c .before .before .before .before .before .before .before .before .before .before .if1 .left, ← c .before .before .before .before .before .before .before .before .same2 .ensures, c .before .before .before .before .before .before .before .if2 .left, ← c .before .before .before .before .before .same3 .ensures, c .before .before .before .before .if3 .left, ← c .before .before .same4 .ensures, c .before .if4 .left) (c .games .ensures)
 
 pub counting-spec : {M : Type 1} → statement M
 counting-spec =
@@ -73,4 +76,5 @@ counting-spec =
     slice-aggregate-same-4
     same-requires-4
     returns-4
+    games-requires
     returns-5)

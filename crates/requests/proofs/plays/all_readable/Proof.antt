@@ -1,0 +1,77 @@
+-- Word by word.
+use mathlib.Core.Path.{_≡_, refl, ap, sym, _∙_, subst}
+use Prim.Native.Nat.{ℕ, _≤_, _<_, _-_, _+_}
+use mathlib.Core.List.{List, _++_}
+use lib.ListN.{length, take, drop}
+use denote.Ref.{now}
+use Rattle.requests.proofs.PlayLaws as laws
+use Rattle.texts.proofs.Cuts as cuts
+use Rattle.requests.specs.Plays.{allReadable, wordsOf}
+use borrow.Author.Needs.{needs}
+use native.Mathlib.Omega.{arith}
+use Rattle.requests.proofs.plays.all_readable.Statement.{statement}
+use Rattle.requests.proofs.plays.all_readable.Tie as tie
+
+abbrev Inv-loop : tie.InvT-loop
+Inv-loop given s i₀ i = (i ≤ length s) × (allReadable given (wordsOf (drop i s)) ≡ allReadable given (wordsOf s))
+
+abbrev μ-loop : tie.MeasureT-loop
+μ-loop given s i₀ i = length s - i
+
+loop-holds : tie.Need-loop-holds Inv-loop μ-loop
+loop-holds c = (search needs, refl)
+
+sub-left : tie.Need-sub-left Inv-loop μ-loop
+sub-left c = search needs
+
+part-left-start : tie.Need-part-left-start Inv-loop μ-loop
+part-left-start c = search needs
+
+part-left-end : tie.Need-part-left-end Inv-loop μ-loop
+part-left-end c = search needs
+
+first-requires : tie.Need-first-requires Inv-loop μ-loop
+first-requires c κs = search needs
+
+is-readable-requires : tie.Need-is-readable-requires Inv-loop μ-loop
+is-readable-requires c κs = search needs
+
+rest-requires : tie.Need-rest-requires Inv-loop μ-loop
+rest-requires c κs = search needs
+
+sub-i : tie.Need-sub-i Inv-loop μ-loop
+sub-i c = let s = now (c .before .before .before .before .before .before .before .before .args .s) in let l = c .before .before .before .before .before .before .loop in omega (arith, laws.rest-less s (l .i) _ _ (cuts.rest s (l .i)) (c .rest .ensures) (omega arith))
+
+loop-less : tie.Need-loop-less Inv-loop μ-loop
+loop-less c = let s = now (c .before .before .before .before .before .before .before .before .args .s) in let l = c .before .before .before .before .before .before .loop in omega (arith, laws.rest-less s (l .i) _ _ (cuts.rest s (l .i)) (c .rest .ensures) (omega arith))
+
+loop-again : tie.Need-loop-again Inv-loop μ-loop
+loop-again c =
+    let s = now (c .before .before .before .before .before .before .before .before .args .s) in
+    let l = c .before .before .before .before .before .before .loop in
+    (omega arith, laws.readable-next s (l .i) _ _ _ (cuts.rest s (l .i)) (c .before .before .before .first .ensures) (c .rest .ensures) (omega arith) (c .before .before .before .before .before .before .before .before .args .given) (sym (c .before .before .is-readable .ensures) ∙ c .before .if1 .taken) ∙ l .inv .1)
+
+returns : tie.Need-returns Inv-loop μ-loop
+returns c = let s = now (c .before .before .before .before .before .before .before .args .s) in let l = c .before .before .before .before .before .loop in laws.readable-stop s (l .i) _ _ (cuts.rest s (l .i)) (c .before .before .first .ensures) (omega arith) (c .before .before .before .before .before .before .before .args .given) (sym (c .before .is-readable .ensures) ∙ c .if1 .left) ∙ l .inv .1
+
+returns-2 : tie.Need-returns-2 Inv-loop μ-loop
+returns-2 c = let s = now (c .before .before .before .args .s) in let l = c .before .loop in laws.readable-end s (l .i) (c .before .before .before .args .given) (omega arith) ∙ l .inv .1
+
+pub all-readable-spec : {M : Type 1} → statement M
+all-readable-spec =
+    tie.close
+    (tie.spec
+    Inv-loop
+    μ-loop
+    loop-holds
+    sub-left
+    part-left-start
+    part-left-end
+    first-requires
+    is-readable-requires
+    rest-requires
+    sub-i
+    loop-less
+    loop-again
+    returns
+    returns-2)

@@ -1,0 +1,49 @@
+-- The game begun, then its outcome.
+use mathlib.Core.Path.{_≡_, refl, ap, sym, _∙_, subst}
+use Prim.Native.Nat.{ℕ, _≤_, _<_, _-_, _+_}
+use mathlib.Core.List.{List, _++_}
+use lib.ListN.{length, take, drop}
+use denote.Ref.{now}
+use Rattle.wording.proofs.Pieces as pieces
+use Rattle.requests.specs.Plays.{freshAnswer}
+use Rattle.requests.specs.States.{judgedWord}
+use Rattle.games.specs.Play.{outcomeOf}
+use Rattle.games.specs.declared.game.Begun.{Begun}
+use borrow.Author.Needs.{needs}
+use native.Mathlib.Omega.{arith}
+use Rattle.requests.proofs.plays.fresh.Statement.{statement}
+use Rattle.requests.proofs.plays.fresh.Tie as tie
+
+from-position-requires : tie.Need-from-position-requires
+from-position-requires c κs = search needs
+
+slice-aggregate-put : tie.Need-slice-aggregate-put
+slice-aggregate-put c = search needs
+
+put-requires : tie.Need-put-requires
+put-requires c κs = search needs
+
+outcome-requires : tie.Need-outcome-requires
+outcome-requires c κs = search needs
+
+put-judged-requires : tie.Need-put-judged-requires
+put-judged-requires c κs = search needs
+
+same-length : tie.Need-same-length
+same-length c = search needs
+
+returns : tie.Need-returns
+unfolding freshAnswer
+returns c = pieces.adds-then (c .before .before .before .before .before .before .before .put .ensures) (pieces.adds-as (ap judgedWord (c .before .before .before .outcome .ensures ∙ ap (λ (b : Begun). outcomeOf (b .game)) (c .before .before .before .before .before .before .before .before .before .before .before .from-position .ensures))) (c .before .before .put-judged .ensures))
+
+pub fresh-spec : {M : Type 1} → statement M
+fresh-spec =
+    tie.close
+    (tie.spec
+    from-position-requires
+    slice-aggregate-put
+    put-requires
+    outcome-requires
+    put-judged-requires
+    same-length
+    returns)

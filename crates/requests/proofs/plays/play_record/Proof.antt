@@ -1,0 +1,46 @@
+-- The record read, then played.
+use mathlib.Core.Path.{_≡_, refl, ap, sym, _∙_, subst}
+use Prim.Native.Nat.{ℕ, _≤_, _<_, _-_, _+_}
+use mathlib.Core.List.{List, _++_}
+use lib.ListN.{length, take, drop}
+use denote.Ref.{now}
+use Rattle.requests.specs.Plays.{playMove, playRecordOf}
+use borrow.Author.Needs.{needs}
+use native.Mathlib.Omega.{arith}
+use Rattle.requests.proofs.plays.play_record.Statement.{statement}
+use Rattle.requests.proofs.plays.play_record.Tie as tie
+
+read-record-requires : tie.Need-read-record-requires
+read-record-requires c κs = search needs
+
+enum-known-m : tie.Need-enum-known-m
+enum-known-m c = search needs
+
+play-requires : tie.Need-play-requires
+play-requires c κs = search needs
+
+enum-told : tie.Need-enum-told
+enum-told c = search needs
+
+unread-requires : tie.Need-unread-requires
+unread-requires c κs = search needs
+
+returns : tie.Need-returns
+unfolding playRecordOf
+returns c = c .play .ensures ∙ sym (ap (playMove (c .before .before .before .before .before .before .args .g)) (sym (c .before .before .before .before .read-record .ensures) ∙ c .before .before .m .given .1))
+
+returns-2 : tie.Need-returns-2
+unfolding playRecordOf
+returns-2 c = c .unread .ensures ∙ sym (ap (playMove (c .before .before .before .before .before .args .g)) (sym (c .before .before .before .read-record .ensures) ∙ c .before .enum-told .given .1))
+
+pub play-record-spec : {M : Type 1} → statement M
+play-record-spec =
+    tie.close
+    (tie.spec
+    read-record-requires
+    enum-known-m
+    play-requires
+    enum-told
+    unread-requires
+    returns
+    returns-2)

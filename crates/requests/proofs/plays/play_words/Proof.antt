@@ -1,0 +1,92 @@
+-- Word by word: what is told of the words that are left ends what is told of all.
+use mathlib.Core.Path.{_≡_, refl, ap, sym, _∙_, subst}
+use Prim.Native.Nat.{ℕ, _≤_, _<_, _-_, _+_}
+use mathlib.Core.List.{List, _++_}
+use lib.ListN.{length, take, drop}
+use denote.Ref.{now}
+use Rattle.wording.proofs.Pieces as pieces
+use Rattle.requests.proofs.PlayLaws as laws
+use Rattle.texts.proofs.Cuts as cuts
+use Rattle.requests.specs.Plays.{gameText, wordsOf}
+use Rattle.wording.specs.Output.{Adds}
+use borrow.Author.Needs.{needs}
+use native.Mathlib.Omega.{arith}
+use Rattle.requests.proofs.plays.play_words.Statement.{statement}
+use Rattle.requests.proofs.plays.play_words.Tie as tie
+
+abbrev Inv-loop : tie.InvT-loop
+Inv-loop given s out₀ at g₀ k₀ i₀ out g k i = (i ≤ length s) × (length out ≡ length out₀) × ((new : List ℕ) (end : ℕ) → Adds (gameText given g (wordsOf (drop i s))) out k new end → Adds (gameText given g₀ (wordsOf s)) out₀ at new end)
+
+abbrev μ-loop : tie.MeasureT-loop
+μ-loop given s out₀ at g₀ k₀ i₀ out g k i = length s - i
+
+loop-holds : tie.Need-loop-holds Inv-loop μ-loop
+loop-holds c = (search needs, refl, λ new end a. a)
+
+sub-left : tie.Need-sub-left Inv-loop μ-loop
+sub-left c = search needs
+
+part-left-start : tie.Need-part-left-start Inv-loop μ-loop
+part-left-start c = search needs
+
+part-left-end : tie.Need-part-left-end Inv-loop μ-loop
+part-left-end c = search needs
+
+first-requires : tie.Need-first-requires Inv-loop μ-loop
+first-requires c κs = search needs
+
+play-word-requires : tie.Need-play-word-requires Inv-loop μ-loop
+play-word-requires c κs = search needs
+
+tell-word-requires : tie.Need-tell-word-requires Inv-loop μ-loop
+tell-word-requires c κs = search needs
+
+rest-requires : tie.Need-rest-requires Inv-loop μ-loop
+rest-requires c κs = search needs
+
+sub-i : tie.Need-sub-i Inv-loop μ-loop
+sub-i c = let s = now (c .before .before .before .before .before .before .before .before .before .before .before .before .before .args .s) in let l = c .before .before .before .before .before .before .before .before .before .before .loop in omega (arith, laws.rest-less s (l .i) _ _ (cuts.rest s (l .i)) (c .rest .ensures) (omega arith))
+
+loop-less : tie.Need-loop-less Inv-loop μ-loop
+loop-less c = let s = now (c .before .before .before .before .before .before .before .before .before .before .before .before .before .args .s) in let l = c .before .before .before .before .before .before .before .before .before .before .loop in omega (arith, laws.rest-less s (l .i) _ _ (cuts.rest s (l .i)) (c .rest .ensures) (omega arith))
+
+loop-again : tie.Need-loop-again Inv-loop μ-loop
+loop-again c =
+    let s = now (c .before .before .before .before .before .before .before .before .before .before .before .before .before .args .s) in
+    let l = c .before .before .before .before .before .before .before .before .before .before .loop in (
+      omega arith,
+      search needs,
+      λ new end a. l .inv .2 new end
+          (pieces.adds-as (laws.game-next s (l .i) _ _ _ (cuts.rest s (l .i)) (c .before .before .before .before .before .before .before .first .ensures) (c .rest .ensures) (omega arith) (c .before .before .before .before .before .before .before .before .before .before .before .before .before .args .given) (l .g) _ (c .before .before .before .before .before .before .play-word .ensures))
+          (pieces.adds-then (c .before .before .before .before .tell-word .ensures) a)),
+    )
+
+put-end-requires : tie.Need-put-end-requires Inv-loop μ-loop
+put-end-requires c κs = search needs
+
+same-length : tie.Need-same-length Inv-loop μ-loop
+same-length c = search needs
+
+returns : tie.Need-returns Inv-loop μ-loop
+returns c = let s = now (c .before .before .before .before .before .before .before .before .args .s) in let l = c .before .before .before .before .before .loop in l .inv .2 _ _ (pieces.adds-as (laws.game-end s (l .i) (c .before .before .before .before .before .before .before .before .args .given) (l .g) (omega arith)) (c .before .before .put-end .ensures))
+
+pub play-words-spec : {M : Type 1} → statement M
+play-words-spec =
+    tie.close
+    (tie.spec
+    Inv-loop
+    μ-loop
+    loop-holds
+    sub-left
+    part-left-start
+    part-left-end
+    first-requires
+    play-word-requires
+    tell-word-requires
+    rest-requires
+    sub-i
+    loop-less
+    loop-again
+    put-end-requires
+    same-length
+    returns)

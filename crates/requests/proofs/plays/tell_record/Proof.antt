@@ -1,0 +1,43 @@
+-- Piece by piece.
+use mathlib.Core.Path.{_≡_, refl, ap, sym, _∙_, subst}
+use Prim.Native.Nat.{ℕ, _≤_, _<_, _-_, _+_}
+use mathlib.Core.List.{List, _++_}
+use lib.ListN.{length, take, drop}
+use denote.Ref.{now}
+use Rattle.wording.proofs.Pieces as pieces
+use Rattle.requests.specs.Plays.{recordTold}
+use Rattle.wording.specs.Output.{decimal}
+use borrow.Author.Needs.{needs}
+use native.Mathlib.Omega.{arith}
+use Rattle.requests.proofs.plays.tell_record.Statement.{statement}
+use Rattle.requests.proofs.plays.tell_record.Tie as tie
+
+put-byte-requires : tie.Need-put-byte-requires
+put-byte-requires c κs = search needs
+
+number-requires : tie.Need-number-requires
+number-requires c κs = search needs
+
+cast-put-decimal : tie.Need-cast-put-decimal
+cast-put-decimal c = search needs
+
+put-decimal-requires : tie.Need-put-decimal-requires
+put-decimal-requires c κs = search needs
+
+same-length : tie.Need-same-length
+same-length c = search needs
+
+returns : tie.Need-returns
+unfolding recordTold
+returns c = pieces.adds-then (c .before .before .before .before .before .before .before .put-byte .ensures) (pieces.adds-as (ap decimal (c .before .before .before .number .ensures)) (c .before .before .put-decimal .ensures))
+
+pub tell-record-spec : {M : Type 1} → statement M
+tell-record-spec =
+    tie.close
+    (tie.spec
+    put-byte-requires
+    number-requires
+    cast-put-decimal
+    put-decimal-requires
+    same-length
+    returns)

@@ -1,0 +1,34 @@
+-- By the case.
+use mathlib.Core.Path.{_≡_, refl, ap, sym, _∙_, subst}
+use Prim.Native.Nat.{ℕ, _≤_, _<_, _-_, _+_}
+use mathlib.Core.List.{List, _++_}
+use lib.ListN.{length, take, drop}
+use denote.Ref.{now}
+use Rattle.wording.proofs.Pieces as pieces
+use Rattle.requests.specs.States.{standWord}
+use borrow.Author.Needs.{needs}
+use native.Mathlib.Omega.{arith}
+use Rattle.requests.proofs.states.put_stand.Statement.{statement}
+use Rattle.requests.proofs.states.put_stand.Tie as tie
+
+enum-known-p : tie.Need-enum-known-p
+enum-known-p c = search needs
+
+put-fen-requires : tie.Need-put-fen-requires
+put-fen-requires c κs = search needs
+
+enum-told : tie.Need-enum-told
+enum-told c = search needs
+
+same-length : tie.Need-same-length
+same-length c = search needs
+
+returns : tie.Need-returns
+returns c = pieces.adds-as (sym (ap standWord (c .before .before .before .before .before .p .given .1))) (c .before .before .put-fen .ensures)
+
+returns-2 : tie.Need-returns-2
+returns-2 c = pieces.adds-as (sym (ap standWord (c .enum-told .given .1))) (pieces.adds-none _ _)
+
+pub put-stand-spec : {M : Type 1} → statement M
+put-stand-spec =
+    tie.close (tie.spec enum-known-p put-fen-requires enum-told same-length returns returns-2)

@@ -1,0 +1,124 @@
+// What is told of a game: the outcome, both counts, how often the position has stood; at the end also the position and how many
+// moves there are.
+use crate::answers;
+use captures::moves::MAX_MOVES;
+use games::game::Game;
+use games::game::Judged;
+use games::game::Outcome;
+use games::game::Termination;
+use games::game::Winner;
+use movegen::movegen::Listed;
+use movegen::perft::Counted;
+use positions::position::Placed;
+use squares::piece::Color;
+use squares::refusal::Answer;
+use squares::refusal::Refusal;
+use wording::output;
+ghost use Rattle.wording.specs.Output.{Adds};
+ghost use Rattle.requests.specs.States.{winnerWord, outcomeWord, judgedWord, countWord, pliesText, stateText, standWord, numberWord, movesWord, endText};
+
+fn put_winner(out: &mut [u8], at: usize, w: Winner) -> usize
+    ensures { λ r. ⌜ Adds (winnerWord w) (now (out .entry)) at (now (out .exit)) r ⌝ }
+{
+    match w {
+        Winner::Side(color) => match color {
+            Color::White => output::put(out, at, b"white"),
+            Color::Black => output::put(out, at, b"black"),
+        },
+        Winner::Nobody => at,
+    }
+}
+
+fn put_outcome(out: &mut [u8], at: usize, o: Outcome) -> usize
+    ensures { λ r. ⌜ Adds (outcomeWord o) (now (out .entry)) at (now (out .exit)) r ⌝ }
+{
+    let winner = o.winner;
+    let termination = o.termination;
+    match termination {
+        Termination::NoMoves => put_winner(out, at, winner),
+        Termination::Repetition => output::put(out, at, b"draw3"),
+        Termination::TwentyFiveMoves => output::put(out, at, b"draw50"),
+        Termination::SixteenMoves => output::put(out, at, b"draw32"),
+        Termination::FiveMoves => output::put(out, at, b"draw10"),
+    }
+}
+
+pub(crate) fn put_judged(out: &mut [u8], at: usize, j: Judged) -> usize
+    ensures { λ r. ⌜ Adds (judgedWord j) (now (out .entry)) at (now (out .exit)) r ⌝ }
+{
+    match j {
+        Judged::Outcome(o) => put_outcome(out, at, o),
+        Judged::Going => output::put(out, at, b"none"),
+        Judged::Refused(_) => at,
+    }
+}
+
+fn put_count(out: &mut [u8], at: usize, c: Counted) -> usize
+    ensures { λ r. ⌜ Adds (countWord c) (now (out .entry)) at (now (out .exit)) r ⌝ }
+{
+    match c {
+        Counted::Count(n) => output::put_decimal(out, at, n),
+        Counted::Refused(_) => at,
+    }
+}
+
+// Both counts, a mark before each.
+fn put_plies(out: &mut [u8], at: usize, g: Game, mark: u8) -> usize
+    ensures { λ r. ⌜ Adds (pliesText mark g) (now (out .entry)) at (now (out .exit)) r ⌝ }
+{
+    let a = output::put_byte(out, at, mark);
+    let b = put_count(out, a, g.reversible_plies());
+    let c = output::put_byte(out, b, mark);
+    output::put_decimal(out, c, g.material as u64)
+}
+
+// The outcome, both counts and how often the position has stood, a mark before each.
+pub(crate) fn put_state(out: &mut [u8], at: usize, g: Game, mark: u8) -> usize
+    ensures { λ r. ⌜ Adds (stateText mark g) (now (out .entry)) at (now (out .exit)) r ⌝ }
+{
+    let a = output::put_byte(out, at, mark);
+    let b = put_judged(out, a, g.outcome());
+    let c = put_plies(out, b, g, mark);
+    let d = output::put_byte(out, c, mark);
+    put_count(out, d, g.repetitions())
+}
+
+fn put_stand(out: &mut [u8], at: usize, p: Placed) -> usize
+    ensures { λ r. ⌜ Adds (standWord p) (now (out .entry)) at (now (out .exit)) r ⌝ }
+{
+    match p {
+        Placed::Position(q) => answers::put_fen(out, at, q),
+        Placed::Refused(_) => at,
+    }
+}
+
+// A refusal inside a game: `!` and its number.
+pub(crate) fn put_number(out: &mut [u8], at: usize, e: Refusal) -> usize
+    ensures { λ r. ⌜ Adds (numberWord e) (now (out .entry)) at (now (out .exit)) r ⌝ }
+{
+    let k = output::put_byte(out, at, b'!');
+    output::put_decimal(out, k, e.number() as u64)
+}
+
+// How many moves there are, or the refusal: more than 256 are not counted.
+fn put_listed(out: &mut [u8], at: usize, l: Listed) -> usize
+    ensures { λ r. ⌜ Adds (movesWord l) (now (out .entry)) at (now (out .exit)) r ⌝ }
+{
+    let answer = l.answer;
+    let list = l.list;
+    match answer {
+        Answer::Done => output::put_decimal(out, at, list.len as u64),
+        Answer::Refused(e) => put_number(out, at, e),
+    }
+}
+
+// What is told of the game after the last play.
+pub(crate) fn put_end(out: &mut [u8], at: usize, g: Game) -> usize
+    ensures { λ r. ⌜ Adds (endText g) (now (out .entry)) at (now (out .exit)) r ⌝ }
+{
+    let a = output::put(out, at, b" | ");
+    let b = put_stand(out, a, g.position());
+    let c = put_state(out, b, g, b' ');
+    let d = output::put_byte(out, c, b' ');
+    put_listed(out, d, g.legal_moves(MAX_MOVES))
+}
