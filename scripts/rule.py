@@ -177,6 +177,8 @@ def panicked(oracle, line):
     fen, _, rest = arg.partition(b" ")
     if name == b"play":
         return gamerule.played(oracle, line)
+    if name == b"outcome":
+        return b"ok " + gamerule.begun(oracle, line)[0].outcome
     if name == b"moves":
         told, moves = oracle.listed(arg)
         return told if len(moves) <= 256 else b"err 17 0"
