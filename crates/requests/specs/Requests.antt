@@ -27,7 +27,6 @@ use Rattle.wording.specs.Words.{sameText, firstWord, afterWord, wordAt, blanksI
 use Rattle.wording.specs.Numbers.{unsignedOf, setOf, signedOf}
 use Rattle.requests.specs.Heard.{positionOf, listedMoveOf, squareOf}
 use Rattle.requests.specs.Answers.{ok, scoredAnswer, countedAnswer, placedAnswer, listAnswer, dividedAnswer, moveAnswer, afterAnswer, answerTo}
-use Rattle.requests.specs.declared.answers.Asked.{Asked}
 use Rattle.requests.specs.declared.answers.Asked.the-variants as asked
 use Rattle.requests.specs.declared.asked.Weights.{Weights}
 use Rattle.requests.specs.declared.asked.Weights.the-variants as weights

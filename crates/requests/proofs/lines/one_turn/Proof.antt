@@ -1,9 +1,7 @@
 -- What was read is within the buffer, and so is what is kept.
-use mathlib.Core.Path.{_≡_, refl, ap, sym, _∙_}
-use Prim.Native.Nat.{ℕ, _≤_, _<_, _-_, _+_}
-use lib.ListN.{length, take, drop, length-take}
+use mathlib.Core.Path.{sym}
+use lib.ListN.{length-take}
 use lib.Seq.{length-take-le}
-use denote.Ref.{now}
 use borrow.Author.Needs.{needs}
 use native.Mathlib.Omega.{arith}
 use Rattle.requests.proofs.lines.one_turn.Statement.{statement}

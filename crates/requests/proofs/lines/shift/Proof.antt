@@ -1,10 +1,8 @@
 -- Each byte moves to a lower place.
-use mathlib.Core.Path.{_≡_, refl, ap, sym, _∙_}
-use Prim.Native.Nat.{ℕ, _≤_, _<_, _-_, _+_}
-use lib.ListN.{length, drop, getD}
-use denote.Ref.{now}
+use mathlib.Core.Path.{_≡_}
+use Prim.Native.Nat.{_≤_, _-_}
+use lib.ListN.{length}
 use borrow.Author.Needs.{needs}
-use native.Mathlib.Omega.{arith}
 use Rattle.requests.proofs.lines.shift.Statement.{statement}
 use Rattle.requests.proofs.lines.shift.Tie as tie
 
