@@ -1,3 +1,4 @@
 pub mod Told
 pub mod Listing
 pub mod Whole
+pub mod Rows

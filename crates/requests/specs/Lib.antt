@@ -1,3 +1,4 @@
 pub mod Heard
 pub mod Answers
 pub mod Requests
+pub mod Computed
