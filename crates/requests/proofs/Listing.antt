@@ -1,7 +1,7 @@
 -- One move more of a list.
-use Prim.Native.Nat.{ℕ, suc, _+_}
-use mathlib.Core.Path.{_≡_, ap, sym}
-use mathlib.Core.List.{List, [], _∷_, _++_}
+use Prim.Native.Nat.{ℕ, _+_}
+use mathlib.Core.Path.{ap, sym}
+use mathlib.Core.List.{List, [], _∷_}
 use native.Mathlib.Numerals.{add-one}
 use lib.ListN.{getD}
 use Rattle.positions.specs.declared.moves.Move.{Move}

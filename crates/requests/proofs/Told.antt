@@ -1,7 +1,7 @@
 -- What was written into lent space is told; texts that are too long are refused whether they are cut or not.
-use Prim.Native.Nat.{ℕ, zero, suc, _+_, _-_, _≤_, _<_, min}
+use Prim.Native.Nat.{ℕ, _≤_, _<_, min}
 use mathlib.Core.Path.{_≡_, refl, ap, sym, _∙_, subst}
-use mathlib.Core.List.{List, [], _∷_, _++_}
+use mathlib.Core.List.{List, []}
 use mathlib.Core.Bool.{Bool, true, false, cond, _&&_}
 use native.Mathlib.Omega.{arith}
 use lib.ListN.{length, take, drop, length-take}
@@ -20,18 +20,18 @@ use Rattle.positions.specs.declared.position.Position.{Position}
 use Rattle.positions.specs.declared.position.Placed.{Placed}
 use Rattle.positions.specs.declared.position.Placed.the-variants as placed
 use Rattle.positions.proofs.Accepts.{sound-says}
-use Rattle.texts.specs.Bytes.{ascii, readable, readSquare, fromStrOf, is, indexOf}
+use Rattle.texts.specs.Bytes.{readable, fromStrOf, is, indexOf}
 use Rattle.texts.specs.Parts.{placing}
 use Rattle.texts.specs.Lent.{emitOf, emitted}
-use Rattle.texts.specs.Fen.{fenText, fenOf, fenLent, fenParts, fromFenOf}
-use Rattle.texts.specs.Hub.{hubText, hubOf, hubLent, hubParts, fromHubOf}
+use Rattle.texts.specs.Fen.{fenText, fenOf, fenLent, fromFenOf}
+use Rattle.texts.specs.Hub.{hubText, hubOf, hubLent, fromHubOf}
 use Rattle.texts.specs.declared.bytes.Wrote.{Wrote}
 use Rattle.texts.specs.declared.bytes.Wrote.the-variants as wrote
 use Rattle.texts.proofs.FenLength.{fen-short}
 use Rattle.texts.proofs.HubTrip.{hub-length}
 use Rattle.notation.specs.MoveText.{moveText, toHubOf, toHubLent}
-use Rattle.notation.specs.Notation.{readMoveOf, heardTrimmed}
-use Rattle.notation.specs.Choice.{fitHeard, parseMoveOf}
+use Rattle.notation.specs.Notation.{readMoveOf}
+use Rattle.notation.specs.Choice.{parseMoveOf}
 use Rattle.notation.specs.declared.notation.Found.{Found}
 use Rattle.notation.specs.declared.notation.Found.the-variants as found
 use Rattle.notation.proofs.MoveTexts.{move-short}

@@ -29,7 +29,6 @@ use Rattle.requests.specs.Heard.{positionOf, listedMoveOf, squareOf}
 use Rattle.requests.specs.Answers.{ok, scoredAnswer, countedAnswer, placedAnswer, listAnswer, dividedAnswer, moveAnswer, afterAnswer, answerTo}
 use Rattle.requests.specs.Plays.{playsAnswer, freshAnswer}
 use Rattle.requests.specs.declared.plays.Given.the-variants as given
-use Rattle.requests.specs.declared.answers.Asked.{Asked}
 use Rattle.requests.specs.declared.answers.Asked.the-variants as asked
 use Rattle.requests.specs.declared.asked.Weights.{Weights}
 use Rattle.requests.specs.declared.asked.Weights.the-variants as weights

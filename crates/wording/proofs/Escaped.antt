@@ -14,7 +14,6 @@ use Rattle.wording.specs.Numbers.{digitOf}
 use Rattle.wording.specs.Escapes.{Plain, text, broken, highOf, hexEscape, escapeOf, UsedIn, before, onEscape, undo, plain, undoneOf, Undid}
 use Rattle.wording.specs.declared.escapes.Escape.{Escape}
 use Rattle.wording.specs.declared.escapes.Escape.the-variants as escape
-use Rattle.wording.specs.declared.escapes.Undone.{Undone}
 use Rattle.wording.specs.declared.escapes.Undone.the-variants as undone
 
 -- ---- \xHH

@@ -1,10 +1,10 @@
 -- The digits that are written are as few as there can be, and so are those of the definitions.
-use Prim.Native.Nat.{ℕ, zero, suc, _+_, _-_, _*_, _/_, _^_, _≤_, _<_}
-use mathlib.Core.Path.{_≡_, refl, ap, sym, _∙_}
+use Prim.Native.Nat.{ℕ, zero, suc, _-_, _*_, _/_, _^_, _≤_, _<_}
+use mathlib.Core.Path.{_≡_, refl, ap, _∙_}
 use mathlib.Core.List.{List}
 use mathlib.Core.Bool.{Bool, true, false}
 use native.Mathlib.Omega.{arith}
-use native.Mathlib.Nat.{pow-suc, pow-zero, pow-le-pow-right, div-lt-iff-lt-mul, le-div-iff-mul-le, le-trans}
+use native.Mathlib.Nat.{pow-suc, pow-zero, pow-le-pow-right, div-lt-iff-lt-mul, le-div-iff-mul-le}
 use lib.Dec.{ltb}
 use borrow.Author.Tests.{ltb-true, ltb-false}
 use Rattle.io.specs.Digits.{digits, Fewest}

@@ -1,11 +1,11 @@
 -- Pieces of an answer: one byte more, one piece behind another, whatever room there is.
-use Prim.Native.Nat.{ℕ, suc, _+_, _-_, _≤_, _<_, min}
-use mathlib.Core.Path.{_≡_, refl, ap, sym, _∙_, subst}
+use Prim.Native.Nat.{ℕ, suc, _+_, _≤_, _<_}
+use mathlib.Core.Path.{_≡_, ap, sym, _∙_, subst}
 use mathlib.Core.List.{List, [], _∷_, _++_, append-assoc, append-nil}
 use native.Mathlib.Omega.{arith}
 use native.Mathlib.Numerals.{add-one}
 use lib.ListN.{length, take, drop, getD, set, length-append, length-take, length-drop, drop-of-length-le}
-use lib.Seq.{take-all, drop-cons, set-append-seam, append-snoc, take-append-le, take-suc, take-length}
+use lib.Seq.{take-all, drop-cons, set-append-seam, append-snoc, take-append-le, take-suc}
 use Rattle.wording.specs.Output.{written, Holds, Adds}
 
 pub written-length : (t o : List ℕ) → length (written t o) ≡ length o

@@ -1,10 +1,10 @@
 -- Numbers as Rust reads them: an optional sign, one digit or more, leading zeros allowed, at most the type's limit.
-use Prim.Native.Nat.{ℕ, zero, suc, _+_, _-_, _*_, _≤_}
+use Prim.Native.Nat.{ℕ, _+_, _-_, _*_, _≤_}
 use Prim.Native.Char.{code}
 use mathlib.Core.List.{List, [], _∷_}
-use mathlib.Core.Bool.{Bool, true, false, cond, _&&_}
+use mathlib.Core.Bool.{true, false, cond, _&&_}
 use lib.Dec.{eqb, leb, ltb}
-use lib.IntN.{ℤ, pos, negℤ}
+use lib.IntN.{pos, negℤ}
 use Rattle.texts.specs.Bytes.{strip}
 use Rattle.wording.specs.declared.numbers.Parsed.{Parsed}
 use Rattle.wording.specs.declared.numbers.Parsed.the-variants as parsed

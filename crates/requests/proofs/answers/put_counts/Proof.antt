@@ -1,11 +1,10 @@
 -- Move by move, each with its count.
-use mathlib.Core.Path.{_≡_, refl, ap, sym, _∙_}
-use Prim.Native.Nat.{ℕ, _≤_, _<_, _-_, _+_, min}
-use lib.ListN.{length, take, drop, getD}
-use denote.Ref.{now}
+use mathlib.Core.Path.{_≡_, refl, ap}
+use Prim.Native.Nat.{_≤_, _-_}
+use lib.ListN.{length}
 use Rattle.wording.proofs.Pieces as laws
 use Rattle.requests.proofs.Listing as listing
-use Rattle.requests.specs.Answers.{movesText, countsText}
+use Rattle.requests.specs.Answers.{countsText}
 use Rattle.wording.specs.Output.{Adds}
 use borrow.Author.Needs.{needs}
 use native.Mathlib.Omega.{arith}

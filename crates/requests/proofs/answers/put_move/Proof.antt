@@ -1,13 +1,9 @@
 -- The text in lent space that is long enough for every one.
-use mathlib.Core.Path.{_≡_, refl, ap, sym, _∙_}
-use Prim.Native.Nat.{ℕ, _≤_, _<_, _-_, _+_, min}
-use lib.ListN.{length, take, drop, getD}
-use denote.Ref.{now}
+use mathlib.Core.Path.{refl, sym}
 use Rattle.requests.proofs.Told as told
 use Rattle.wording.proofs.Pieces as laws
 use lib.Seq.{length-take-le}
 use borrow.Author.Needs.{needs}
-use native.Mathlib.Omega.{arith}
 use Rattle.requests.proofs.answers.put_move.Statement.{statement}
 use Rattle.requests.proofs.answers.put_move.Tie as tie
 

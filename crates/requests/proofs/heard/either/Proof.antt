@@ -1,12 +1,9 @@
 -- 51 bytes, no colon.
-use mathlib.Core.Path.{_≡_, refl, ap, sym, _∙_}
-use Prim.Native.Nat.{ℕ, _≤_, _<_, _-_, _+_, min}
-use lib.ListN.{length, take, drop, getD}
+use lib.ListN.{length}
 use denote.Ref.{now}
 use borrow.Author.Tests.{eq-eqb, ne-eqb}
 use Rattle.requests.specs.Heard.{eitherOf}
 use borrow.Author.Needs.{needs}
-use native.Mathlib.Omega.{arith}
 use Rattle.requests.proofs.heard.either.Statement.{statement}
 use Rattle.requests.proofs.heard.either.Tie as tie
 

@@ -1,6 +1,5 @@
 -- Nothing is changed.
 use borrow.Author.Needs.{needs}
-use native.Mathlib.Omega.{arith}
 use Rattle.requests.proofs.heard.mean.Statement.{statement}
 use Rattle.requests.proofs.heard.mean.Tie as tie
 

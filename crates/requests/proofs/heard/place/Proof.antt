@@ -1,6 +1,5 @@
 -- Nothing is changed.
 use borrow.Author.Needs.{needs}
-use native.Mathlib.Omega.{arith}
 use Rattle.requests.proofs.heard.place.Statement.{statement}
 use Rattle.requests.proofs.heard.place.Tie as tie
 

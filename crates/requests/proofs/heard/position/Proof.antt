@@ -1,12 +1,8 @@
 -- The escapes undone, then what is read of at most 4,097 bytes.
-use mathlib.Core.Path.{_≡_, refl, ap, sym, _∙_}
-use Prim.Native.Nat.{ℕ, _≤_, _<_, _-_, _+_, min}
-use lib.ListN.{length, take, drop, getD}
-use denote.Ref.{now}
+use mathlib.Core.Path.{refl, sym}
 use Rattle.requests.proofs.Told as told
 use lib.Seq.{length-take-le}
 use borrow.Author.Needs.{needs}
-use native.Mathlib.Omega.{arith}
 use Rattle.requests.proofs.heard.position.Statement.{statement}
 use Rattle.requests.proofs.heard.position.Tie as tie
 

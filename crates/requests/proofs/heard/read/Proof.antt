@@ -1,7 +1,5 @@
 -- By the form.
-use mathlib.Core.Path.{_≡_, refl, ap, sym, _∙_}
 use borrow.Author.Needs.{needs}
-use native.Mathlib.Omega.{arith}
 use Rattle.requests.proofs.heard.read.Statement.{statement}
 use Rattle.requests.proofs.heard.read.Tie as tie
 

@@ -1,11 +1,8 @@
 -- The turns are counted down; nothing else ends the loop before the input does.
-use mathlib.Core.Path.{_≡_, refl, ap, sym, _∙_}
-use Prim.Native.Nat.{ℕ, _≤_, _<_, _-_, _+_}
-use lib.ListN.{length, take, drop, length-take}
-use lib.Seq.{length-take-le}
-use denote.Ref.{now}
+use mathlib.Core.Path.{_≡_}
+use Prim.Native.Nat.{_≤_}
+use lib.ListN.{length}
 use borrow.Author.Needs.{needs}
-use native.Mathlib.Omega.{arith}
 use Rattle.requests.proofs.lines.feed.Statement.{statement}
 use Rattle.requests.proofs.lines.feed.Tie as tie
 

@@ -1,5 +1,5 @@
 -- What is written goes out before the place is taken again.
-use mathlib.Core.Path.{_≡_, refl, ap, sym, _∙_}
+use mathlib.Core.Path.{sym}
 use lib.Seq.{length-take-le}
 use borrow.Author.Needs.{needs}
 use native.Mathlib.Omega.{arith}

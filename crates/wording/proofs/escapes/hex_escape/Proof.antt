@@ -1,7 +1,5 @@
 -- Two digits, or none.
-use mathlib.Core.Path.{_≡_, refl, ap, sym, _∙_}
-use Prim.Native.Nat.{ℕ, _≤_, _<_, _-_, _+_}
-use lib.ListN.{length, drop, getD}
+use mathlib.Core.Path.{sym, _∙_}
 use denote.Ref.{now}
 use Rattle.wording.proofs.Escaped as laws
 use borrow.Author.Needs.{needs}

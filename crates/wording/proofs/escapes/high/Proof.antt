@@ -1,9 +1,7 @@
 -- A sign counts as no digit.
-use mathlib.Core.Path.{_≡_, refl, ap, sym, _∙_}
 use borrow.Author.Tests.{eq-eqb, ne-eqb}
 use Rattle.wording.specs.Escapes.{highOf}
 use borrow.Author.Needs.{needs}
-use native.Mathlib.Omega.{arith}
 use Rattle.wording.proofs.escapes.high.Statement.{statement}
 use Rattle.wording.proofs.escapes.high.Tie as tie
 

@@ -1,14 +1,10 @@
 -- Each arm is one letter.
-use mathlib.Core.Path.{_≡_, refl, ap, sym, _∙_}
-use Prim.Native.Nat.{ℕ, _≤_, _<_, _-_, _+_}
-use lib.ListN.{length, take, drop, getD}
+use mathlib.Core.Path.{ap, sym, _∙_}
 use denote.Ref.{now}
 use Rattle.wording.proofs.Escaped as laws
-use borrow.Author.Tests.{ne-eqb}
 use Rattle.wording.specs.Escapes.{escapeOf, hexEscape}
 use Rattle.texts.proofs.Cuts.{rest}
 use borrow.Author.Needs.{needs}
-use native.Mathlib.Omega.{arith}
 use Rattle.wording.proofs.escapes.read_escape.Statement.{statement}
 use Rattle.wording.proofs.escapes.read_escape.Tie as tie
 

@@ -1,7 +1,7 @@
 -- What the bytes before the place stand for was written.
 use mathlib.Core.Path.{_≡_, refl, ap, sym, _∙_}
-use Prim.Native.Nat.{ℕ, _≤_, _<_, _-_, _+_}
-use lib.ListN.{length, take, drop, getD}
+use Prim.Native.Nat.{_≤_, _-_, _+_}
+use lib.ListN.{length}
 use denote.Ref.{now}
 use Rattle.wording.proofs.Escaped as laws
 use Rattle.wording.specs.Escapes.{escapeOf}

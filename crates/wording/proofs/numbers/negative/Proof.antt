@@ -1,11 +1,9 @@
 -- The sign is changed; the smallest number stands by itself.
 use Rattle.wording.proofs.Values as laws
-use mathlib.Core.Path.{_≡_, refl, ap, sym, _∙_}
+use mathlib.Core.Path.{ap, sym, _∙_}
 use Rattle.wording.proofs.Signs as signs
-use borrow.Author.Tests.{le-leb, lt-leb}
 use Rattle.wording.specs.declared.numbers.Signed.the-variants as signed
 use borrow.Author.Needs.{needs}
-use native.Mathlib.Omega.{arith}
 use Rattle.wording.proofs.numbers.negative.Statement.{statement}
 use Rattle.wording.proofs.numbers.negative.Tie as tie
 

@@ -1,7 +1,7 @@
 -- Digit by digit; the limit is tested before the product and the sum are made.
-use mathlib.Core.Path.{_≡_, refl, ap, sym, _∙_}
-use Prim.Native.Nat.{ℕ, _≤_, _<_, _-_, _+_}
-use lib.ListN.{length, drop, getD}
+use mathlib.Core.Path.{_≡_, sym, _∙_}
+use Prim.Native.Nat.{_≤_, _-_}
+use lib.ListN.{length, drop}
 use denote.Ref.{now}
 use Rattle.wording.specs.Numbers.{numberIn, valueFrom}
 use Rattle.wording.proofs.Values as laws

@@ -1,10 +1,9 @@
 -- A number of 31 bits is itself.
-use mathlib.Core.Path.{_≡_, refl, ap, sym, _∙_}
+use mathlib.Core.Path.{ap}
 use Rattle.wording.proofs.Signs as signs
 use borrow.Author.Tests.{le-leb, lt-leb}
 use Rattle.wording.specs.declared.numbers.Signed.the-variants as signed
 use borrow.Author.Needs.{needs}
-use native.Mathlib.Omega.{arith}
 use Rattle.wording.proofs.numbers.positive.Statement.{statement}
 use Rattle.wording.proofs.numbers.positive.Tie as tie
 

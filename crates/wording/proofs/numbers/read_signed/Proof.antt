@@ -1,13 +1,10 @@
 -- The sign, the digits, the limits.
-use mathlib.Core.Path.{_≡_, refl, ap, sym, _∙_}
-use Prim.Native.Nat.{ℕ, _≤_, _<_, _-_, _+_}
-use lib.ListN.{length, take, drop, getD}
+use mathlib.Core.Path.{ap, sym, _∙_}
 use denote.Ref.{now}
-use Rattle.wording.specs.Numbers.{positiveOf, negativeOf, numberIn, signedOf}
+use Rattle.wording.specs.Numbers.{positiveOf, negativeOf, numberIn}
 use Rattle.wording.proofs.Values as laws
 use Rattle.texts.proofs.Cuts.{rest}
 use borrow.Author.Needs.{needs}
-use native.Mathlib.Omega.{arith}
 use Rattle.wording.proofs.numbers.read_signed.Statement.{statement}
 use Rattle.wording.proofs.numbers.read_signed.Tie as tie
 

@@ -1,12 +1,8 @@
 -- The sign, the digits.
-use mathlib.Core.Path.{_≡_, refl, ap, sym, _∙_}
-use Prim.Native.Nat.{ℕ, _≤_, _<_, _-_, _+_}
-use lib.ListN.{length, take, drop, getD}
-use denote.Ref.{now}
+use mathlib.Core.Path.{ap, _∙_}
 use Rattle.wording.specs.Numbers.{unsignedOf, numberIn}
 use Rattle.texts.specs.Bytes.{strip}
 use borrow.Author.Needs.{needs}
-use native.Mathlib.Omega.{arith}
 use Rattle.wording.proofs.numbers.unsigned.Statement.{statement}
 use Rattle.wording.proofs.numbers.unsigned.Tie as tie
 

@@ -1,7 +1,7 @@
 -- The bytes before the place are 0x, again and again.
-use mathlib.Core.Path.{_≡_, refl, ap, sym, _∙_}
-use Prim.Native.Nat.{ℕ, _≤_, _<_, _-_, _+_}
-use lib.ListN.{length, drop, getD}
+use mathlib.Core.Path.{_≡_, refl, sym, _∙_}
+use Prim.Native.Nat.{_≤_, _-_}
+use lib.ListN.{length, drop}
 use denote.Ref.{now}
 use Rattle.wording.specs.Numbers.{withoutPrefix}
 use Rattle.wording.proofs.Values as laws

@@ -1,7 +1,7 @@
 -- Byte by byte.
-use mathlib.Core.Path.{_≡_, refl, ap, sym, _∙_}
-use Prim.Native.Nat.{ℕ, _≤_, _<_, _-_, _+_}
-use lib.ListN.{length, drop, getD}
+use mathlib.Core.Path.{_≡_, refl}
+use Prim.Native.Nat.{_≤_, _-_}
+use lib.ListN.{length}
 use denote.Ref.{now}
 use lib.ListN.{take}
 use Rattle.wording.specs.Output.{Adds}

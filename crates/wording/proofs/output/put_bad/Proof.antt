@@ -1,7 +1,6 @@
 -- A fixed text.
 use Rattle.wording.specs.Output.{bad}
 use borrow.Author.Needs.{needs}
-use native.Mathlib.Omega.{arith}
 use Rattle.wording.proofs.output.put_bad.Statement.{statement}
 use Rattle.wording.proofs.output.put_bad.Tie as tie
 

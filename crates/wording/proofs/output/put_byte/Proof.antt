@@ -2,7 +2,6 @@
 use Rattle.wording.proofs.Pieces as laws
 use denote.Ref.{now}
 use borrow.Author.Needs.{needs}
-use native.Mathlib.Omega.{arith}
 use Rattle.wording.proofs.output.put_byte.Statement.{statement}
 use Rattle.wording.proofs.output.put_byte.Tie as tie
 

@@ -1,12 +1,7 @@
 -- The fewest digits are those of the definition.
-use mathlib.Core.Path.{_≡_, refl, ap, sym, _∙_}
-use Prim.Native.Nat.{ℕ, _≤_, _<_, _-_, _+_}
-use lib.ListN.{length, take, drop, getD}
-use denote.Ref.{now}
 use Rattle.wording.proofs.Pieces as laws
 use Rattle.wording.proofs.Numerals.{decimal-is}
 use borrow.Author.Needs.{needs}
-use native.Mathlib.Omega.{arith}
 use Rattle.wording.proofs.output.put_decimal.Statement.{statement}
 use Rattle.wording.proofs.output.put_decimal.Tie as tie
 

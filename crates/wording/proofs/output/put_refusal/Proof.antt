@@ -1,12 +1,8 @@
 -- Piece by piece.
-use mathlib.Core.Path.{_≡_, refl, ap, sym, _∙_}
-use Prim.Native.Nat.{ℕ, _≤_, _<_, _-_, _+_}
-use lib.ListN.{length, take, drop, getD}
-use denote.Ref.{now}
+use mathlib.Core.Path.{ap}
 use Rattle.wording.proofs.Pieces as laws
 use Rattle.wording.specs.Output.{refusal, decimal}
 use borrow.Author.Needs.{needs}
-use native.Mathlib.Omega.{arith}
 use Rattle.wording.proofs.output.put_refusal.Statement.{statement}
 use Rattle.wording.proofs.output.put_refusal.Tie as tie
 

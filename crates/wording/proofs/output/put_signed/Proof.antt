@@ -1,8 +1,4 @@
 -- A negative number has 1 added, its sign changed, and 1 added to its size.
-use mathlib.Core.Path.{_≡_, refl, ap, sym, _∙_}
-use Prim.Native.Nat.{ℕ, _≤_, _<_, _-_, _+_}
-use lib.ListN.{length, take, drop, getD}
-use denote.Ref.{now}
 use Rattle.wording.proofs.Pieces as laws
 use Rattle.wording.proofs.Signs as signs
 use borrow.Author.Needs.{needs}

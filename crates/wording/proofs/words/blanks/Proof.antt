@@ -1,7 +1,7 @@
 -- The spaces before the place are counted.
-use mathlib.Core.Path.{_≡_, refl, ap, sym, _∙_}
-use Prim.Native.Nat.{ℕ, _≤_, _<_, _-_, _+_}
-use lib.ListN.{length, drop, getD}
+use mathlib.Core.Path.{_≡_}
+use Prim.Native.Nat.{_≤_, _-_, _+_}
+use lib.ListN.{length, drop}
 use denote.Ref.{now}
 use mathlib.Core.Logic.{⊎-elim}
 use Rattle.wording.specs.Words.{blanksIn}

@@ -1,7 +1,6 @@
 -- What stands before the first space.
 use Rattle.wording.specs.Words.{firstWord}
 use borrow.Author.Needs.{needs}
-use native.Mathlib.Omega.{arith}
 use Rattle.wording.proofs.words.first.Statement.{statement}
 use Rattle.wording.proofs.words.first.Tie as tie
 

@@ -1,12 +1,10 @@
 -- Behind the first space, or nothing.
-use mathlib.Core.Path.{_≡_, refl, ap, sym, _∙_}
-use Prim.Native.Nat.{ℕ, _≤_, _<_, _-_, _+_}
-use lib.ListN.{length, drop, getD}
+use mathlib.Core.Path.{_∙_}
+use Prim.Native.Nat.{_+_}
 use denote.Ref.{now}
 use Rattle.wording.proofs.WordLaws as laws
 use Rattle.texts.proofs.Cuts.{rest}
 use borrow.Author.Needs.{needs}
-use native.Mathlib.Omega.{arith}
 use Rattle.wording.proofs.words.rest.Statement.{statement}
 use Rattle.wording.proofs.words.rest.Tie as tie
 

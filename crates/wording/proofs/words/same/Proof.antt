@@ -1,7 +1,7 @@
 -- No byte before the place differs.
-use mathlib.Core.Path.{_≡_, refl, ap, sym, _∙_}
-use Prim.Native.Nat.{ℕ, _≤_, _<_, _-_, _+_}
-use lib.ListN.{length, drop, getD}
+use mathlib.Core.Path.{_≡_, refl, sym, _∙_}
+use Prim.Native.Nat.{_≤_, _-_}
+use lib.ListN.{length, drop}
 use denote.Ref.{now}
 use Rattle.wording.specs.Words.{sameText}
 use Rattle.wording.proofs.WordLaws as laws

@@ -1,7 +1,7 @@
 -- Word by word; where no space is left the words that are left are empty.
 use mathlib.Core.Path.{_≡_, refl, ap, sym, _∙_}
-use Prim.Native.Nat.{ℕ, _≤_, _<_, _-_, _+_}
-use lib.ListN.{length, take, drop, getD}
+use Prim.Native.Nat.{_≤_}
+use lib.ListN.{length, drop}
 use denote.Ref.{now}
 use lib.ListN.{length-drop}
 use Rattle.wording.specs.Words.{wordAt, firstWord}
