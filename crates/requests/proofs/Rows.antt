@@ -32,7 +32,7 @@ words =
     ∷ row "atmost 257 W" "err 10 0"
     ∷ row "evalw W 1 2 3 4 -10001" "err 10 0"
     ∷ row "evalw X 1 2 3 4 x" "bad request"
-    ∷ row "play W" "bad request"
+    ∷ row "keys" "bad request"
     ∷ row "" "bad request"
     ∷ []
 
