@@ -2,3 +2,5 @@ pub mod Told
 pub mod Listing
 pub mod Whole
 pub mod PlayLaws
+pub mod LineLaws
+pub mod Rows

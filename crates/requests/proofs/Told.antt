@@ -1,5 +1,5 @@
 -- What was written into lent space is told; texts that are too long are refused whether they are cut or not.
-use Prim.Native.Nat.{ℕ, _-_, _≤_, _<_, min}
+use Prim.Native.Nat.{ℕ, _≤_, _<_, min}
 use mathlib.Core.Path.{_≡_, refl, ap, sym, _∙_, subst}
 use mathlib.Core.List.{List, []}
 use mathlib.Core.Bool.{Bool, true, false, cond, _&&_}

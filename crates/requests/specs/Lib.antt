@@ -3,3 +3,5 @@ pub mod Answers
 pub mod States
 pub mod Plays
 pub mod Requests
+pub mod Lines
+pub mod Computed

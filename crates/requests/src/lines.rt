@@ -2,11 +2,13 @@
 use crate::requests;
 use libc::STDOUT_FILENO;
 use texts::bytes;
-ghost use Prim.Native.Nat.{_≤_, _<_};
-ghost use lib.ListN.{length};
+ghost use mathlib.Core.Path.{_≡_};
+ghost use Prim.Native.Nat.{_≤_, _-_};
+ghost use lib.ListN.{length, take, drop};
+ghost use Rattle.requests.specs.Lines.{wholeOf};
 
 // How many bytes of an unfinished line stand at the start of the input buffer, and whether there may be more input.
-pub struct Turn {
+pub(crate) struct Turn {
     have: usize,
     on: bool,
 }
@@ -42,7 +44,7 @@ fn room(out: &[u8], at: usize) -> usize
 
 // Answers each whole line, and says how many bytes they take.
 fn whole_lines(s: &[u8], out: &mut [u8]) -> usize
-    ensures { λ r. ⌜ r ≤ length (now (s .entry)) ⌝ }
+    ensures { λ r. ⌜ (r ≤ length (now (s .entry))) × (r ≡ wholeOf (now (s .entry))) ⌝ }
 {
     let mut at = 0;
     let mut put = 0;
@@ -64,6 +66,7 @@ fn whole_lines(s: &[u8], out: &mut [u8]) -> usize
 // Moves the bytes from used to full to the start.
 fn shift(buf: &mut [u8], used: usize, full: usize)
     requires { ⌜ (used ≤ full) × (full ≤ length (now buf)) ⌝ }
+    ensures { λ _. ⌜ take (full - used) (now (buf .exit)) ≡ take (full - used) (drop used (now (buf .entry))) ⌝ }
 {
     let mut i = used;
     while i < full {

@@ -12,10 +12,10 @@ ghost use Rattle.wording.specs.Output.{Adds, written};
 ghost use Rattle.requests.specs.Requests.{gamesOf, countingOf, wordingOf, playingOf, placeOf, kindOf, kindAnswer, answerOf};
 
 // The longest line that is looked at.
-pub const LONGEST: usize = 65536;
+pub(crate) const LONGEST: usize = 65536;
 
 // What a request's name asks for.
-pub enum Kind {
+pub(crate) enum Kind {
     About(Form, Asked),
     Rest(Task),
     Atmost,

@@ -2,3 +2,4 @@ pub mod Output
 pub mod Words
 pub mod Numbers
 pub mod Escapes
+pub mod Computed

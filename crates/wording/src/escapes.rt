@@ -6,7 +6,7 @@ ghost use lib.ListN.{length};
 ghost use Rattle.wording.specs.Escapes.{highOf, hexEscape, escapeOf, UsedIn, Undid};
 
 // What an escape stands for, and how many bytes it has behind the backslash.
-pub enum Escape {
+pub(crate) enum Escape {
     Byte(u8, usize),
     Bad,
 }

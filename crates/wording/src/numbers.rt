@@ -15,7 +15,7 @@ pub enum Signed {
 }
 
 // The value of a digit of any base up to 16, 16 where it is none.
-pub fn digit(b: u8) -> u8
+pub(crate) fn digit(b: u8) -> u8
     ensures { λ r. ⌜ r ≡ digitOf b ⌝ }
     ensures { λ r. ⌜ r ≤ 16 ⌝ }
 {

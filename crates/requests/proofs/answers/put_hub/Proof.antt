@@ -1,6 +1,5 @@
 -- The text in lent space that is long enough for every one.
 use mathlib.Core.Path.{refl, sym}
-use Prim.Native.Nat.{_-_}
 use Rattle.requests.proofs.Told as told
 use Rattle.wording.proofs.Pieces as laws
 use lib.Seq.{length-take-le}

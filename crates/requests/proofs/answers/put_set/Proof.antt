@@ -1,10 +1,7 @@
 -- A set, then a space.
-use Prim.Native.Nat.{_-_}
 use borrow.Author.Needs.{needs}
 use Rattle.wording.proofs.Pieces as laws
-use Rattle.requests.proofs.Whole as law
 use Rattle.requests.specs.Answers as told
-use Rattle.requests.specs.Requests as asked
 use Rattle.requests.proofs.answers.put_set.Statement.{statement}
 use Rattle.requests.proofs.answers.put_set.Tie as tie
 

@@ -1,9 +1,5 @@
 -- By what is asked.
-use Prim.Native.Nat.{_-_}
 use borrow.Author.Needs.{needs}
-use Rattle.wording.proofs.Pieces as laws
-use Rattle.requests.proofs.Whole as law
-use Rattle.requests.specs.Answers as told
 use Rattle.requests.specs.Requests as asked
 use Rattle.requests.proofs.answers.tell.Statement.{statement}
 use Rattle.requests.proofs.answers.tell.Tie as tie

@@ -1,11 +1,8 @@
 -- Whether a capture is open.
 use mathlib.Core.Path.{ap}
-use Prim.Native.Nat.{_-_}
 use borrow.Author.Needs.{needs}
 use Rattle.wording.proofs.Pieces as laws
-use Rattle.requests.proofs.Whole as law
 use Rattle.requests.specs.Answers as told
-use Rattle.requests.specs.Requests as asked
 use Rattle.requests.proofs.answers.tell_caps.Statement.{statement}
 use Rattle.requests.proofs.answers.tell_caps.Tie as tie
 

@@ -1,10 +1,6 @@
 -- A count, or the refusal.
-use Prim.Native.Nat.{_-_}
 use borrow.Author.Needs.{needs}
 use Rattle.wording.proofs.Pieces as laws
-use Rattle.requests.proofs.Whole as law
-use Rattle.requests.specs.Answers as told
-use Rattle.requests.specs.Requests as asked
 use Rattle.requests.proofs.answers.tell_counted.Statement.{statement}
 use Rattle.requests.proofs.answers.tell_counted.Tie as tie
 

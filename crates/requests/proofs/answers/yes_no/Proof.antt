@@ -1,9 +1,4 @@
 -- 1 for yes.
-use Prim.Native.Nat.{_-_}
-use Rattle.wording.proofs.Pieces as laws
-use Rattle.requests.proofs.Whole as law
-use Rattle.requests.specs.Answers as told
-use Rattle.requests.specs.Requests as asked
 use Rattle.requests.proofs.answers.yes_no.Statement.{statement}
 use Rattle.requests.proofs.answers.yes_no.Tie as tie
 

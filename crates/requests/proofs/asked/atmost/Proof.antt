@@ -1,9 +1,5 @@
 -- The limit, then the FEN word.
-use Prim.Native.Nat.{_-_}
 use borrow.Author.Needs.{needs}
-use Rattle.wording.proofs.Pieces as laws
-use Rattle.requests.proofs.Whole as law
-use Rattle.requests.specs.Answers as told
 use Rattle.requests.specs.Requests as asked
 use Rattle.requests.proofs.asked.atmost.Statement.{statement}
 use Rattle.requests.proofs.asked.atmost.Tie as tie

@@ -1,10 +1,6 @@
 -- Six words; the weights, then the FEN word.
-use Prim.Native.Nat.{_-_}
 use borrow.Author.Tests.{eq-eqb, ne-eqb}
 use borrow.Author.Needs.{needs}
-use Rattle.wording.proofs.Pieces as laws
-use Rattle.requests.proofs.Whole as law
-use Rattle.requests.specs.Answers as told
 use Rattle.requests.specs.Requests as asked
 use Rattle.requests.proofs.asked.evalw.Statement.{statement}
 use Rattle.requests.proofs.asked.evalw.Tie as tie

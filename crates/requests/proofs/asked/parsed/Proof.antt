@@ -1,9 +1,5 @@
 -- The move of the text, its refusal, or a broken text.
-use Prim.Native.Nat.{_-_}
 use borrow.Author.Needs.{needs}
-use Rattle.wording.proofs.Pieces as laws
-use Rattle.requests.proofs.Whole as law
-use Rattle.requests.specs.Answers as told
 use Rattle.requests.specs.Requests as asked
 use Rattle.requests.proofs.asked.parsed.Statement.{statement}
 use Rattle.requests.proofs.asked.parsed.Tie as tie

@@ -1,9 +1,5 @@
 -- Five numbers, one after the other.
-use Prim.Native.Nat.{_-_}
 use borrow.Author.Needs.{needs}
-use Rattle.wording.proofs.Pieces as laws
-use Rattle.requests.proofs.Whole as law
-use Rattle.requests.specs.Answers as told
 use Rattle.requests.specs.Requests as asked
 use mir.Syntax.{w32}
 use mir.Val.{SFits}

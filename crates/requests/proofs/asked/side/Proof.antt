@@ -1,12 +1,8 @@
 -- One letter.
 use mathlib.Core.Path.{sym, _∙_}
-use Prim.Native.Nat.{_-_}
 use denote.Ref.{now}
 use borrow.Author.Needs.{needs}
-use Rattle.wording.proofs.Pieces as laws
 use Rattle.requests.proofs.Whole as law
-use Rattle.requests.specs.Answers as told
-use Rattle.requests.specs.Requests as asked
 use Rattle.requests.proofs.asked.side.Statement.{statement}
 use Rattle.requests.proofs.asked.side.Tie as tie
 

@@ -1,10 +1,5 @@
 -- By the task.
-use Prim.Native.Nat.{_-_}
 use borrow.Author.Needs.{needs}
-use Rattle.wording.proofs.Pieces as laws
-use Rattle.requests.proofs.Whole as law
-use Rattle.requests.specs.Answers as told
-use Rattle.requests.specs.Requests as asked
 use Rattle.requests.proofs.asked.work.Statement.{statement}
 use Rattle.requests.proofs.asked.work.Tie as tie
 

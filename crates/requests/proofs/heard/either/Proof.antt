@@ -1,5 +1,4 @@
 -- 51 bytes, no colon.
-use Prim.Native.Nat.{_-_}
 use lib.ListN.{length}
 use denote.Ref.{now}
 use borrow.Author.Tests.{eq-eqb, ne-eqb}

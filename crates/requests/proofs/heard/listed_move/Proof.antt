@@ -1,6 +1,5 @@
 -- The escapes undone, then what is read of at most 4,097 bytes.
 use mathlib.Core.Path.{refl, sym}
-use Prim.Native.Nat.{_-_}
 use Rattle.requests.proofs.Told as told
 use lib.Seq.{length-take-le}
 use borrow.Author.Needs.{needs}

@@ -1,6 +1,6 @@
 -- The turns are counted down; nothing else ends the loop before the input does.
 use mathlib.Core.Path.{_≡_}
-use Prim.Native.Nat.{_≤_, _-_}
+use Prim.Native.Nat.{_≤_}
 use lib.ListN.{length}
 use borrow.Author.Needs.{needs}
 use Rattle.requests.proofs.lines.feed.Statement.{statement}

@@ -1,6 +1,5 @@
 -- What was read is within the buffer, and so is what is kept.
 use mathlib.Core.Path.{sym}
-use Prim.Native.Nat.{_-_}
 use lib.ListN.{length-take}
 use lib.Seq.{length-take-le}
 use borrow.Author.Needs.{needs}
@@ -78,10 +77,10 @@ whole-lines-requires : tie.Need-whole-lines-requires
 whole-lines-requires c κs = search needs
 
 shift-requires : tie.Need-shift-requires
-shift-requires c κs = (omega (arith, simp length-take at (c .before .before .before .whole-lines .ensures)), search needs)
+shift-requires c κs = (omega (arith, simp length-take at (c .before .before .before .whole-lines .ensures .0)), search needs)
 
 sub-kept : tie.Need-sub-kept
-sub-kept c = omega (arith, simp length-take at (c .before .before .before .before .before .before .whole-lines .ensures))
+sub-kept c = omega (arith, simp length-take at (c .before .before .before .before .before .before .whole-lines .ensures .0))
 
 kept-requires : tie.Need-kept-requires
 kept-requires c κs = search needs

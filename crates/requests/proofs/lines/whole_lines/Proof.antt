@@ -1,7 +1,11 @@
 -- Line by line; what is written stays within the buffer.
-use mathlib.Core.Path.{_≡_, sym}
-use Prim.Native.Nat.{_≤_, _-_}
-use lib.ListN.{length}
+use mathlib.Core.Path.{_≡_, refl, sym}
+use Prim.Native.Nat.{_≤_, _-_, _+_}
+use lib.ListN.{length, drop}
+use denote.Ref.{now}
+use Rattle.requests.proofs.LineLaws as laws
+use Rattle.requests.specs.Lines.{wholeOf}
+use Rattle.texts.proofs.Cuts.{rest}
 use lib.Seq.{length-take-le}
 use borrow.Author.Needs.{needs}
 use native.Mathlib.Omega.{arith}
@@ -9,13 +13,13 @@ use Rattle.requests.proofs.lines.whole_lines.Statement.{statement}
 use Rattle.requests.proofs.lines.whole_lines.Tie as tie
 
 abbrev Inv-loop : tie.InvT-loop
-Inv-loop s out₀ at₀ put₀ out at put = (at ≤ length s) × (put ≤ length out) × (length out ≡ length out₀)
+Inv-loop s out₀ at₀ put₀ out at put = (at ≤ length s) × (put ≤ length out) × (length out ≡ length out₀) × (wholeOf s ≡ at + wholeOf (drop at s))
 
 abbrev μ-loop : tie.MeasureT-loop
 μ-loop s out₀ at₀ put₀ out at put = length s - at
 
 loop-holds : tie.Need-loop-holds Inv-loop μ-loop
-loop-holds c = search needs
+loop-holds c = (search needs, search needs, refl, omega arith)
 
 sub-rest : tie.Need-sub-rest Inv-loop μ-loop
 sub-rest c = search needs
@@ -42,7 +46,11 @@ same-length : tie.Need-same-length Inv-loop μ-loop
 same-length c = search needs
 
 returns : tie.Need-returns Inv-loop μ-loop
-returns c = search needs
+returns c =
+    let s = now (c .before .before .before .before .before .before .before .before .before .args .s) in
+    let l = c .before .before .before .before .before .before .loop in
+    let f = c .before .before .before .find in
+    (omega arith, laws.last-line s (l .at) (f .result) _ (rest s (l .at)) (l .inv .3) (f .ensures .0) (c .before .before .if1 .taken))
 
 room-requires : tie.Need-room-requires Inv-loop μ-loop
 room-requires c κs = search needs
@@ -63,7 +71,11 @@ loop-less : tie.Need-loop-less Inv-loop μ-loop
 loop-less c = search needs
 
 loop-again : tie.Need-loop-again Inv-loop μ-loop
-loop-again c = search needs
+loop-again c =
+    let s = now (c .before .before .before .before .before .before .before .before .before .before .before .before .before .before .args .s) in
+    let l = c .before .before .before .before .before .before .before .before .before .before .before .loop in
+    let f = c .before .before .before .before .before .before .before .before .find in
+    (search needs, search needs, search needs, laws.next-line s (l .at) (f .result) _ (rest s (l .at)) (l .inv .3) (f .ensures .0) (omega arith))
 
 slice-reshare-prefix-write-all-2 : tie.Need-slice-reshare-prefix-write-all-2 Inv-loop μ-loop
 slice-reshare-prefix-write-all-2 c = search needs
@@ -78,7 +90,10 @@ same-length-2 : tie.Need-same-length-2 Inv-loop μ-loop
 same-length-2 c = search needs
 
 returns-2 : tie.Need-returns-2 Inv-loop μ-loop
-returns-2 c = search needs
+returns-2 c =
+    let s = now (c .before .before .before .before .before .before .args .s) in
+    let l = c .before .before .before .loop in
+    (omega arith, laws.no-line s (l .at) (omega arith) (l .inv .3))
 
 pub whole-lines-spec : {M : Type 1} → statement M
 whole-lines-spec =

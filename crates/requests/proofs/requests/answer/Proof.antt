@@ -1,10 +1,7 @@
 -- A line that is too long is a bad request; else by its first word.
-use Prim.Native.Nat.{_-_}
 use borrow.Author.Tests.{lt-ltb, le-ltb}
 use borrow.Author.Needs.{needs}
-use Rattle.wording.proofs.Pieces as laws
 use Rattle.requests.proofs.Whole as law
-use Rattle.requests.specs.Answers as told
 use Rattle.requests.specs.Requests as asked
 use Rattle.requests.proofs.requests.answer.Statement.{statement}
 use Rattle.requests.proofs.requests.answer.Tie as tie

@@ -1,5 +1,10 @@
 -- Name by name.
-use Prim.Native.Nat.{_-_}
+use mathlib.Core.Path.{_≡_, refl, ap, sym, _∙_}
+use mathlib.Core.List.{[], _∷_}
+use Prim.Native.Nat.{ℕ, _-_}
+use lib.ListN.{length}
+use denote.Ref.{now}
+use borrow.Author.Tests.{lt-ltb, le-ltb, eq-eqb, ne-eqb}
 use borrow.Author.Needs.{needs}
 use Rattle.wording.proofs.Pieces as laws
 use Rattle.requests.proofs.Whole as law

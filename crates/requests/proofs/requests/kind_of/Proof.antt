@@ -1,9 +1,5 @@
 -- Name by name.
-use Prim.Native.Nat.{_-_}
 use borrow.Author.Needs.{needs}
-use Rattle.wording.proofs.Pieces as laws
-use Rattle.requests.proofs.Whole as law
-use Rattle.requests.specs.Answers as told
 use Rattle.requests.specs.Requests as asked
 use Rattle.requests.proofs.requests.kind_of.Statement.{statement}
 use Rattle.requests.proofs.requests.kind_of.Tie as tie

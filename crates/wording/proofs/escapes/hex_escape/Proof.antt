@@ -1,6 +1,5 @@
 -- Two digits, or none.
 use mathlib.Core.Path.{sym, _∙_}
-use Prim.Native.Nat.{_-_}
 use denote.Ref.{now}
 use Rattle.wording.proofs.Escaped as laws
 use borrow.Author.Needs.{needs}

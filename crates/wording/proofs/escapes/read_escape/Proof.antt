@@ -1,6 +1,5 @@
 -- Each arm is one letter.
 use mathlib.Core.Path.{ap, sym, _∙_}
-use Prim.Native.Nat.{_-_}
 use denote.Ref.{now}
 use Rattle.wording.proofs.Escaped as laws
 use Rattle.wording.specs.Escapes.{escapeOf, hexEscape}

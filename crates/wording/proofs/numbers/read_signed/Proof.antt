@@ -1,6 +1,5 @@
 -- The sign, the digits, the limits.
 use mathlib.Core.Path.{ap, sym, _∙_}
-use Prim.Native.Nat.{_-_}
 use denote.Ref.{now}
 use Rattle.wording.specs.Numbers.{positiveOf, negativeOf, numberIn}
 use Rattle.wording.proofs.Values as laws

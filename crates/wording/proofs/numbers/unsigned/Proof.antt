@@ -1,6 +1,5 @@
 -- The sign, the digits.
 use mathlib.Core.Path.{ap, _∙_}
-use Prim.Native.Nat.{_-_}
 use Rattle.wording.specs.Numbers.{unsignedOf, numberIn}
 use Rattle.texts.specs.Bytes.{strip}
 use borrow.Author.Needs.{needs}

@@ -1,5 +1,4 @@
 -- The fewest digits are those of the definition.
-use Prim.Native.Nat.{_-_}
 use Rattle.wording.proofs.Pieces as laws
 use Rattle.wording.proofs.Numerals.{hash-is}
 use borrow.Author.Needs.{needs}

@@ -1,6 +1,5 @@
 -- Piece by piece.
 use mathlib.Core.Path.{ap}
-use Prim.Native.Nat.{_-_}
 use Rattle.wording.proofs.Pieces as laws
 use Rattle.wording.specs.Output.{refusal, decimal}
 use borrow.Author.Needs.{needs}

@@ -1,5 +1,4 @@
 -- A negative number has 1 added, its sign changed, and 1 added to its size.
-use Prim.Native.Nat.{_-_}
 use Rattle.wording.proofs.Pieces as laws
 use Rattle.wording.proofs.Signs as signs
 use borrow.Author.Needs.{needs}

@@ -1,6 +1,6 @@
 -- Behind the first space, or nothing.
 use mathlib.Core.Path.{_∙_}
-use Prim.Native.Nat.{_-_, _+_}
+use Prim.Native.Nat.{_+_}
 use denote.Ref.{now}
 use Rattle.wording.proofs.WordLaws as laws
 use Rattle.texts.proofs.Cuts.{rest}

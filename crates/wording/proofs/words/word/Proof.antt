@@ -1,6 +1,6 @@
 -- Word by word; where no space is left the words that are left are empty.
 use mathlib.Core.Path.{_≡_, refl, ap, sym, _∙_}
-use Prim.Native.Nat.{_≤_, _-_}
+use Prim.Native.Nat.{_≤_}
 use lib.ListN.{length, drop}
 use denote.Ref.{now}
 use lib.ListN.{length-drop}
