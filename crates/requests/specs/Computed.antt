@@ -1,5 +1,6 @@
 -- What a computed row opens.
 use Rattle.positions.specs.Moves.{isCapture, squaresOf}
+use Rattle.scores.specs.Computed as scores
 use Rattle.notation.specs.Computed as notation
 use Rattle.games.specs.Computed as games
 use Rattle.gametexts.specs.Texts.{playSaid, playStrOf}
@@ -12,5 +13,5 @@ use Rattle.requests.specs.Plays.{wordsOf, afterComma, recordOf, isTextOf
 use Rattle.requests.specs.Requests.{parsedAnswer, successorAnswer, depthAnswer, splitAnswer, limitAnswer, weighedAnswer, heardAnswer, restAnswer, atmostAnswer, weightsOf, evalwAnswer, squareAnswer, sideOf, setsAnswer, partsAnswer, gamesOf, countingOf, wordingOf, playingOf, placeOf, kindOf, answerOf}
 
 unfoldable pub computed : Unit {0}
-unfolding notation.computed games.computed playSaid playStrOf pliesText stateText numberWord movesWord endText wordsOf afterComma recordOf isTextOf isRecordOf allReadable playTextOf playRecordOf moveOfWord textTold recordTold gameText playsAnswer freshAnswer isCapture squaresOf separatorOf named moveText wording.computed eitherOf positionOf listedMoveOf squareOf fenWord hubWord fenAnswer hubAnswer hashAnswer setWord bitsAnswer moveWord movesText countsText listAnswer dividedAnswer recordWord moveAnswer parsedAnswer successorAnswer depthAnswer splitAnswer limitAnswer weighedAnswer heardAnswer restAnswer atmostAnswer weightsOf evalwAnswer squareAnswer sideOf setsAnswer partsAnswer gamesOf countingOf wordingOf playingOf placeOf kindOf answerOf
+unfolding scores.computed notation.computed games.computed playSaid playStrOf pliesText stateText numberWord movesWord endText wordsOf afterComma recordOf isTextOf isRecordOf allReadable playTextOf playRecordOf moveOfWord textTold recordTold gameText playsAnswer freshAnswer isCapture squaresOf separatorOf named moveText wording.computed eitherOf positionOf listedMoveOf squareOf fenWord hubWord fenAnswer hubAnswer hashAnswer setWord bitsAnswer moveWord movesText countsText listAnswer dividedAnswer recordWord moveAnswer parsedAnswer successorAnswer depthAnswer splitAnswer limitAnswer weighedAnswer heardAnswer restAnswer atmostAnswer weightsOf evalwAnswer squareAnswer sideOf setsAnswer partsAnswer gamesOf countingOf wordingOf playingOf placeOf kindOf answerOf
 computed = tt

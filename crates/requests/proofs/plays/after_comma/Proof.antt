@@ -1,13 +1,10 @@
 -- Behind the first comma, or nothing.
-use mathlib.Core.Path.{_≡_, refl, ap, sym, _∙_, subst}
-use Prim.Native.Nat.{ℕ, _≤_, _<_, _-_, _+_}
-use mathlib.Core.List.{List, _++_}
-use lib.ListN.{length, take, drop}
+use mathlib.Core.Path.{_∙_}
+use Prim.Native.Nat.{_+_}
 use denote.Ref.{now}
 use Rattle.requests.proofs.PlayLaws as laws
 use Rattle.texts.proofs.Cuts as cuts
 use borrow.Author.Needs.{needs}
-use native.Mathlib.Omega.{arith}
 use Rattle.requests.proofs.plays.after_comma.Statement.{statement}
 use Rattle.requests.proofs.plays.after_comma.Tie as tie
 

@@ -1,8 +1,7 @@
 -- Word by word.
-use mathlib.Core.Path.{_≡_, refl, ap, sym, _∙_, subst}
-use Prim.Native.Nat.{ℕ, _≤_, _<_, _-_, _+_}
-use mathlib.Core.List.{List, _++_}
-use lib.ListN.{length, take, drop}
+use mathlib.Core.Path.{_≡_, refl, sym, _∙_}
+use Prim.Native.Nat.{_≤_, _-_}
+use lib.ListN.{length, drop}
 use denote.Ref.{now}
 use Rattle.requests.proofs.PlayLaws as laws
 use Rattle.texts.proofs.Cuts as cuts

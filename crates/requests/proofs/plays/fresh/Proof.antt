@@ -1,16 +1,11 @@
 -- The game begun, then its outcome.
-use mathlib.Core.Path.{_≡_, refl, ap, sym, _∙_, subst}
-use Prim.Native.Nat.{ℕ, _≤_, _<_, _-_, _+_}
-use mathlib.Core.List.{List, _++_}
-use lib.ListN.{length, take, drop}
-use denote.Ref.{now}
+use mathlib.Core.Path.{ap, _∙_}
 use Rattle.wording.proofs.Pieces as pieces
 use Rattle.requests.specs.Plays.{freshAnswer}
 use Rattle.requests.specs.States.{judgedWord}
 use Rattle.games.specs.Play.{outcomeOf}
 use Rattle.games.specs.declared.game.Begun.{Begun}
 use borrow.Author.Needs.{needs}
-use native.Mathlib.Omega.{arith}
 use Rattle.requests.proofs.plays.fresh.Statement.{statement}
 use Rattle.requests.proofs.plays.fresh.Tie as tie
 

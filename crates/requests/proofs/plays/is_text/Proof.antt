@@ -1,12 +1,6 @@
 -- Undoing the escapes says it.
-use mathlib.Core.Path.{_≡_, refl, ap, sym, _∙_, subst}
-use Prim.Native.Nat.{ℕ, _≤_, _<_, _-_, _+_}
-use mathlib.Core.List.{List, _++_}
-use lib.ListN.{length, take, drop}
-use denote.Ref.{now}
 use Rattle.requests.proofs.PlayLaws as laws
 use borrow.Author.Needs.{needs}
-use native.Mathlib.Omega.{arith}
 use Rattle.requests.proofs.plays.is_text.Statement.{statement}
 use Rattle.requests.proofs.plays.is_text.Tie as tie
 

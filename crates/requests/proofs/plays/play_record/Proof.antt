@@ -1,12 +1,7 @@
 -- The record read, then played.
-use mathlib.Core.Path.{_≡_, refl, ap, sym, _∙_, subst}
-use Prim.Native.Nat.{ℕ, _≤_, _<_, _-_, _+_}
-use mathlib.Core.List.{List, _++_}
-use lib.ListN.{length, take, drop}
-use denote.Ref.{now}
+use mathlib.Core.Path.{ap, sym, _∙_}
 use Rattle.requests.specs.Plays.{playMove, playRecordOf}
 use borrow.Author.Needs.{needs}
-use native.Mathlib.Omega.{arith}
 use Rattle.requests.proofs.plays.play_record.Statement.{statement}
 use Rattle.requests.proofs.plays.play_record.Tie as tie
 

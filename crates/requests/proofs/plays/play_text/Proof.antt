@@ -1,14 +1,9 @@
 -- The escapes undone, then at most 4,097 bytes played.
-use mathlib.Core.Path.{_≡_, refl, ap, sym, _∙_, subst}
-use Prim.Native.Nat.{ℕ, _≤_, _<_, _-_, _+_}
-use mathlib.Core.List.{List, _++_}
-use lib.ListN.{length, take, drop}
-use denote.Ref.{now}
+use mathlib.Core.Path.{refl, sym}
 use Rattle.requests.proofs.PlayLaws as laws
 use lib.Seq.{length-take-le}
 use Rattle.requests.proofs.Told as told
 use borrow.Author.Needs.{needs}
-use native.Mathlib.Omega.{arith}
 use Rattle.requests.proofs.plays.play_text.Statement.{statement}
 use Rattle.requests.proofs.plays.play_text.Tie as tie
 

@@ -1,8 +1,8 @@
 -- Word by word: what is told of the words that are left ends what is told of all.
-use mathlib.Core.Path.{_≡_, refl, ap, sym, _∙_, subst}
-use Prim.Native.Nat.{ℕ, _≤_, _<_, _-_, _+_}
-use mathlib.Core.List.{List, _++_}
-use lib.ListN.{length, take, drop}
+use mathlib.Core.Path.{_≡_, refl}
+use Prim.Native.Nat.{ℕ, _≤_, _-_}
+use mathlib.Core.List.{List}
+use lib.ListN.{length, drop}
 use denote.Ref.{now}
 use Rattle.wording.proofs.Pieces as pieces
 use Rattle.requests.proofs.PlayLaws as laws

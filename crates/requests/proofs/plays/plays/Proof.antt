@@ -1,13 +1,9 @@
 -- Every word read first, then all played.
-use mathlib.Core.Path.{_≡_, refl, ap, sym, _∙_, subst}
-use Prim.Native.Nat.{ℕ, _≤_, _<_, _-_, _+_}
-use mathlib.Core.List.{List, _++_}
-use lib.ListN.{length, take, drop}
+use mathlib.Core.Path.{sym, _∙_}
 use denote.Ref.{now}
 use Rattle.wording.proofs.Pieces as pieces
 use Rattle.requests.proofs.PlayLaws as laws
 use borrow.Author.Needs.{needs}
-use native.Mathlib.Omega.{arith}
 use Rattle.requests.proofs.plays.plays.Statement.{statement}
 use Rattle.requests.proofs.plays.plays.Tie as tie
 

@@ -1,14 +1,10 @@
 -- The position standing, then the move on it.
-use mathlib.Core.Path.{_≡_, refl, ap, sym, _∙_, subst}
-use Prim.Native.Nat.{ℕ, _≤_, _<_, _-_, _+_}
-use mathlib.Core.List.{List, _++_}
-use lib.ListN.{length, take, drop}
+use mathlib.Core.Path.{ap, sym, _∙_}
 use denote.Ref.{now}
 use Rattle.wording.proofs.Pieces as pieces
 use Rattle.requests.specs.Plays.{meantWord, moveAt, moveOfWord}
 use Rattle.positions.specs.declared.position.Placed.{Placed}
 use borrow.Author.Needs.{needs}
-use native.Mathlib.Omega.{arith}
 use Rattle.requests.proofs.plays.put_move_of.Statement.{statement}
 use Rattle.requests.proofs.plays.put_move_of.Tie as tie
 

@@ -1,8 +1,5 @@
 -- Three numbers, the first that is none first.
-use mathlib.Core.Path.{_≡_, refl, ap, sym, _∙_, subst}
-use Prim.Native.Nat.{ℕ, _≤_, _<_, _-_, _+_}
-use mathlib.Core.List.{List, _++_}
-use lib.ListN.{length, take, drop}
+use mathlib.Core.Path.{ap, sym, _∙_, subst}
 use denote.Ref.{now}
 use Rattle.requests.proofs.PlayLaws as laws
 use Rattle.requests.specs.Plays.{afterComma}

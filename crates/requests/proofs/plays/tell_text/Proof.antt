@@ -1,15 +1,12 @@
 -- By the answer, piece by piece.
-use mathlib.Core.Path.{_≡_, refl, ap, sym, _∙_, subst}
-use Prim.Native.Nat.{ℕ, _≤_, _<_, _-_, _+_}
-use mathlib.Core.List.{List, _++_}
-use lib.ListN.{length, take, drop}
+use mathlib.Core.Path.{ap, sym}
+use mathlib.Core.List.{_++_}
 use denote.Ref.{now}
 use Rattle.wording.proofs.Pieces as pieces
 use Rattle.requests.specs.Plays.{moveOfWord, textAnswer, textTold}
 use Rattle.requests.specs.States.{stateText}
 use Rattle.squares.specs.declared.refusal.Answer.{Answer}
 use borrow.Author.Needs.{needs}
-use native.Mathlib.Omega.{arith}
 use Rattle.requests.proofs.plays.tell_text.Statement.{statement}
 use Rattle.requests.proofs.plays.tell_text.Tie as tie
 

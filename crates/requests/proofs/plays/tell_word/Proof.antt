@@ -1,14 +1,10 @@
 -- By how plays are given.
-use mathlib.Core.Path.{_≡_, refl, ap, sym, _∙_, subst}
-use Prim.Native.Nat.{ℕ, _≤_, _<_, _-_, _+_}
-use mathlib.Core.List.{List, _++_}
-use lib.ListN.{length, take, drop}
+use mathlib.Core.Path.{ap, sym}
 use denote.Ref.{now}
 use Rattle.wording.proofs.Pieces as pieces
 use Rattle.requests.specs.Plays.{wordTold}
 use Rattle.requests.specs.declared.plays.Given.{Given}
 use borrow.Author.Needs.{needs}
-use native.Mathlib.Omega.{arith}
 use Rattle.requests.proofs.plays.tell_word.Statement.{statement}
 use Rattle.requests.proofs.plays.tell_word.Tie as tie
 

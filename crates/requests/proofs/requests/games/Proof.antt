@@ -1,14 +1,5 @@
 -- Name by name.
-use mathlib.Core.Path.{_≡_, refl, ap, sym, _∙_}
-use mathlib.Core.List.{[], _∷_}
-use Prim.Native.Nat.{ℕ, _-_}
-use lib.ListN.{length}
-use denote.Ref.{now}
-use borrow.Author.Tests.{lt-ltb, le-ltb, eq-eqb, ne-eqb}
 use borrow.Author.Needs.{needs}
-use Rattle.wording.proofs.Pieces as laws
-use Rattle.requests.proofs.Whole as law
-use Rattle.requests.specs.Answers as told
 use Rattle.requests.specs.Requests as asked
 use Rattle.requests.proofs.requests.games.Statement.{statement}
 use Rattle.requests.proofs.requests.games.Tie as tie

@@ -1,14 +1,9 @@
 -- Piece by piece.
-use mathlib.Core.Path.{_≡_, refl, ap, sym, _∙_, subst}
-use Prim.Native.Nat.{ℕ, _≤_, _<_, _-_, _+_}
-use mathlib.Core.List.{List, _++_}
-use lib.ListN.{length, take, drop}
-use denote.Ref.{now}
+use mathlib.Core.Path.{ap}
 use Rattle.wording.proofs.Pieces as pieces
 use Rattle.requests.specs.States.{numberWord}
 use Rattle.wording.specs.Output.{decimal}
 use borrow.Author.Needs.{needs}
-use native.Mathlib.Omega.{arith}
 use Rattle.requests.proofs.states.put_number.Statement.{statement}
 use Rattle.requests.proofs.states.put_number.Tie as tie
 

@@ -1,13 +1,8 @@
 -- Piece by piece.
-use mathlib.Core.Path.{_≡_, refl, ap, sym, _∙_, subst}
-use Prim.Native.Nat.{ℕ, _≤_, _<_, _-_, _+_}
-use mathlib.Core.List.{List, _++_}
-use lib.ListN.{length, take, drop}
-use denote.Ref.{now}
+use mathlib.Core.Path.{ap}
 use Rattle.wording.proofs.Pieces as pieces
 use Rattle.requests.specs.States.{countWord, pliesText}
 use borrow.Author.Needs.{needs}
-use native.Mathlib.Omega.{arith}
 use Rattle.requests.proofs.states.put_plies.Statement.{statement}
 use Rattle.requests.proofs.states.put_plies.Tie as tie
 

@@ -1,14 +1,9 @@
 -- By the winner.
-use mathlib.Core.Path.{_≡_, refl, ap, sym, _∙_, subst}
-use Prim.Native.Nat.{ℕ, _≤_, _<_, _-_, _+_}
-use mathlib.Core.List.{List, _++_}
-use lib.ListN.{length, take, drop}
-use denote.Ref.{now}
+use mathlib.Core.Path.{ap, sym, _∙_}
 use Rattle.wording.proofs.Pieces as pieces
 use Rattle.requests.specs.States.{winnerWord}
 use Rattle.games.specs.declared.game.Winner.the-variants as winner
 use borrow.Author.Needs.{needs}
-use native.Mathlib.Omega.{arith}
 use Rattle.requests.proofs.states.put_winner.Statement.{statement}
 use Rattle.requests.proofs.states.put_winner.Tie as tie
 
