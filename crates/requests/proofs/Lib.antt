@@ -2,5 +2,6 @@ pub mod Told
 pub mod Listing
 pub mod Whole
 pub mod PlayLaws
+pub mod PlayedGames
 pub mod LineLaws
 pub mod Rows

@@ -13,8 +13,9 @@ pub(crate) struct Turn {
     on: bool,
 }
 
-// The room that is kept for an answer.
-const ROOM: usize = 65536;
+// The room that is kept for an answer. Of the longest line, a text of three bytes and its space are answered by 17 bytes at most,
+// but for the squares that captures take, and an empty text by 3.
+const ROOM: usize = 327680;
 
 // The answer to a line at a place of out, with its line feed, and the place behind it.
 fn answer_at(line: &[u8], out: &mut [u8], at: usize) -> usize
@@ -124,6 +125,6 @@ fn feed(buf: &mut [u8], out: &mut [u8]) {
 // Answers standard input, line by line, to its end.
 pub fn serve() {
     let mut buf = [0u8; 131072];
-    let mut out = [0u8; 131072];
+    let mut out = [0u8; 393216];
     feed(&mut buf, &mut out);
 }
