@@ -9,6 +9,7 @@ The two agree byte for byte but for the cases below, each of which is written he
   atmost     the Rust has no such request: its list without a limit, then 10 above 256 and 17 above the limit
   record     the Rust has no such request: the position's refusals, else the game by scripts/gamerule.py
   panics     where the Rust panics at a 257th entry, the list without a limit decides: 17, or what it says; a game goes on
+  hashes     the Rust counts repetitions by hash; where a game meets two positions with one hash, the game by scripts/gamerule.py
 """
 import re
 import subprocess
@@ -16,6 +17,10 @@ import subprocess
 MASK = 2 ** 64 - 1
 BAD = b"bad request"
 NAMES = (b"fen hub fen2hub hub2fen square parts bits moves parse after perft divide eval evalw hash flip caps quiet play outcome record").split()
+
+
+# From this board on a game can come within 16 plies to another position with the same hash (docs/DIFFERENCES.md).
+ONE_HASH = b"W:WK12,K16,K19,K24,K45,K47:BK9,K39,K44,K49"
 
 
 class Draw:
@@ -169,6 +174,8 @@ def answer(oracle, line, rule, extra, told):
         return (b"err 17 0" if count > extra else told), rule
     if told == b"panic":
         return panicked(oracle, line), "panics"
+    if line.startswith(b"play " + ONE_HASH + b" "):
+        return gamerule.played(oracle, line), "hashes"
     return told, rule
 
 
