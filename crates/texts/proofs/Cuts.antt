@@ -83,6 +83,15 @@ pub find-end : (p : ℕ → Bool) (s : List ℕ) (i : ℕ) → length s ≤ i �
 unfolding indexOf
 find-end p s i h = rw (drop-of-length-le s h)
 
+pub index-le : (p : ℕ → Bool) (s : List ℕ) → indexOf p s ≤ length s
+unfolding indexOf
+index-le p [] = omega arith
+index-le p (b ∷ s) = go (p b) (index-le p s)
+  where
+    go : (t : Bool) → indexOf p s ≤ length s → cond t 0 (suc (indexOf p s)) ≤ suc (length s)
+    go true h = omega arith
+    go false h = omega arith
+
 -- ---- before and behind
 pub up-to-is : (c : ℕ) (s : List ℕ) → upTo c s ≡ take (indexOf (is c) s) s
 unfolding upTo indexOf is
