@@ -8,11 +8,11 @@ use Rattle.positions.specs.Boards.{Board, boardOf, sameBoard}
 use Rattle.positions.specs.Measure.{Smaller, fewer, nearer, Level}
 use Rattle.positions.specs.declared.position.Position.{Position}
 use Rattle.positions.proofs.Measures.{not-smaller}
+use Rattle.positions.proofs.Records.{same-board}
 use Rattle.rules.specs.Lists.{times}
-use Rattle.movegen.proofs.Plies.{same-board}
+use Rattle.rules.proofs.Times as lists
 use Rattle.games.specs.Book.{lastIn, timesIn}
 use Rattle.games.specs.Games.{samePosition}
-use Rattle.games.proofs.Lower as lists
 
 -- ---- the last one
 pub last-snoc : (l : List Board) (p : Board) → lastIn (l ++ (p ∷ [])) ≡ p
@@ -85,7 +85,7 @@ times-none p (q ∷ l) a = go (sameBoard q p) refl (times-none p l (a .1))
 -- the game counts positions, the book boards
 pub times-boards : (p : Position) (l : List Position) → timesIn (boardOf p) (map boardOf l) ≡ times samePosition l p
 unfolding timesIn
-times-boards p [] = lists.times-none samePosition p
+times-boards p [] = lists.times-nil samePosition p
 times-boards p (q ∷ l) =
     go (samePosition q p) (times-boards p l) (lists.times-one samePosition p q (samePosition q p) refl) (lists.times-append samePosition p (q ∷ []) l)
   where

@@ -23,12 +23,12 @@ use Rattle.positions.specs.declared.position.Position.{Position}
 use Rattle.positions.specs.declared.position.Placed.the-variants as placed
 use Rattle.positions.proofs.Accepts.{says-sound, position-sound}
 use Rattle.positions.proofs.Kept.{successor-accepted}
+use Rattle.positions.proofs.Records.{capture-is}
 use Rattle.rules.specs.Ordered.{legal, listed}
 use Rattle.rules.specs.Rules.{Legal}
 use Rattle.rules.proofs.Laws.{fair-of-accepted, listed-legal, legal-playable, legal-most, legal-quiet}
 use Rattle.movegen.specs.Lists.{afterOf}
 use Rattle.movegen.proofs.Answers.{after-many, after-none, after-one}
-use Rattle.movegen.proofs.Plies.{capture-is}
 use Rattle.games.specs.Book.{Book, tallyOf, standing, begunBook, Verdict, goesOn, ends, bookOutcome, over, onTheBoard, bookAnswer, reached, bookPlayed, bookNext, bookAnswers, bookAfter}
 use Rattle.games.specs.Demand3.{answersTo, gameAfter, heardOf, heard, toldAs, bookOf, AtAccepted, TakesMost, NoneOpen, Demand3}
 use Rattle.games.specs.Games.{blankPosition, lastOf, valid, stood, judgedOf, ended}

@@ -21,10 +21,11 @@ use Rattle.positions.specs.Successor.{promotes, Playable}
 use Rattle.positions.specs.declared.moves.Move.{Move}
 use Rattle.positions.proofs.Measures.{capture-falls, man-falls, king-stays}
 use Rattle.positions.proofs.Plays.{contains-is, promotes-is}
+use Rattle.positions.proofs.Records.{capture-is}
 use Rattle.positions.proofs.Standings as standings
 use Rattle.rules.specs.Rules.{Legal}
 use Rattle.rules.proofs.Laws.{fair-of-accepted, legal-playable}
-use Rattle.movegen.proofs.Plies.{capture-is, ply-of}
+use Rattle.movegen.proofs.Plies.{ply-of}
 use Rattle.movegen.proofs.Taken.{promoted-is, men-taken, kings-taken}
 use Rattle.games.specs.Book.{Tally, Book, standing, takes, manMove, isPromotion, tallied, reached}
 use Rattle.games.specs.Games.{manMoves, irreversible}

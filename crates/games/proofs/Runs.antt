@@ -14,14 +14,15 @@ use Rattle.squares.specs.declared.refusal.Answer.{Answer}
 use Rattle.squares.specs.declared.refusal.Answer.the-variants.{Done, Refused}
 use Rattle.squares.specs.declared.refusal.Refusal.{Refusal}
 use Rattle.squares.specs.declared.refusal.Refusal.the-variants.{TextTooLong, NoSide, NoColor, BadSquare, BadHubByte, NotFifty, Overlap, ManOnPromotionRow, BadMoveText, BeyondLimit, NoSuchSquare, BadPosition, BadGame, GameOver, NoMoveFits, SeveralFit, TooManyMoves, FenTooLong, SpaceTooShort}
+use Rattle.squares.proofs.Numbers.{high-square}
 use Rattle.positions.specs.Moves.{move, squaresOf}
 use Rattle.positions.specs.declared.moves.Move.{Move}
+use Rattle.positions.proofs.Records.{off-from, off-to}
 use Rattle.games.specs.Games.{valid}
 use Rattle.games.specs.Play.{refusedPlay, playOf}
 use Rattle.games.specs.Demand3.{answersTo, gameAfter}
 use Rattle.games.specs.Replay.{movesIn, squareIn}
 use Rattle.games.specs.declared.game.Game.{Game}
-use Rattle.games.proofs.Lower.{high, off-from, off-to}
 
 -- ---- one play more
 
@@ -88,7 +89,7 @@ in-low n e = rw e
 
 in-high : (n : ℕ) → leb n 50 ≡ false → isSquare (squareIn n) ≡ false
 unfolding squareIn
-in-high n e = rw e (high 51 refl)
+in-high n e = rw e (high-square 51 refl)
 
 off-play : (g : Game) (m : Move) → squaresOf m ≡ false → playOf g m ≡ cond (valid g) (refusedPlay g NoSuchSquare) (refusedPlay g BadGame)
 unfolding playOf
@@ -104,8 +105,8 @@ played-in g a b c = go (leb a 50) (leb b 50) refl refl
 
     go : (s t : Bool) → leb a 50 ≡ s → leb b 50 ≡ t → playOf g (move (squareIn a) (squareIn b) c) ≡ playOf g (move a b c)
     go true true e f = ap₂ (λ (x y : ℕ). playOf g (move x y c)) (in-low a e) (in-low b f)
-    go false t e f = off (off-from (squareIn a) (squareIn b) c (in-high a e)) (off-from a b c (high a e))
-    go true false e f = off (off-to (squareIn a) (squareIn b) c (in-high b f)) (off-to a b c (high b f))
+    go false t e f = off (off-from (squareIn a) (squareIn b) c (in-high a e)) (off-from a b c (high-square a e))
+    go true false e f = off (off-to (squareIn a) (squareIn b) c (in-high b f)) (off-to a b c (high-square b f))
 
 -- ---- an answer's number fits a byte
 

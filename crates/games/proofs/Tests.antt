@@ -22,8 +22,9 @@ use Rattle.positions.specs.Acceptance.{Accepted}
 use Rattle.positions.specs.Boards.{Board, colored, menOf, kingsOf}
 use Rattle.positions.specs.Moves.{squaresOf}
 use Rattle.positions.specs.declared.moves.Move.{Move}
+use Rattle.positions.proofs.Records.{on-board-is}
 use Rattle.rules.specs.Ordered.{legal}
-use Rattle.movegen.proofs.Plies.{on-board-is, none-open}
+use Rattle.movegen.proofs.Plies.{none-open}
 use Rattle.games.specs.Book as book
 use Rattle.games.specs.Book.{against, threePieces, twoPieces, firstToHold, testsAt, numbersSquare, onTheBoard}
 use Rattle.games.specs.Demand3.{toldAs}

@@ -15,9 +15,9 @@ use Rattle.positions.specs.Acceptance.{sound}
 use Rattle.positions.specs.Boards.{Board}
 use Rattle.positions.specs.declared.position.Position.{Position}
 use Rattle.rules.specs.Lists.{times}
+use Rattle.rules.proofs.Times.{times-append, times-one}
 use Rattle.games.specs.Games.{blankPosition, windowOf, lastOf, allSound, samePosition, canMove, won, drawn, kingEnding, judge, ended}
 use Rattle.games.specs.declared.game.Game.{Game}
-use Rattle.games.proofs.Lower.{times-append, times-one}
 use Rattle.games.proofs.Valid.{Valid, sound-append, sound-one}
 use Rattle.games.specs.declared.game.Termination.the-variants.{Repetition, TwentyFiveMoves}
 

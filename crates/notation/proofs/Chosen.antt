@@ -1,9 +1,9 @@
 -- What a move's text says fits that move and no other: the form in which a round trip needs it.
 use mathlib.Core.Path.{_≡_, refl, sym, ap, ap₂, _∙_}
-use Prim.Native.Nat.{ℕ, _+_, _<_, _≤_}
+use Prim.Native.Nat.{ℕ, _<_, _≤_}
 use native.Mathlib.Omega.{arith}
 use mathlib.Core.Bool.{Bool, true, false, cond, _&&_, not, Bool·beq, true≢false, false≢true}
-use mathlib.Core.List.{List, [], _∷_, List·Memᴰ as Member, List·Memᴰ·head as head, List·Memᴰ·tail as tail}
+use mathlib.Core.List.{List, [], _∷_}
 use lib.ListN.{length}
 use lib.Dec.{eqb, ltb}
 use borrow.Author.Tests.{eqb-true, le-leb, ltb-false}
@@ -14,9 +14,10 @@ use Rattle.positions.specs.declared.moves.Move.{Move}
 use Rattle.positions.specs.declared.position.Position.{Position}
 use Rattle.rules.specs.Lists.{keep, times}
 use Rattle.rules.specs.Ordered.{legal, listed}
-use Rattle.rules.proofs.Lists.{keep-yes, keep-no}
+use Rattle.rules.proofs.Lists.{keep-ext}
 use Rattle.rules.proofs.Laws.{listed-once}
 use Rattle.rules.proofs.Same.{same-true}
+use Rattle.rules.proofs.Times.{isIt, kept-one}
 use Rattle.movegen.proofs.Listed.{fair-of}
 use Rattle.notation.specs.Notation.{readMoveOf}
 use Rattle.notation.specs.Choice.{begins, asHub, byEnds, orElse, fitting, only, fitOf, parseMoveOf}
@@ -33,39 +34,6 @@ pub record Says (h : Said) (m : Move) : Type 0 where
   pub many : isCapture m ≡ true → 2 < h .count
   pub last : isCapture m ≡ false → h .last ≡ m .to
 
--- ---- lists
-pub keep-ext : (p q : Move → Bool) (l : List Move) → ((x : Move) → Member x l → p x ≡ q x) → keep p l ≡ keep q l
-unfolding keep
-keep-ext p q [] h = refl
-keep-ext p q (x ∷ l) h = go (q x) refl (keep-ext p q l (λ y m. h y (tail m)))
-  where
-    go : (t : Bool) → q x ≡ t → keep p l ≡ keep q l → keep p (x ∷ l) ≡ keep q (x ∷ l)
-    go true e ih = keep-yes p x l (h x (head refl) ∙ e) ∙ ap (λ (k : List Move). x ∷ k) ih ∙ sym (keep-yes q x l e)
-    go false e ih = keep-no p x l (h x (head refl) ∙ e) ∙ ih ∙ sym (keep-no q x l e)
-
--- the entries that are m
-module _ (m : Move) where
-  unfoldable pub is-it : Move → Bool
-  is-it x = same x m
-
-  kept-none : (l : List Move) → times same l m ≡ 0 → keep is-it l ≡ []
-  unfolding times keep is-it
-  kept-none [] h = refl
-  kept-none (y ∷ l) h = go (same y m) refl (kept-none l) h
-    where
-      go : (t : Bool) → same y m ≡ t → (times same l m ≡ 0 → keep is-it l ≡ []) → cond t 1 0 + times same l m ≡ 0 → keep is-it (y ∷ l) ≡ []
-      go true e ih k = absurd (omega arith)
-      go false e ih k = keep-no is-it y l e ∙ ih (omega (arith, k))
-
-  pub kept-one : (l : List Move) → times same l m ≡ 1 → keep is-it l ≡ m ∷ []
-  unfolding times keep is-it
-  kept-one [] h = absurd (omega arith)
-  kept-one (y ∷ l) h = go (same y m) refl (kept-one l) h
-    where
-      go : (t : Bool) → same y m ≡ t → (times same l m ≡ 1 → keep is-it l ≡ m ∷ []) → cond t 1 0 + times same l m ≡ 1 → keep is-it (y ∷ l) ≡ m ∷ []
-      go true e ih k = keep-yes is-it y l e ∙ ap₂ (λ (x : Move) (r : List Move). x ∷ r) (same-true y m e) (kept-none l (omega arith))
-      go false e ih k = keep-no is-it y l e ∙ ih (omega (arith, k))
-
 -- ---- what fits is m
 beq-same : (x : Bool) → Bool·beq x x ≡ true
 beq-same true = refl
@@ -76,8 +44,8 @@ module _ (h : Said) (m : Move) (s : Says h m) where
   unfolding begins
   begins-is x = ap₂ (λ (n : ℕ) (t : Bool). eqb (x .from) n && Bool·beq (isCapture x) t) (s .first) (s .kind)
 
-  hub-same : (x : Move) → asHub h x ≡ is-it m x
-  unfolding asHub is-it same isCapture
+  hub-same : (x : Move) → asHub h x ≡ isIt same m x
+  unfolding asHub isIt same isCapture
   hub-same x =
       ap₂ (λ (t : Bool) (u : Bool). t && u) (begins-is x) (ap₂ (λ (n k : ℕ). eqb (x .to) n && eqb (x .captured) k) (s .second) (s .set))
       ∙ go (eqb (x .from) (m .from)) (eqb (x .to) (m .to)) (eqb (x .captured) (m .captured)) refl
@@ -98,8 +66,8 @@ module _ (h : Said) (m : Move) (s : Says h m) where
       go true b c e = four kind b c (λ q. is-kind (e ∙ q))
       go false b c e = refl
 
-  quiet-same : isCapture m ≡ false → (x : Move) → byEnds h x ≡ is-it m x
-  unfolding byEnds is-it same isCapture
+  quiet-same : isCapture m ≡ false → (x : Move) → byEnds h x ≡ isIt same m x
+  unfolding byEnds isIt same isCapture
   quiet-same z x =
       ap₂ (λ (t : Bool) (n : ℕ). t && eqb (x .to) n) (begins-is x ∙ ap (λ (t : Bool). eqb (x .from) (m .from) && Bool·beq (isCapture x) t) z) (s .last z)
       ∙ three (eqb (x .from) (m .from)) (eqb (x .captured) 0) (eqb (x .to) (m .to))
@@ -125,7 +93,7 @@ module _ (h : Said) (m : Move) (s : Says h m) where
   chosen-back l e = go (ltb 2 (h .count)) refl
     where
       hub : keep (asHub h) l ≡ m ∷ []
-      hub = keep-ext (asHub h) (is-it m) l (λ x k. hub-same x) ∙ kept-one m l e
+      hub = keep-ext (asHub h) (isIt same m) l (λ x k. hub-same x) ∙ kept-one same m (λ y. same-true y m) l e
 
       -- two squares only: not a capture
       quiet : ltb 2 (h .count) ≡ false → isCapture m ≡ false
@@ -137,7 +105,7 @@ module _ (h : Said) (m : Move) (s : Says h m) where
 
       go : (t : Bool) → ltb 2 (h .count) ≡ t → cond t (orElse (keep (asHub h) l) (keep (byEnds h) l)) (keep (byEnds h) l) ≡ m ∷ []
       go true f = ap (λ (k : List Move). orElse k (keep (byEnds h) l)) hub
-      go false f = keep-ext (byEnds h) (is-it m) l (λ x k. quiet-same (quiet f) x) ∙ kept-one m l e
+      go false f = keep-ext (byEnds h) (isIt same m) l (λ x k. quiet-same (quiet f) x) ∙ kept-one same m (λ y. same-true y m) l e
 
   -- on a position: what was read of a listed move is answered with that move
   pub fit-back : (p : Position) → sound p ≡ true → length (legal (boardOf p)) ≤ 256 → listed (legal (boardOf p)) m ≡ true → fitOf p h ≡ found.Move m

@@ -3,8 +3,7 @@ use mathlib.Core.Path.{_≡_, refl, ap, _∙_}
 use Prim.Native.Nat.{ℕ, _≤_, _<_}
 use native.Mathlib.Omega.{arith}
 use mathlib.Core.Bool.{Bool, true, false, cond}
-use mathlib.Core.List.{List, [], _∷_, List·Memᴰ as Member, List·Memᴰ·head as head, List·Memᴰ·tail as tail, List·Memᴰ·cases-cons as cases-cons, List·Memᴰ·not-nil as not-nil}
-use mathlib.Core.Logic.{_⊎_, inl, inr}
+use mathlib.Core.List.{List, [], _∷_, List·Memᴰ·head as head, List·Memᴰ·not-nil as not-nil}
 use lib.ListN.{length}
 use lib.Dec.{leb, ltb}
 use borrow.Author.Tests.{leb-true, le-leb, ltb-true, ltb-false, lt-ltb}
@@ -18,11 +17,11 @@ use Rattle.positions.specs.declared.position.Position.{Position}
 use Rattle.rules.specs.Lists.{keep, times}
 use Rattle.rules.specs.Ordered.{legal, listed}
 use Rattle.rules.specs.Rules.{Legal}
-use Rattle.rules.proofs.Lists.{keep-no, in-keep, of-keep}
+use Rattle.rules.proofs.Lists.{in-keep, of-keep, keep-none, keep-ext, in-one}
 use Rattle.rules.proofs.Laws.{listed-legal, listed-once}
 use Rattle.rules.proofs.Same.{same-refl, same-true, listed-member}
+use Rattle.rules.proofs.Times.{isIt, kept-one}
 use Rattle.movegen.proofs.Listed.{fair-of}
-use Rattle.notation.proofs.Chosen.{keep-ext, is-it, kept-one}
 use Rattle.notation.specs.Choice.{asHub, byEnds, orElse, fitting, only, fitOf, fitHeard, parseMoveOf}
 use Rattle.notation.specs.Notation.{readMoveOf}
 use Rattle.notation.specs.declared.notation.Said.{Said}
@@ -56,18 +55,11 @@ of-one [] m e = absurd (let z : _≡_ {A = ℕ} 0 1 = cc in omega arith)
 of-one (x ∷ []) m e = ap (λ (y : Move). y ∷ []) (let z : x ≡ m = cc in z)
 of-one (x ∷ (y ∷ l)) m e = absurd (let z : _≡_ {A = ℕ} 0 1 = cc in omega arith)
 
-one-member : {m n : Move} → Member n (m ∷ []) → n ≡ m
-one-member {m} {n} k = go (cases-cons k)
-  where
-    go : (n ≡ m) ⊎ Member n [] → n ≡ m
-    go (inl e) = e
-    go (inr h) = absurd (not-nil h)
-
 alone : (p : Move → Bool) (l : List Move) (m : Move) → keep p l ≡ m ∷ [] → Alone p l m
 alone p l m e =
     record {
       fits = of-keep p l {x = m} (rw e (head refl)) .1;
-      only = λ n k q. one-member (rw e at (in-keep p (listed-member l n .0 k) q));
+      only = λ n k q. in-one (rw e at (in-keep p (listed-member l n .0 k) q));
     }
 
 alone-listed : (p : Move → Bool) (l : List Move) (m : Move) → keep p l ≡ m ∷ [] → listed l m ≡ true
@@ -91,16 +83,11 @@ module _ (h : Said) (l : List Move) (m : Move) where
 
 -- ---- and back: where that is so of a list without doubles, it is answered
 kept-alone : (p : Move → Bool) (l : List Move) (m : Move) → Alone p l m → times same l m ≡ 1 → keep p l ≡ m ∷ []
-unfolding is-it
+unfolding isIt
 kept-alone p l m a e =
-    keep-ext p (is-it m) l
+    keep-ext p (isIt same m) l
     (λ x k. bool-ext (p x) (same x m) (λ t. ap (λ (n : Move). same n m) (a .only x (listed-member l x .1 k) t) ∙ same-refl m) (λ t. ap p (same-true x m t) ∙ a .fits))
-    ∙ kept-one m l e
-
-kept-none : (p : Move → Bool) (l : List Move) → ((n : Move) → Member n l → p n ≡ false) → keep p l ≡ []
-unfolding keep
-kept-none p [] h = refl
-kept-none p (x ∷ l) h = keep-no p x l (h x (head refl)) ∙ kept-none p l (λ n k. h n (tail k))
+    ∙ kept-one same m (λ y. same-true y m) l e
 
 -- no move of the list fits as Hub
 hubless : Said → List Move → Type 0
@@ -114,7 +101,7 @@ by-ends h l none = go (ltb 2 (h .count)) refl
     go : (t : Bool) → ltb 2 (h .count) ≡ t → cond t (orElse (keep (asHub h) l) (keep (byEnds h) l)) (keep (byEnds h) l) ≡ keep (byEnds h) l
     go true c =
         ap (λ (k : List Move). orElse k (keep (byEnds h) l))
-        (kept-none (asHub h) l (λ n k. none (ltb-true 2 (h .count) c) n (listed-member l n .1 k)))
+        (keep-none (asHub h) l (λ n k. none (ltb-true 2 (h .count) c) n (listed-member l n .1 k)))
     go false c = refl
 
 pub means-fitting : (h : Said) (l : List Move) (m : Move) → Means h l m → times same l m ≡ 1 → fitting h l ≡ m ∷ []
@@ -191,7 +178,7 @@ pub unfit-answer : (p : Position) (h : Said) → Unfit p h → fitOf p h ≡ fou
 unfolding fitOf only hubless
 unfit-answer p h f =
     rw (f .accepted, le-leb _ 256 (f .few))
-    (ap only (by-ends h (legal (boardOf p)) (f .notHub) ∙ kept-none (byEnds h) (legal (boardOf p)) (λ n k. f .notEnds n (listed-member (legal (boardOf p)) n .1 k))))
+    (ap only (by-ends h (legal (boardOf p)) (f .notHub) ∙ keep-none (byEnds h) (legal (boardOf p)) (λ n k. f .notEnds n (listed-member (legal (boardOf p)) n .1 k))))
 
 -- a text that is answered with a move says something, and that means the move
 pub parse-says : (p : Position) (text : List ℕ) (m : Move) → parseMoveOf p text ≡ found.Move m → (h : Said) × (readMoveOf text ≡ heard.Said h) × Fitted p h m

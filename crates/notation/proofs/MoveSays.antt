@@ -1,8 +1,8 @@
 -- Reading a move's text says the move: the squares come apart at the separator, and the taken squares give the set.
 use Prim.Native.Nat.{ℕ, suc, _+_, _^_, _<_, _≤_}
 use mathlib.Core.Path.{_≡_, refl, sym, ap, ap₂, _∙_}
-use mathlib.Core.List.{List, [], _∷_, _++_, map}
-use mathlib.Core.Bool.{Bool, true, false, cond, _&&_, _||_, not, true≢false, false≢true}
+use mathlib.Core.List.{List, [], _∷_, map}
+use mathlib.Core.Bool.{Bool, true, false, cond, not, true≢false, false≢true}
 use native.Mathlib.Omega.{arith}
 use native.Mathlib.Nat.{add-zero}
 use lib.Bits.{bitOr}
@@ -16,57 +16,28 @@ use Rattle.squares.proofs.Members.{members-cons, members-none}
 use Rattle.squares.proofs.Numbers.{bit-square, bit-back, single-is}
 use Rattle.positions.specs.Moves.{isCapture, squaresOf}
 use Rattle.positions.specs.declared.moves.Move.{Move}
-use Rattle.texts.specs.Bytes.{readable, blank, is, splitOn, joined, digits}
-use Rattle.texts.proofs.ListLaws.{each, each-map, each-imp, lacks, lacks-joined, trim-lacks, split-joined}
+use Rattle.positions.proofs.Records.{OnBoard, on-board}
+use Rattle.texts.specs.Bytes.{readable, blank, is, holds, splitOn, joined, digits}
+use Rattle.texts.proofs.ListLaws.{each, each-map, each-imp, lacks, lacks-joined, lacks-or, holds-lacks, holds-in, trim-lacks, split-joined}
 use Rattle.texts.proofs.Clean.{high, Reader, blanks, dash, cross, above, lacks-of, digits-law, ascii-lacks}
 use Rattle.texts.proofs.Marks.{marks, always, put-members, each-members}
 use Rattle.notation.specs.MoveText.{separatorOf, named, moveText}
-use Rattle.notation.specs.Notation.{holds, atCut, unsaid, heardSquare, heardSquares, wellFormed, heardTrimmed, readMoveOf}
+use Rattle.notation.specs.Notation.{atCut, unsaid, heardSquare, heardSquares, wellFormed, heardTrimmed, readMoveOf}
 use Rattle.notation.specs.declared.notation.Said.{Said}
 use Rattle.notation.specs.declared.notation.Heard.the-variants as heard
 use Rattle.notation.proofs.Chosen.{Says}
-use Rattle.notation.proofs.MoveTexts.{OnBoard, on-board, move-short}
-
--- ---- a byte held
-not-both : (x y : Bool) → (x || not y) ≡ not (not x && y)
-not-both true y = refl
-not-both false y = refl
-
-holds-lacks : (c : ℕ) (s : List ℕ) → holds c s ≡ not (lacks (is c) s)
-unfolding holds lacks is
-holds-lacks c [] = refl
-holds-lacks c (b ∷ s) = ap (λ (x : Bool). eqb b c || x) (holds-lacks c s) ∙ not-both (eqb b c) (lacks (is c) s)
-
-holds-in : (c : ℕ) (f s : List ℕ) → holds c (f ++ c ∷ s) ≡ true
-unfolding holds
-holds-in c [] s = ap (λ (x : Bool). x || holds c s) (eq-eqb c c refl)
-holds-in c (b ∷ f) s = go (eqb b c) (holds-in c f s)
-  where
-    go : (x : Bool) → holds c (f ++ c ∷ s) ≡ true → (x || holds c (f ++ c ∷ s)) ≡ true
-    go true h = refl
-    go false h = h
-
--- what neither p nor q takes
-neither : (x y : Bool) → not x ≡ true → not y ≡ true → not (x || y) ≡ true
-neither true y h k = h
-neither false y h k = k
-
-lacks-cut : (s : List ℕ) → lacks (is 45) s ≡ true → lacks (is 120) s ≡ true → lacks atCut s ≡ true
-unfolding lacks atCut
-lacks-cut [] h k = refl
-lacks-cut (b ∷ s) h k =
-    and-both (not (is 45 b || is 120 b)) _ (neither (is 45 b) (is 120 b) (and-left (not (is 45 b)) _ h) (and-left (not (is 120 b)) _ k))
-    (lacks-cut s (and-right (not (is 45 b)) _ h) (and-right (not (is 120 b)) _ k))
+use Rattle.notation.proofs.MoveTexts.{move-short}
 
 -- ---- the parts of the text
 parts-lack : {p : ℕ → Bool} → Reader p → (l : List ℕ) → each isSquare l ≡ true → each (lacks p) (map digits l) ≡ true
 parts-lack {p} r l h = each-map digits (lacks p) l (each-imp isSquare (λ (n : ℕ). lacks p (digits n)) (λ n e. lacks-of r (digits n) (digits-law n e .clean)) l h)
 
 parts-uncut : (l : List ℕ) → each isSquare l ≡ true → each (lacks atCut) (map digits l) ≡ true
+unfolding atCut
 parts-uncut l h =
     each-map digits (lacks atCut) l
     (each-imp isSquare (λ (n : ℕ). lacks atCut (digits n))
-    (λ n e. let d = digits-law n e .clean in lacks-cut (digits n) (lacks-of dash (digits n) d) (lacks-of cross (digits n) d)) l h)
+    (λ n e. let d = digits-law n e .clean in lacks-or (is 45) (is 120) (digits n) (lacks-of dash (digits n) d) (lacks-of cross (digits n) d)) l h)
 
 -- ---- the squares read
 saidAll : Said → List ℕ → Said

@@ -8,43 +8,19 @@ use lib.Bits.{bitAnd}
 use lib.Dec.{eqb, ltb}
 use lib.ListN.{length, length-append, length-map}
 use borrow.Author.Tests.{eqb-true}
-use Rattle.squares.specs.Sets.{has, size, members, lowest}
-use Rattle.squares.specs.Squares.{isSquare, squareAtBit, onBoard, all}
-use Rattle.squares.specs.Computed as squares
-use Rattle.squares.proofs.Bools.{and-left, and-right}
+use Rattle.squares.specs.Sets.{members, lowest}
+use Rattle.squares.specs.Squares.{squareAtBit}
 use Rattle.squares.proofs.Lengths.{members-length}
 use Rattle.squares.proofs.Members.{members-cons, members-none}
-use Rattle.squares.proofs.Numbers.{all-lt64, has-all, square-range}
-use Rattle.squares.proofs.Sizes.{size-le}
-use Rattle.positions.specs.Acceptance.{squaresOnly}
+use Rattle.squares.proofs.Sizes.{size-squares}
 use Rattle.positions.specs.Moves.{isCapture, squaresOf}
 use Rattle.positions.specs.declared.moves.Move.{Move}
-use Rattle.positions.proofs.Accepts.{squares-say}
+use Rattle.positions.proofs.Records.{OnBoard, on-board}
 use Rattle.texts.specs.Bytes.{joined, digits}
 use Rattle.texts.specs.Lent.{noTextOf, pushOf, put}
 use Rattle.texts.specs.declared.bytes.Text.{Text}
 use Rattle.texts.proofs.Writers.{put-two, put-one, put-none}
 use Rattle.notation.specs.MoveText.{separatorOf, named, moveText, shortText, takenText}
-
--- ---- what the test of refusal 11 says
-pub record OnBoard (m : Move) : Type 0 where
-  pub from : isSquare (m .from) ≡ true
-  pub to : isSquare (m .to) ≡ true
-  pub fits : m .captured < 2 ^ 64
-  pub taken : (i : ℕ) → has (m .captured) i ≡ true → onBoard i ≡ true
-
-pub on-board : (m : Move) → squaresOf m ≡ true → OnBoard m
-unfolding squaresOf squaresOnly
-on-board m e =
-    let r = and-right (isSquare (m .from)) _ e in
-    let s = squares-say (m .captured) (and-right (isSquare (m .to)) _ r) in
-    record { from = and-left (isSquare (m .from)) _ e; to = and-left (isSquare (m .to)) _ r; fits = omega (arith, s .fits); taken = s .on }
-
-pub from-low : (m : Move) → squaresOf m ≡ true → m .from ≤ 50
-from-low m e = square-range (m .from) (on-board m e .from) .1
-
-pub to-low : (m : Move) → squaresOf m ≡ true → m .to ≤ 50
-to-low m e = square-range (m .to) (on-board m e .to) .1
 
 -- ---- the parts of the text
 pub put-short : (e t u r : Text) (m : Move) (x : ℕ) → e ≡ noTextOf → t ≡ put e (digits (m .from)) → x ≡ separatorOf m → u ≡ pushOf t x
@@ -120,19 +96,8 @@ joined-short c n [] = omega (arith, digits-short n)
 joined-short c n (k ∷ l) =
     omega (arith, digits-short n, joined-short c k l, length-append (digits n) (c ∷ joined c (map digits (k ∷ l))))
 
-fifty : size all ≡ 50
-unfolding squares.computed
-fifty = refl
-
 named-short : (m : Move) → OnBoard m → length (map squareAtBit (members (m .captured))) ≤ 50
-named-short m o =
-    omega (
-      arith,
-      length-map (members (m .captured)) squareAtBit,
-      members-length (m .captured),
-      size-le all (m .captured) all-lt64 (o .fits) (λ i l e. has-all i ∙ o .taken i e),
-      fifty,
-    )
+named-short m o = omega (arith, length-map (members (m .captured)) squareAtBit, members-length (m .captured), size-squares (m .captured) (o .fits) (o .taken))
 
 -- first, last and fifty taken squares
 pub move-short : (m : Move) → squaresOf m ≡ true → length (moveText m) ≤ 155

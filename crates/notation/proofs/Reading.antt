@@ -1,62 +1,31 @@
--- Reading a move's text: a byte is held where it is found; one separator is enough to split at; one square more a turn.
-use Prim.Native.Nat.{ℕ, suc, _+_, _-_, _≤_, _<_}
+-- Reading a move's text: one separator is enough to split at; one square more a turn.
+use Prim.Native.Nat.{ℕ, _+_, _-_, _≤_, _<_}
 use mathlib.Core.Path.{_≡_, refl, sym, ap, ap₂, _∙_}
 use mathlib.Core.List.{List, [], _∷_}
-use mathlib.Core.Bool.{Bool, true, false, cond, _&&_, _||_, not, false≢true}
-use native.Mathlib.Omega.{arith}
+use mathlib.Core.Bool.{Bool, true, false, cond, _&&_, _||_}
 use lib.ListN.{length, take, drop}
-use lib.Dec.{eqb, leb, ltb, leb·suc-suc}
+use lib.Dec.{eqb, leb}
 use lib.Bits.{bitOr}
-use borrow.Author.Tests.{eqb-true, eq-eqb, ne-eqb, lt-ltb, not-true}
-use Rattle.squares.proofs.Bools.{and-left, and-right}
+use borrow.Author.Tests.{eqb-true, eq-eqb, ne-eqb}
 use Rattle.squares.specs.Squares.{single}
 use Rattle.squares.specs.declared.square.Numbered.{Numbered}
 use Rattle.squares.specs.declared.square.Numbered.the-variants as numbered
-use Rattle.texts.specs.Bytes.{is, splitOn, consHead, readSquare, indexOf, partsFrom}
+use Rattle.texts.specs.Bytes.{is, holds, splitOn, readSquare, indexOf, partsFrom}
 use Rattle.texts.proofs.Cuts.{rest, parts-start, parts-step, parts-none}
-use Rattle.texts.proofs.ListLaws.{lacks}
-use Rattle.notation.specs.Notation.{holds, atCut, malformed, unsaid, asFirst, asSecond, asLater, heardSquare, onSquare, heardSquares, wellFormed, inForm, heardTrimmed}
+use Rattle.texts.proofs.ListLaws.{lacks-held, split-agree}
+use Rattle.notation.specs.Notation.{atCut, malformed, unsaid, asFirst, asSecond, asLater, heardSquare, onSquare, heardSquares, wellFormed, inForm, heardTrimmed}
 use Rattle.notation.specs.declared.notation.Said.{Said}
 use Rattle.notation.specs.declared.notation.Heard.{Heard}
 use Rattle.notation.specs.declared.notation.Heard.the-variants as heard
 
--- ---- a byte held
-pub holds-found : (c : ℕ) (s : List ℕ) → ltb (indexOf (is c) s) (length s) ≡ holds c s
-unfolding holds indexOf is
-holds-found c [] = refl
-holds-found c (b ∷ s) = go (eqb b c) (holds-found c s)
-  where
-    go : (t : Bool) → ltb (indexOf (is c) s) (length s) ≡ holds c s → ltb (cond t 0 (suc (indexOf (is c) s))) (suc (length s)) ≡ (t || holds c s)
-    go true e = lt-ltb 0 (suc (length s)) (omega arith)
-    go false e = leb·suc-suc (suc (indexOf (is c) s)) (length s) ∙ e
-
-pub lacks-held : (c : ℕ) (s : List ℕ) → holds c s ≡ false → lacks (is c) s ≡ true
-unfolding holds lacks is
-lacks-held c [] h = refl
-lacks-held c (b ∷ s) h = go (eqb b c) (lacks-held c s) h
-  where
-    go : (t : Bool) → (holds c s ≡ false → lacks (is c) s ≡ true) → (t || holds c s) ≡ false → (not t && lacks (is c) s) ≡ true
-    go true f e = absurd (false≢true (sym e))
-    go false f e = f e
-
--- ---- one separator is enough
-
--- two separators that agree on every byte of s
-split-agree : (p q r : ℕ → Bool) → ((b : ℕ) → r b ≡ false → p b ≡ q b) → (s : List ℕ) → lacks r s ≡ true → splitOn p s ≡ splitOn q s
-unfolding splitOn lacks
-split-agree p q r a [] h = refl
-split-agree p q r a (b ∷ s) h =
-    ap₂ (λ (t : Bool) (l : List (List ℕ)). cond t ([] ∷ l) (consHead b l)) (a b (not-true (r b) (and-left (not (r b)) _ h)))
-    (split-agree p q r a s (and-right (not (r b)) _ h))
-
-or-none : (x y : Bool) → y ≡ false → (x || y) ≡ x
-or-none true y e = refl
-or-none false y e = e
-
--- without an x, at -; without a -, at x
+-- ---- one separator is enough: without an x, at -; without a -, at x
 pub split-dash : (s : List ℕ) → holds 120 s ≡ false → splitOn atCut s ≡ splitOn (is 45) s
 unfolding atCut
-split-dash s h = split-agree atCut (is 45) (is 120) (λ b e. or-none (is 45 b) (is 120 b) e) s (lacks-held 120 s h)
+split-dash s h = split-agree atCut (is 45) (is 120) (λ b e. ap (λ (x : Bool). is 45 b || x) e ∙ or-none (is 45 b)) s (lacks-held 120 s h)
+  where
+    or-none : (x : Bool) → (x || false) ≡ x
+    or-none true = refl
+    or-none false = refl
 
 pub split-cross : (s : List ℕ) → holds 45 s ≡ false → splitOn atCut s ≡ splitOn (is 120) s
 unfolding atCut

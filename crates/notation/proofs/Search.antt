@@ -19,7 +19,7 @@ use Rattle.positions.specs.declared.position.Position.{Position}
 use Rattle.captures.specs.Lists.{entries, listOf}
 use Rattle.rules.specs.Lists.{keep}
 use Rattle.rules.specs.Ordered.{legal}
-use Rattle.rules.proofs.Lists.{keep-yes, keep-no}
+use Rattle.rules.proofs.Lists.{keep-snoc}
 use Rattle.capture_laws.proofs.Stored.{few-entries}
 use Rattle.movegen.specs.Lists.{refusedList, listedOf, legalMovesOf}
 use Rattle.movegen.specs.declared.movegen.Listed.{Listed}
@@ -36,26 +36,6 @@ unfolding choiceOf
 choice-snoc [] m = refl
 choice-snoc (x ∷ []) m = refl
 choice-snoc (x ∷ (y ∷ l)) m = refl
-
-keep-snoc : (p : Move → Bool) (l : List Move) (x : Move) → keep p (l ++ (x ∷ [])) ≡ cond (p x) (keep p l ++ (x ∷ [])) (keep p l)
-unfolding keep
-keep-snoc p [] x = go (p x) refl
-  where
-    go : (t : Bool) → p x ≡ t → keep p (x ∷ []) ≡ cond t (keep p [] ++ (x ∷ [])) (keep p [])
-    go true e = keep-yes p x [] e
-    go false e = keep-no p x [] e
-keep-snoc p (y ∷ l) x = go (p y) refl (keep-snoc p l x)
-  where
-    moved : (t : Bool) (k : List Move) → y ∷ cond t (k ++ (x ∷ [])) k ≡ cond t ((y ∷ k) ++ (x ∷ [])) (y ∷ k)
-    moved true k = refl
-    moved false k = refl
-
-    go : (t : Bool) → p y ≡ t → keep p (l ++ (x ∷ [])) ≡ cond (p x) (keep p l ++ (x ∷ [])) (keep p l)
-        → keep p (y ∷ (l ++ (x ∷ []))) ≡ cond (p x) (keep p (y ∷ l) ++ (x ∷ [])) (keep p (y ∷ l))
-    go true e ih =
-        keep-yes p y (l ++ (x ∷ [])) e ∙ ap (λ (k : List Move). y ∷ k) ih ∙ moved (p x) (keep p l)
-        ∙ sym (ap (λ (k : List Move). cond (p x) (k ++ (x ∷ [])) k) (keep-yes p y l e))
-    go false e ih = keep-no p y (l ++ (x ∷ [])) e ∙ ih ∙ sym (ap (λ (k : List Move). cond (p x) (k ++ (x ∷ [])) k) (keep-no p y l e))
 
 choice-cond : (t : Bool) (l : List Move) (m : Move) → choiceOf (cond t (l ++ (m ∷ [])) l) ≡ cond t (oneMore (choiceOf l) m) (choiceOf l)
 choice-cond true l m = choice-snoc l m

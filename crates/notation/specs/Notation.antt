@@ -3,22 +3,17 @@
 use Prim.Native.Nat.{ℕ, _+_}
 use Prim.Native.Char.{code}
 use mathlib.Core.List.{List, [], _∷_}
-use mathlib.Core.Bool.{Bool, false, cond, _&&_, _||_, not}
+use mathlib.Core.Bool.{Bool, cond, _&&_, _||_, not}
 use lib.Dec.{eqb, leb}
 use lib.Bits.{bitOr}
 use Rattle.squares.specs.Squares.{single}
 use Rattle.squares.specs.declared.square.Numbered.{Numbered}
 use Rattle.squares.specs.declared.square.Numbered.the-variants as numbered
 use Rattle.squares.specs.declared.refusal.Refusal.the-variants.{TextTooLong, BadMoveText}
-use Rattle.texts.specs.Bytes.{readable, blank, is, trim, splitOn, readSquare}
+use Rattle.texts.specs.Bytes.{readable, blank, is, holds, trim, splitOn, readSquare}
 use Rattle.notation.specs.declared.notation.Said.{Said}
 use Rattle.notation.specs.declared.notation.Heard.{Heard}
 use Rattle.notation.specs.declared.notation.Heard.the-variants as heard
-
--- whether c stands in s
-unfoldable pub holds : ℕ → List ℕ → Bool
-holds c [] = false
-holds c (b ∷ s) = eqb b c || holds c s
 
 -- what separates squares
 unfoldable pub atCut : ℕ → Bool

@@ -13,10 +13,10 @@ use texts::bytes;
 ghost use mathlib.Core.Path.{_≡_};
 ghost use mathlib.Core.Bool.{cond};
 ghost use Prim.Native.Nat.{_<_, _^_};
-ghost use Rattle.texts.specs.Bytes.{is, splitOn};
+ghost use Rattle.texts.specs.Bytes.{is, holds, splitOn};
 ghost use Rattle.captures.specs.Lists.{entries};
 ghost use Rattle.rules.specs.Lists.{keep};
-ghost use Rattle.notation.specs.Notation.{holds, unsaid, heardSquare, heardSquares, wellFormed, inForm, heardTrimmed, readMoveOf};
+ghost use Rattle.notation.specs.Notation.{unsaid, heardSquare, heardSquares, wellFormed, inForm, heardTrimmed, readMoveOf};
 ghost use Rattle.notation.specs.Choice.{begins, asHub, byEnds, fits, fitting, choiceOf, oneMore, answered, fitOf, parseMoveOf};
 
 // What a move's text says: the first, the second and the last square, how many were read, and the set of the third and later ones.

@@ -1,7 +1,7 @@
 -- Membership in a list made of lists, of images, of the entries that pass.
 use mathlib.Core.Path.{_≡_, refl, sym, ap, _∙_, subst}
-use mathlib.Core.Bool.{Bool, true, false, _||_, true≢false}
-use mathlib.Core.List.{List, [], _∷_, _++_, map, append-assoc, List·Memᴰ as Member, List·Memᴰ·head as head, List·Memᴰ·tail as tail, List·Memᴰ·not-nil as not-nil, Memᴰ·append-left as in-left, Memᴰ·append-right as in-right, List·Memᴰ·append-cases as in-cases}
+use mathlib.Core.Bool.{Bool, true, false, cond, _||_, true≢false}
+use mathlib.Core.List.{List, [], _∷_, _++_, map, append-assoc, List·Memᴰ as Member, List·Memᴰ·head as head, List·Memᴰ·tail as tail, List·Memᴰ·not-nil as not-nil, List·Memᴰ·cases-cons as cases-cons, Memᴰ·append-left as in-left, Memᴰ·append-right as in-right, List·Memᴰ·append-cases as in-cases}
 use mathlib.Core.Logic.{_⊎_, inl, inr}
 use Rattle.rules.specs.Lists.{concatMap, keep, some}
 
@@ -100,3 +100,48 @@ module _ {A : Type 0} where
       go : (Member x (keep p xs) → Member x xs × (p x ≡ true)) → (b : Bool) → p z ≡ b → Member x (z ∷ xs) × (p x ≡ true)
       go ih true r = cases r ih (rw (keep-yes p z xs r) at m)
       go ih false r = let h = ih (rw (keep-no p z xs r) at m) in (tail (h .0), h .1)
+
+  -- where none passes, nothing is kept
+  pub keep-none : (p : A → Bool) (xs : List A) → ((x : A) → Member x xs → p x ≡ false) → keep p xs ≡ []
+  unfolding keep
+  keep-none p [] h = refl
+  keep-none p (x ∷ xs) h = keep-no p x xs (h x (head refl)) ∙ keep-none p xs (λ y m. h y (tail m))
+
+  -- two tests that agree on the entries
+  pub keep-ext : (p q : A → Bool) (xs : List A) → ((x : A) → Member x xs → p x ≡ q x) → keep p xs ≡ keep q xs
+  unfolding keep
+  keep-ext p q [] h = refl
+  keep-ext p q (x ∷ xs) h = go (q x) refl (keep-ext p q xs (λ y m. h y (tail m)))
+    where
+      go : (t : Bool) → q x ≡ t → keep p xs ≡ keep q xs → keep p (x ∷ xs) ≡ keep q (x ∷ xs)
+      go true e ih = keep-yes p x xs (h x (head refl) ∙ e) ∙ ap (λ (k : List A). x ∷ k) ih ∙ sym (keep-yes q x xs e)
+      go false e ih = keep-no p x xs (h x (head refl) ∙ e) ∙ ih ∙ sym (keep-no q x xs e)
+
+  -- one entry more at the end
+  pub keep-snoc : (p : A → Bool) (xs : List A) (x : A) → keep p (xs ++ (x ∷ [])) ≡ cond (p x) (keep p xs ++ (x ∷ [])) (keep p xs)
+  unfolding keep
+  keep-snoc p [] x = go (p x) refl
+    where
+      go : (t : Bool) → p x ≡ t → keep p (x ∷ []) ≡ cond t (keep p [] ++ (x ∷ [])) (keep p [])
+      go true e = keep-yes p x [] e
+      go false e = keep-no p x [] e
+  keep-snoc p (y ∷ xs) x = go (p y) refl (keep-snoc p xs x)
+    where
+      moved : (t : Bool) (k : List A) → y ∷ cond t (k ++ (x ∷ [])) k ≡ cond t ((y ∷ k) ++ (x ∷ [])) (y ∷ k)
+      moved true k = refl
+      moved false k = refl
+
+      go : (t : Bool) → p y ≡ t → keep p (xs ++ (x ∷ [])) ≡ cond (p x) (keep p xs ++ (x ∷ [])) (keep p xs)
+          → keep p (y ∷ (xs ++ (x ∷ []))) ≡ cond (p x) (keep p (y ∷ xs) ++ (x ∷ [])) (keep p (y ∷ xs))
+      go true e ih =
+          keep-yes p y (xs ++ (x ∷ [])) e ∙ ap (λ (k : List A). y ∷ k) ih ∙ moved (p x) (keep p xs)
+          ∙ sym (ap (λ (k : List A). cond (p x) (k ++ (x ∷ [])) k) (keep-yes p y xs e))
+      go false e ih = keep-no p y (xs ++ (x ∷ [])) e ∙ ih ∙ sym (ap (λ (k : List A). cond (p x) (k ++ (x ∷ [])) k) (keep-no p y xs e))
+
+-- ---- a list of one
+pub in-one : {A : Type 0} {x y : A} → Member y (x ∷ []) → y ≡ x
+in-one {A} {x} {y} m = go (cases-cons m)
+  where
+    go : (y ≡ x) ⊎ Member y [] → y ≡ x
+    go (inl e) = e
+    go (inr h) = absurd (not-nil h)

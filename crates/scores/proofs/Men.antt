@@ -1,5 +1,5 @@
 -- Of an accepted board: the pieces, men and kings of a colour stand on squares, at most 50 of them.
-use mathlib.Core.Path.{_≡_, refl, sym, _∙_}
+use mathlib.Core.Path.{_≡_, sym, _∙_}
 use Prim.Native.Nat.{ℕ, _+_, _≤_, _<_, _^_}
 use native.Mathlib.Nat.{lt-of-le-of-lt, sub-le}
 use native.Mathlib.Omega.{arith}
@@ -11,11 +11,10 @@ use Rattle.squares.specs.declared.piece.Color.{Color}
 use Rattle.squares.specs.declared.piece.Color.the-variants.{White, Black}
 use Rattle.squares.proofs.Bools.{and-left}
 use Rattle.squares.proofs.Pointwise.{has-and, has-without, none-within, member-lt, without-lt}
-use Rattle.squares.proofs.Sizes.{size-le, size-without}
+use Rattle.squares.proofs.Sizes.{size-without, size-squares}
 use Rattle.squares.proofs.Numbers.{all-lt64, has-all}
 use Rattle.positions.specs.Boards.{Board, colored, menOf, kingsOf}
 use Rattle.positions.specs.Acceptance.{Accepted}
-use Rattle.scores.specs.Computed.{computed}
 use Rattle.positions.proofs.Rotation.{Squares}
 
 pub wide : (s : ℕ) → Squares s → s < 2 ^ 64
@@ -24,13 +23,6 @@ wide s q = omega (arith, q .fits)
 pub and-all : (s : ℕ) → Squares s → bitAnd s all ≡ s
 unfolding without
 and-all s q = omega (arith, none-within s all (wide s q) all-lt64 (λ i l e. has-all i ∙ q .on i e), and-le-l s all)
-
-all-size : size all ≡ 50
-unfolding computed
-all-size = refl
-
-fifty : (s : ℕ) → Squares s → size s ≤ 50
-fifty s q = omega (arith, size-le all s all-lt64 (wide s q) (λ i l e. has-all i ∙ q .on i e), all-size)
 
 pub colored-squares : (c : Color) (b : Board) → Accepted b → Squares (colored c b)
 colored-squares White b a = record { fits = a .whiteFits; on = a .whiteOn }
@@ -61,4 +53,4 @@ module _ (c : Color) (b : Board) (a : Accepted b) where
   }
 
   pub men-kings : size (menOf c b) + size (kingsOf c b) ≤ 50
-  men-kings = omega (arith, size-without (colored c b) (b .kings) (wide (colored c b) on) marks, fifty (colored c b) on)
+  men-kings = omega (arith, size-without (colored c b) (b .kings) (wide (colored c b) on) marks, size-squares (colored c b) (wide (colored c b) on) (on .on))

@@ -2,6 +2,7 @@ pub mod Bools
 pub mod Below
 pub mod Pointwise
 pub mod Members
+pub mod Loops
 pub mod Folds
 pub mod Unions
 pub mod Sizes

@@ -2,7 +2,7 @@
 use mathlib.Core.Path.{_≡_, refl, sym, ap, _∙_}
 use Prim.Native.Nat.{ℕ, zero, _+_, _-_, _*_, _/_, _%_, _^_, _≤_, _<_}
 use native.Mathlib.Omega.{arith}
-use mathlib.Core.Bool.{Bool, true, false, not, _&&_, cond}
+use mathlib.Core.Bool.{Bool, true, false, not, _&&_, cond, and-false}
 use lib.Dec.{eqb, leb, ltb, lit<}
 use borrow.Author.Tests.{eqb-true, leb-true, ltb-true, le-ltb, le-leb}
 use lib.Bits.{bitAnd, and-comm, and-zero-r}
@@ -95,6 +95,11 @@ square-range n e = (leb-true 1 n (and-left _ _ e), leb-true n 50 (and-right (leb
 pub range-square : (n : ℕ) → 0 < n → n ≤ 50 → isSquare n ≡ true
 unfolding isSquare
 range-square n h l = and-both _ _ (le-leb 1 n h) (le-leb n 50 l)
+
+-- a number above 50 is none
+pub high-square : (n : ℕ) → leb n 50 ≡ false → isSquare n ≡ false
+unfolding isSquare
+high-square n e = rw e (and-false (leb 1 n))
 
 of-square : (n : ℕ) → Bool
 of-square n = imp (isSquare n) ((onBoard (bitOf n) && eqb (squareAtBit (bitOf n)) n) && (eqb (rowOf (bitOf n)) ((n - 1) / 5) && eqb (fileOf (bitOf n)) (2 * ((n - 1) % 5) + (1 - (n - 1) / 5 % 2))))

@@ -10,9 +10,12 @@ use lib.Bits.{bitAnd, bitOr, and-comm}
 use lib.Count.{ones, onesIn, ones-step}
 use Rattle.squares.specs.Sets.{has, size, without, lowest}
 use Rattle.squares.specs.Folds.{foldTo, over, sumOver}
+use Rattle.squares.specs.Squares.{all, onBoard}
+use Rattle.squares.specs.Computed.{computed}
 use Rattle.squares.proofs.Bools.{at2, tested}
 use Rattle.squares.proofs.Pointwise.{half-lt, has-low, has-half, has-or, has-without, without-lt, none-zero, member-lt}
 use Rattle.squares.proofs.Members.{lowest-in, lowest-lt}
+use Rattle.squares.proofs.Numbers.{all-lt64, has-all}
 use Rattle.squares.proofs.Folds.{Parts, parts, fold-first, parts-apart, parts-split, parts-within, parts-add, parts-remove, bitIf, sum-parts, sum-none, sum-bitIf}
 
 -- the language's count of ones, on a word of k bits
@@ -119,3 +122,11 @@ in-le (suc k) s = omega (arith, in-le k (s / 2), mod-lt s Rattle·squares·proof
 pub size-most : (s : ℕ) → size s ≤ 64
 unfolding size
 size-most s = in-le 64 s
+
+-- ---- the board has 50 squares, and a set of squares no more
+size-all : size all ≡ 50
+unfolding computed
+size-all = refl
+
+pub size-squares : (s : ℕ) → s < 2 ^ 64 → ((i : ℕ) → has s i ≡ true → onBoard i ≡ true) → size s ≤ 50
+size-squares s h f = omega (arith, size-le all s all-lt64 h (λ i l e. has-all i ∙ f i e), size-all)

@@ -2,15 +2,15 @@
 use Prim.Native.Nat.{ℕ, suc, _+_, _-_, _≤_, _<_}
 use mathlib.Core.Path.{_≡_, refl, ap, sym, _∙_}
 use mathlib.Core.List.{List, [], _∷_, _++_}
-use mathlib.Core.Bool.{Bool, true, false, cond}
+use mathlib.Core.Bool.{Bool, true, false, cond, _||_}
 use native.Mathlib.Omega.{arith}
 use native.Mathlib.Numerals.{add-one}
 use native.Mathlib.Nat.{add-assoc}
 use lib.ListN.{length, take, drop, getD, length-drop, drop-of-length-le}
 use lib.Seq.{drop-cons, take-suc, take-all, drop-drop}
-use lib.Dec.{leb, eqb, leb·suc-suc}
-use borrow.Author.Tests.{le-leb, lt-leb, eq-eqb, ne-eqb, leb-true, leb-false}
-use Rattle.texts.specs.Bytes.{ascii, is, trimStart, keepEnd, trimEnd, consHead, splitOn, upTo, behindOr, behind, startsWith, strip, indexOf, partsFrom}
+use lib.Dec.{leb, ltb, eqb, leb·suc-suc}
+use borrow.Author.Tests.{le-leb, lt-leb, lt-ltb, eq-eqb, ne-eqb, leb-true, leb-false}
+use Rattle.texts.specs.Bytes.{ascii, is, holds, trimStart, keepEnd, trimEnd, consHead, splitOn, upTo, behindOr, behind, startsWith, strip, indexOf, partsFrom}
 
 -- one more element at i + 1
 pub drop-next : (s : List ℕ) (i : ℕ) → i < length s → drop i s ≡ getD s i 0 ∷ drop (i + 1) s
@@ -82,6 +82,25 @@ find-miss c s i h e = rw (drop-next s i h, ne-eqb _ _ e)
 pub find-end : (p : ℕ → Bool) (s : List ℕ) (i : ℕ) → length s ≤ i → indexOf p (drop i s) ≡ 0
 unfolding indexOf
 find-end p s i h = rw (drop-of-length-le s h)
+
+pub index-le : (p : ℕ → Bool) (s : List ℕ) → indexOf p s ≤ length s
+unfolding indexOf
+index-le p [] = omega arith
+index-le p (b ∷ s) = go (p b) (index-le p s)
+  where
+    go : (t : Bool) → indexOf p s ≤ length s → cond t 0 (suc (indexOf p s)) ≤ suc (length s)
+    go true h = omega arith
+    go false h = omega arith
+
+-- a byte is held where it is found before the end
+pub holds-found : (c : ℕ) (s : List ℕ) → ltb (indexOf (is c) s) (length s) ≡ holds c s
+unfolding holds indexOf is
+holds-found c [] = refl
+holds-found c (b ∷ s) = go (eqb b c) (holds-found c s)
+  where
+    go : (t : Bool) → ltb (indexOf (is c) s) (length s) ≡ holds c s → ltb (cond t 0 (suc (indexOf (is c) s))) (suc (length s)) ≡ (t || holds c s)
+    go true e = lt-ltb 0 (suc (length s)) (omega arith)
+    go false e = leb·suc-suc (suc (indexOf (is c) s)) (length s) ∙ e
 
 -- ---- before and behind
 pub up-to-is : (c : ℕ) (s : List ℕ) → upTo c s ≡ take (indexOf (is c) s) s

@@ -19,7 +19,7 @@ use Rattle.positions.specs.Boards.{Board}
 use Rattle.positions.specs.Acceptance.{Accepted}
 use Rattle.texts.specs.Bytes.{blank, is, trimStart, keepEnd, trimEnd, trim, splitOn, joined, upTo, behind, startsWith, strip, number, readSquare, digits}
 use Rattle.texts.specs.Parts.{added, withSquares, begun}
-use Rattle.texts.specs.Fen.{itemText, listText, fenText, fenColorOf, endOf, rangeOf, itemOf, itemsOf, fieldOf, fieldsOf, sideOf, fenFields, body, fenParts}
+use Rattle.texts.specs.Fen.{itemText, listText, fenText, fenColorOf, endOf, rangeOf, itemOf, readEach, itemsOf, fieldOf, fieldsOf, sideOf, fenFields, body, fenParts}
 use Rattle.texts.specs.declared.parts.Parts.{Parts}
 use Rattle.texts.specs.declared.parts.Reading.the-variants as reading
 use Rattle.texts.proofs.ListLaws.{each, each-map, each-imp, lacks, lacks-cons, lacks-joined, trim-lacks, trimEnd-lacks, split-joined}
@@ -98,7 +98,7 @@ bit-clean : (kings i : ℕ) → onBoard i ≡ true → lacks special (itemText k
 bit-clean kings i h = item-clean kings (squareAtBit i) (digits-law (squareAtBit i) (bit-square i h))
 
 items-law : (c : Color) (kings : ℕ) (l : List ℕ) (p : Parts) → each onBoard l ≡ true → itemsOf c p (texts kings l) ≡ reading.Parts (marked c kings l p)
-unfolding itemsOf each texts
+unfolding readEach each texts
 items-law c kings [] p h = ap reading.Parts (sym (marked-none c kings p))
 items-law c kings (i ∷ l) p h =
     let o = and-left (onBoard i) _ h in
@@ -119,7 +119,7 @@ is-comma = refl
 
 list-law : (c : Color) (kings : ℕ) (l : List ℕ) (p : Parts) → each onBoard l ≡ true
     → itemsOf c p (splitOn (is 44) (joined 44 (texts kings l))) ≡ reading.Parts (marked c kings l p)
-unfolding itemsOf splitOn joined itemOf trim trimStart trimEnd texts
+unfolding readEach splitOn joined itemOf trim trimStart trimEnd texts
 list-law c kings [] p h = ap reading.Parts (sym (marked-none c kings p))
 list-law c kings (i ∷ l) p h =
     ap (itemsOf c p) (split-joined (is 44) 44 is-comma (itemText kings (squareAtBit i)) (texts kings l) (items-lack comma kings (i ∷ l) h)) ∙ items-law c kings (i ∷ l) p h
@@ -191,7 +191,7 @@ module _ (b : Board) (a : Accepted b) where
 
   both-fields : (p : Parts) → fieldsOf p ((87 ∷ listText (b .kings) (b .white)) ∷ (66 ∷ listText (b .kings) (b .black)) ∷ [])
       ≡ reading.Parts (marked Black (b .kings) (members (b .black)) (marked White (b .kings) (members (b .white)) p))
-  unfolding fieldsOf
+  unfolding readEach
   both-fields p = rw (white-trim, white-field p, black-trim, black-field)
 
   board-back : marked Black (b .kings) (members (b .black)) (marked White (b .kings) (members (b .white)) (begun (b .side))) ≡ partsOf b

@@ -5,8 +5,8 @@ use mathlib.Core.List.{List, [], _∷_}
 use mathlib.Core.Bool.{Bool, true, _&&_}
 use native.Mathlib.Omega.{arith}
 use native.Mathlib.Numerals.{add-one}
-use lib.ListN.{length, take, drop, getD, drop-of-length-le}
-use lib.Seq.{drop-cons}
+use lib.ListN.{length, take, drop, getD, length-drop, drop-of-length-le}
+use lib.Seq.{drop-cons, length-take-le}
 use lib.Dec.{eqb, leb}
 use lib.Bits.{bitOr}
 use borrow.Author.Tests.{eqb-true, le-leb}
@@ -14,19 +14,20 @@ use Rattle.squares.specs.Squares.{isSquare, bitOf, run, single}
 use Rattle.squares.specs.Pieces.{colorFromCharOf}
 use Rattle.squares.specs.declared.piece.Color.{Color}
 use Rattle.squares.specs.declared.piece.Sided.{Sided}
+use Rattle.squares.specs.declared.refusal.Refusal.{Refusal}
 use Rattle.squares.specs.declared.refusal.Refusal.the-variants.{NoSide, NoColor, NotFifty}
 use Rattle.squares.specs.declared.square.Numbered.{Numbered}
 use Rattle.squares.proofs.Bools.{imp, imp-elim, and-both}
 use Rattle.squares.proofs.Below.{below, below-at}
 use Rattle.squares.proofs.Numbers.{range-square}
-use Rattle.texts.specs.Bytes.{blank, is, trim, splitOn, startsWith, strip, indexOf, partsFrom}
+use Rattle.texts.specs.Bytes.{blank, is, trim, splitOn, upTo, startsWith, strip, indexOf, partsFrom}
 use Rattle.texts.specs.Parts.{begun, andThen, OnSquare}
-use Rattle.texts.specs.Fen.{fenColorOf, onColor, endOf, rangeOf, itemOf, itemsOf, fieldOf, fieldsOf, sideOf, fenFields, body, fenParts}
+use Rattle.texts.specs.Fen.{fenColorOf, onColor, endOf, rangeOf, itemOf, readEach, itemsOf, fieldOf, fieldsOf, sideOf, fenFields, body, fenParts}
 use Rattle.texts.specs.Hub.{hubByteOf, hubFrom, hubParts}
 use Rattle.texts.specs.declared.parts.Parts.{Parts}
 use Rattle.texts.specs.declared.parts.Reading.{Reading}
 use Rattle.texts.specs.declared.parts.Reading.the-variants as reading
-use Rattle.texts.proofs.Cuts.{first-at, rest, split-step, parts-step, parts-none}
+use Rattle.texts.proofs.Cuts.{first-at, rest, up-to-is, index-le, split-step, parts-step, parts-none}
 use Rattle.texts.proofs.SquareTexts.{read-on-square}
 
 -- ---- a run of squares, one more at its end
@@ -56,37 +57,47 @@ pub end-on-square : (p : Numbered) (s : List ℕ) → p ≡ endOf s → OnSquare
 unfolding endOf
 end-on-square p s e = rw e (read-on-square _)
 
--- one item more: r is where the next comma stands, f the trimmed item, a what it answers
-pub items-turn : (c : Color) (s : List ℕ) (at r : ℕ) (p : Parts) (f : List ℕ) (a : Reading) → at ≤ length s
-    → r ≡ indexOf (is 44) (take (length s - at) (drop at s))
-    → f ≡ trim blank (take r (take (length s - at) (drop at s)))
-    → a ≡ itemOf c p f
-    → itemsOf c p (partsFrom (is 44) s at) ≡ andThen a (λ q. itemsOf c q (partsFrom (is 44) s (at + r + 1)))
-unfolding itemsOf
-items-turn c s at r p f a h e g q =
-    let e′ : r ≡ indexOf (is 44) (drop at s) = rw (rest s at) at e in
-    let g′ : f ≡ trim blank (take r (drop at s)) = rw (rest s at) at g in
-    rw (parts-step (is 44) s at h, ← e′, ← g′, ← q)
+-- the parts of s between bytes c, each read by `read`, from the place `at` on
+module _ (read : Parts → List ℕ → Reading) (c : ℕ) (s : List ℕ) where
+  -- what the whole answers, by what was read before the place and what is left
+  pub record Left (whole : Reading) (p : Parts) (at : ℕ) : Type 0 where
+    pub within : at ≤ length s + 1
+    pub answer : whole ≡ readEach read p (partsFrom (is c) s at)
 
-pub items-end : (c : Color) (s : List ℕ) (at : ℕ) (p : Parts) → length s < at → itemsOf c p (partsFrom (is 44) s at) ≡ reading.Parts p
-unfolding itemsOf
-items-end c s at p h = ap (itemsOf c p) (parts-none (is 44) s at h)
+  -- the part u at that place, and what it answers
+  pub record Turned (whole : Reading) (at : ℕ) (u : List ℕ) (a : Reading) : Type 0 where
+    pub fits : at + length u ≤ length s
+    pub goes : {q : Parts} → a ≡ reading.Parts q → Left whole q (at + length u + 1)
+    pub stops : {e : Refusal} → a ≡ reading.Refused e → whole ≡ reading.Refused e
 
--- the same of the fields, at colons
-pub fields-turn : (s : List ℕ) (at r : ℕ) (p : Parts) (f : List ℕ) (a : Reading) → at ≤ length s
-    → r ≡ indexOf (is 58) (take (length s - at) (drop at s))
-    → f ≡ trim blank (take r (take (length s - at) (drop at s)))
-    → a ≡ fieldOf p f
-    → fieldsOf p (partsFrom (is 58) s at) ≡ andThen a (λ q. fieldsOf q (partsFrom (is 58) s (at + r + 1)))
-unfolding fieldsOf
-fields-turn s at r p f a h e g q =
-    let e′ : r ≡ indexOf (is 58) (drop at s) = rw (rest s at) at e in
-    let g′ : f ≡ trim blank (take r (drop at s)) = rw (rest s at) at g in
-    rw (parts-step (is 58) s at h, ← e′, ← g′, ← q)
+  pub turned : {whole : Reading} {p : Parts} {at : ℕ} {u f : List ℕ} {a : Reading} → Left whole p at
+      → u ≡ upTo c (take (length s - at) (drop at s)) → f ≡ trim blank u → a ≡ read p f → at ≤ length s → Turned whole at u a
+  unfolding readEach
+  turned {whole} {p} {at} {u} {f} {a} l e g k h =
+      record {
+        fits = fits;
+        goes = λ {q} z. record { within = omega (arith, fits); answer = l .answer ∙ step ∙ rw z };
+        stops = λ z. l .answer ∙ step ∙ rw z;
+      }
+    where
+      place : ℕ
+      place = indexOf (is c) (drop at s)
 
-pub fields-end : (s : List ℕ) (at : ℕ) (p : Parts) → length s < at → fieldsOf p (partsFrom (is 58) s at) ≡ reading.Parts p
-unfolding fieldsOf
-fields-end s at p h = ap (fieldsOf p) (parts-none (is 58) s at h)
+      text : u ≡ take place (drop at s)
+      text = e ∙ ap (upTo c) (rest s at) ∙ up-to-is c (drop at s)
+
+      long : length u ≡ place
+      long = ap length text ∙ length-take-le place (drop at s) (index-le (is c) (drop at s))
+
+      fits : at + length u ≤ length s
+      fits = omega (arith, long, index-le (is c) (drop at s), length-drop at s)
+
+      step : readEach read p (partsFrom (is c) s at) ≡ andThen a (λ q. readEach read q (partsFrom (is c) s (at + length u + 1)))
+      step = ap (readEach read p) (parts-step (is c) s at h) ∙ rw (← text, ← long, ← g, ← k)
+
+  pub none-left : {whole : Reading} {p : Parts} {at : ℕ} → Left whole p at → length s < at → whole ≡ reading.Parts p
+  unfolding readEach
+  none-left {whole} {p} {at} l h = l .answer ∙ ap (readEach read p) (parts-none (is c) s at h)
 
 pub field-none : (p : Parts) (s : List ℕ) → length s ≡ 0 → fieldOf p s ≡ reading.Refused NoColor
 unfolding fieldOf

@@ -25,6 +25,11 @@ blank b = (leb 9 b && leb b 13) || eqb b 32
 unfoldable pub is : ℕ → ℕ → Bool
 is c b = eqb b c
 
+-- whether c stands in s
+unfoldable pub holds : ℕ → List ℕ → Bool
+holds c [] = false
+holds c (b ∷ s) = eqb b c || holds c s
+
 -- s without what p takes at its start
 unfoldable pub trimStart : (ℕ → Bool) → List ℕ → List ℕ
 trimStart p [] = []

@@ -109,18 +109,21 @@ unfoldable pub itemOf : Color → Parts → List ℕ → Reading
 itemOf c p [] = reading.Parts p
 itemOf c p (x ∷ s) = rangeOf c (startsWith (code "K") (x ∷ s)) p (strip (code "K") (x ∷ s))
 
-unfoldable pub itemsOf : Color → Parts → List (List ℕ) → Reading
-itemsOf c p [] = reading.Parts p
-itemsOf c p (f ∷ fs) = andThen (itemOf c p (trim blank f)) (λ q. itemsOf c q fs)
+-- what `read` answers of each part, trimmed, one after the other: the first refusal, or all that was read
+unfoldable pub readEach : (Parts → List ℕ → Reading) → Parts → List (List ℕ) → Reading
+readEach read p [] = reading.Parts p
+readEach read p (f ∷ fs) = andThen (read p (trim blank f)) (λ q. readEach read q fs)
+
+abbrev pub itemsOf : Color → Parts → List (List ℕ) → Reading
+itemsOf c = readEach (itemOf c)
 
 -- a trimmed field: its colour, then items split at commas
 unfoldable pub fieldOf : Parts → List ℕ → Reading
 fieldOf p [] = reading.Refused NoColor
 fieldOf p (x ∷ s) = onColor NoColor (fenColorOf x) (λ c. itemsOf c p (splitOn atComma s))
 
-unfoldable pub fieldsOf : Parts → List (List ℕ) → Reading
-fieldsOf p [] = reading.Parts p
-fieldsOf p (f ∷ fs) = andThen (fieldOf p (trim blank f)) (λ q. fieldsOf q fs)
+abbrev pub fieldsOf : Parts → List (List ℕ) → Reading
+fieldsOf = readEach fieldOf
 
 -- a trimmed first field: the side alone
 unfoldable pub sideOf : List ℕ → Sided

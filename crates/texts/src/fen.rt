@@ -101,9 +101,8 @@ fn items(s: &[u8], color: Color, p: Parts) -> Reading
     let mut read = p;
     let mut at = 0;
     while at <= s.len() {
-        let rest = &s[at..];
-        let n = bytes::find(rest, b',');
-        match item(bytes::trim(&rest[..n]), color, read) {
+        let text = bytes::up_to(&s[at..], b',');
+        match item(bytes::trim(text), color, read) {
             Reading::Parts(q) => {
                 read = q;
             }
@@ -111,7 +110,7 @@ fn items(s: &[u8], color: Color, p: Parts) -> Reading
                 return Reading::Refused(e);
             }
         }
-        at = at + n + 1;
+        at = at + text.len() + 1;
     }
     Reading::Parts(read)
 }
@@ -137,9 +136,8 @@ fn fields(s: &[u8], start: usize, p: Parts) -> Reading
     let mut read = p;
     let mut at = start;
     while at <= s.len() {
-        let rest = &s[at..];
-        let n = bytes::find(rest, b':');
-        match field(bytes::trim(&rest[..n]), read) {
+        let text = bytes::up_to(&s[at..], b':');
+        match field(bytes::trim(text), read) {
             Reading::Parts(q) => {
                 read = q;
             }
@@ -147,7 +145,7 @@ fn fields(s: &[u8], start: usize, p: Parts) -> Reading
                 return Reading::Refused(e);
             }
         }
-        at = at + n + 1;
+        at = at + text.len() + 1;
     }
     Reading::Parts(read)
 }

@@ -1,7 +1,7 @@
 -- Each part is what its call ensures.
 use mathlib.Core.Path.{sym}
 use Rattle.positions.specs.Boards.{boardOf}
-use Rattle.movegen.proofs.Plies.{promotes-when}
+use Rattle.positions.proofs.Records.{promotes-when}
 use Rattle.games.specs.Games.{manMoves}
 use borrow.Author.Needs.{needs}
 use Rattle.games.proofs.keeping.promotes.Statement.{statement}

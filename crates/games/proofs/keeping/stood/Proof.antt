@@ -6,9 +6,9 @@ use Prim.Native.Nat.{_≤_, _<_, _-_}
 use lib.ListN.{length, take}
 use Rattle.captures.proofs.Listed.{length-of-map}
 use Rattle.rules.specs.Lists.{times}
+use Rattle.rules.proofs.Times.{times-nil}
 use Rattle.games.specs.Games.{blankPosition, windowOf, lastOf, samePosition, stood}
 use Rattle.games.proofs.Valid.{valid-says}
-use Rattle.games.proofs.Lower.{times-none}
 use Rattle.games.proofs.Window.{times-more}
 use borrow.Author.Needs.{needs}
 use native.Mathlib.Omega.{arith}
@@ -26,7 +26,7 @@ last-requires : tie.Need-last-requires Inv-loop μ-loop
 last-requires c κs = search needs
 
 loop-holds : tie.Need-loop-holds Inv-loop μ-loop
-loop-holds c = (omega arith, omega arith, times-none samePosition (c .last .result))
+loop-holds c = (omega arith, omega arith, times-nil samePosition (c .last .result))
 
 mul-q : tie.Need-mul-q Inv-loop μ-loop
 mul-q c =

@@ -1,7 +1,8 @@
 -- The two squares with the separator between them.
 use borrow.Author.Needs.{needs}
 use native.Mathlib.Omega.{arith}
-use Rattle.notation.proofs.MoveTexts.{from-low, to-low, put-short}
+use Rattle.positions.proofs.Records.{from-low, to-low}
+use Rattle.notation.proofs.MoveTexts.{put-short}
 use Rattle.notation.proofs.moves.short_text.Statement.{statement}
 use Rattle.notation.proofs.moves.short_text.Tie as tie
 

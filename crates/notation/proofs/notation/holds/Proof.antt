@@ -4,7 +4,7 @@ use Prim.Native.Nat.{ℕ}
 use lib.ListN.{length}
 use lib.Dec.{ltb}
 use denote.Ref.{now}
-use Rattle.notation.proofs.Reading.{holds-found}
+use Rattle.texts.proofs.Cuts.{holds-found}
 use borrow.Author.Needs.{needs}
 use Rattle.notation.proofs.notation.holds.Statement.{statement}
 use Rattle.notation.proofs.notation.holds.Tie as tie

@@ -12,7 +12,7 @@ use Rattle.squares.proofs.Members.{lowest-lt}
 use Rattle.squares.proofs.Shifts.{shifted-lt}
 use Rattle.positions.specs.Moves.{move}
 use Rattle.captures.specs.Rays.{far, landings}
-use Rattle.captures.proofs.Loops.{cleared}
+use Rattle.squares.proofs.Loops.{cleared}
 use Rattle.captures.proofs.Steps.{rank, ray-falls}
 use Rattle.quiets.specs.Quiets.{listing, addOf, flights, kingQuiets, kingMovesOf}
 use Rattle.quiets.proofs.Added.{stored, marked, Adding, adding-turn, adding-done, Flying, fly-start, fly-step, fly-end, Walked, walk-start, walk-on, quietTo, flightFrom, flights-made}

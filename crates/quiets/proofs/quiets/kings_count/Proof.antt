@@ -1,7 +1,7 @@
 -- Each turn adds the moves of the lowest king left; the whole sum is small.
 use native.Mathlib.Omega.{arith}
 use Rattle.squares.proofs.Members.{lowest-lt}
-use Rattle.captures.proofs.Loops.{cleared}
+use Rattle.squares.proofs.Loops.{cleared}
 use Rattle.quiets.proofs.Counts.{Summing, sum-start, sum-turn, sum-done, kings-most}
 use borrow.Author.Needs.{needs}
 use Rattle.quiets.proofs.quiets.kings_count.Statement.{statement}

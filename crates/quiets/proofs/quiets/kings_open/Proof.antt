@@ -8,7 +8,7 @@ use Rattle.squares.specs.Sets.{members}
 use Rattle.squares.proofs.Pointwise.{one-bit}
 use Rattle.squares.proofs.Members.{lowest-lt}
 use Rattle.captures.specs.Walks.{anyUpTo}
-use Rattle.captures.proofs.Loops.{cleared}
+use Rattle.squares.proofs.Loops.{cleared}
 use Rattle.captures.specs.Open.{kingJump}
 use Rattle.quiets.specs.Tests.{anyIn, kingOpen}
 use Rattle.quiets.proofs.Some.{any-here, any-on, any-done}

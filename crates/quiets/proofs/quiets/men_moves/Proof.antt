@@ -12,7 +12,7 @@ use Rattle.positions.specs.Moves.{move}
 use mathlib.Core.Bool.{false}
 use Rattle.captures.specs.declared.moves.MoveList.{MoveList}
 use Rattle.captures.specs.Walks.{upTo}
-use Rattle.captures.proofs.Loops.{cleared}
+use Rattle.squares.proofs.Loops.{cleared}
 use Rattle.quiets.specs.Tests.{forwardOf}
 use Rattle.quiets.specs.Quiets.{listing, addOf, stepMove, menSteps, menQuiets, menMovesOf}
 use Rattle.quiets.proofs.Forward.{forward-le}

@@ -1,41 +1,35 @@
--- One field a turn.
-use mathlib.Core.Path.{_≡_, refl, ap, sym, _∙_}
-use Prim.Native.Nat.{_≤_, _-_, _+_}
-use lib.ListN.{length, length-drop}
-use lib.Seq.{length-take-le}
-use denote.Ref.{now}
-use Rattle.texts.proofs.Readers as laws
-use Rattle.texts.specs.Fen.{fieldsOf}
-use Rattle.texts.specs.Bytes.{is, partsFrom}
-use Rattle.texts.proofs.Cuts.{rest}
+-- One field a turn, as in `items`.
+use mathlib.Core.Path.{refl, sym}
+use Prim.Native.Nat.{_-_, _+_}
+use lib.ListN.{length}
+use Rattle.texts.specs.Bytes.{partsFrom}
+use Rattle.texts.specs.Fen.{atColon, fieldOf, fieldsOf}
+use Rattle.texts.proofs.Readers.{Left, turned, none-left}
 use borrow.Author.Needs.{needs}
 use native.Mathlib.Omega.{arith}
 use Rattle.texts.proofs.fen.fields.Statement.{statement}
 use Rattle.texts.proofs.fen.fields.Tie as tie
 
 abbrev Inv-loop : tie.InvT-loop
-Inv-loop s start read₀ at₀ read at = (at ≤ length s + 1) × (fieldsOf read₀ (partsFrom (is 58) s at₀) ≡ fieldsOf read (partsFrom (is 58) s at))
+Inv-loop s start read₀ at₀ read at = Left fieldOf 58 s (fieldsOf read₀ (partsFrom atColon s at₀)) read at
 
 abbrev μ-loop : tie.MeasureT-loop
 μ-loop s start read₀ at₀ read at = length s + 1 - at
 
 loop-holds : tie.Need-loop-holds Inv-loop μ-loop
-loop-holds c = (search needs, refl)
+loop-holds c = record { within = search needs; answer = refl }
 
-sub-rest : tie.Need-sub-rest Inv-loop μ-loop
-sub-rest c = search needs
+sub-up-to : tie.Need-sub-up-to Inv-loop μ-loop
+sub-up-to c = search needs
 
-part-rest-start : tie.Need-part-rest-start Inv-loop μ-loop
-part-rest-start c = search needs
+part-up-to-start : tie.Need-part-up-to-start Inv-loop μ-loop
+part-up-to-start c = search needs
 
-part-rest-end : tie.Need-part-rest-end Inv-loop μ-loop
-part-rest-end c = search needs
+part-up-to-end : tie.Need-part-up-to-end Inv-loop μ-loop
+part-up-to-end c = search needs
 
-find-requires : tie.Need-find-requires Inv-loop μ-loop
-find-requires c κs = search needs
-
-slice-aggregate-trim : tie.Need-slice-aggregate-trim Inv-loop μ-loop
-slice-aggregate-trim c = sym (length-take-le _ _ (omega arith))
+up-to-requires : tie.Need-up-to-requires Inv-loop μ-loop
+up-to-requires c κs = search needs
 
 trim-requires : tie.Need-trim-requires Inv-loop μ-loop
 trim-requires c κs = search needs
@@ -51,42 +45,33 @@ enum-known-e c = search needs
 
 returns : tie.Need-returns Inv-loop μ-loop
 returns c =
-    let s = now (c .before .before .before .before .before .before .before .before .before .before .before .args .s) in
-    let l = c .before .before .before .before .before .before .before .before .before .loop in
-    let f = c .before .before .before .before .before .before .find in
-    let t = c .before .before .before .before .trim in
-    let d = c .before .before .before .field in
-    sym (l .inv .1 ∙ laws.fields-turn s (l .at) (f .result) (l .read) (now (t .result)) (d .result) (omega arith) (f .ensures .0) (t .ensures) (d .ensures) ∙ rw (c .before .e .given .1))
+    let d = c .before .before .before in
+    let l = d .before .before .before .before .before .loop in
+    sym (turned _ _ _ (l .inv) (d .before .before .up-to .ensures) (d .before .trim .ensures) (d .field .ensures) (omega arith) .stops (c .before .e .given .1))
 
 add-at : tie.Need-add-at Inv-loop μ-loop
 add-at c =
-    let s = now (c .before .before .before .before .before .before .before .before .before .before .before .args .s) in
-    let l = c .before .before .before .before .before .before .before .before .before .loop in
-    omega (arith, ap length (rest s (l .at)), length-drop (l .at) s)
+    let d = c .before .before .before in
+    let l = d .before .before .before .before .before .loop in
+    omega (arith, turned _ _ _ (l .inv) (d .before .before .up-to .ensures) (d .before .trim .ensures) (d .field .ensures) (omega arith) .fits)
 
 add-at-2 : tie.Need-add-at-2 Inv-loop μ-loop
 add-at-2 c =
-    let s = now (c .before .before .before .before .before .before .before .before .before .before .before .args .s) in
-    let l = c .before .before .before .before .before .before .before .before .before .loop in
-    omega (arith, ap length (rest s (l .at)), length-drop (l .at) s)
+    let d = c .before .before .before in
+    let l = d .before .before .before .before .before .loop in
+    omega (arith, turned _ _ _ (l .inv) (d .before .before .up-to .ensures) (d .before .trim .ensures) (d .field .ensures) (omega arith) .fits)
 
 loop-less : tie.Need-loop-less Inv-loop μ-loop
 loop-less c = search needs
 
 loop-again : tie.Need-loop-again Inv-loop μ-loop
 loop-again c =
-    let s = now (c .before .before .before .before .before .before .before .before .before .before .before .args .s) in
-    let l = c .before .before .before .before .before .before .before .before .before .loop in
-    let f = c .before .before .before .before .before .before .find in
-    let t = c .before .before .before .before .trim in
-    let d = c .before .before .before .field in
-    (omega (arith, ap length (rest s (l .at)), length-drop (l .at) s), l .inv .1 ∙ laws.fields-turn s (l .at) (f .result) (l .read) (now (t .result)) (d .result) (omega arith) (f .ensures .0) (t .ensures) (d .ensures) ∙ rw (c .before .q .given .1))
+    let d = c .before .before .before in
+    let l = d .before .before .before .before .before .loop in
+    turned _ _ _ (l .inv) (d .before .before .up-to .ensures) (d .before .trim .ensures) (d .field .ensures) (omega arith) .goes (c .before .q .given .1)
 
 returns-2 : tie.Need-returns-2 Inv-loop μ-loop
-returns-2 c =
-    let s = now (c .before .before .before .args .s) in
-    let l = c .before .loop in
-    sym (l .inv .1 ∙ laws.fields-end s (l .at) (l .read) (omega arith))
+returns-2 c = sym (none-left _ _ _ (c .before .loop .inv) (omega arith))
 
 pub fields-spec : {M : Type 1} → statement M
 fields-spec =
@@ -95,11 +80,10 @@ fields-spec =
     Inv-loop
     μ-loop
     loop-holds
-    sub-rest
-    part-rest-start
-    part-rest-end
-    find-requires
-    slice-aggregate-trim
+    sub-up-to
+    part-up-to-start
+    part-up-to-end
+    up-to-requires
     trim-requires
     field-requires
     enum-known-q
