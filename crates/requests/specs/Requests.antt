@@ -85,13 +85,6 @@ depthAnswer p s = onParsed (unsignedOf s) (λ n. countedAnswer (perftOf p n))
 unfoldable pub splitAnswer : Position → List ℕ → List ℕ
 splitAnswer p s = onParsed (unsignedOf s) (λ n. dividedAnswer (divideOf p n))
 
--- atmost, evalw
-unfoldable pub limitAnswer : ℕ → Position → List ℕ
-limitAnswer limit p = listAnswer (legalMovesOf p limit)
-
-unfoldable pub weighedAnswer : Classical → Position → List ℕ
-weighedAnswer w p = scoredAnswer (evaluateOf w p)
-
 -- what is done with a position and the rest of the line
 abbrev pub workAnswer : Task → Position → List ℕ → List ℕ
 workAnswer (task.Tell a) p s = answerTo a p
@@ -99,8 +92,8 @@ workAnswer task.Parse p s = parsedAnswer p s
 workAnswer task.After p s = successorAnswer p s
 workAnswer task.Perft p s = depthAnswer p s
 workAnswer task.Divide p s = splitAnswer p s
-workAnswer (task.Limit n) p s = limitAnswer n p
-workAnswer (task.Weigh w) p s = weighedAnswer w p
+workAnswer (task.Limit n) p s = listAnswer (legalMovesOf p n)
+workAnswer (task.Weigh w) p s = scoredAnswer (evaluateOf w p)
 workAnswer task.Play p s = playsAnswer given.Text p s
 workAnswer task.Record p s = playsAnswer given.Record p s
 workAnswer task.Outcome p s = freshAnswer p
