@@ -1,30 +1,17 @@
 // Hands in values that no text makes: positions, move records, limits, weights, lent space and games, each with one thing
-// wrong or two. A line names the entry and the case, then the refusal's number and square, or what came back.
-// scripts/handed writes the file stdout from document 01's words.
+// wrong or two. The input says line by line what is handed in and what is asked (`given`, `asked`); a line of the answer
+// names the entry and the case, then the refusal's number and square, or what came back.
+// scripts/handed writes the files stdin and stdout, the latter from document 01's words.
+mod asked;
 mod boards;
-mod games_asked;
-mod games_ended;
-mod games_faulty;
-mod games_made;
-mod lent;
-mod limits;
-mod positions_asked;
-mod records;
-mod replays;
+mod given;
 mod show;
 mod show_games;
-mod weights;
+
+use libc::STDIN_FILENO;
 
 fn main() {
-    positions_asked::cases();
-    positions_asked::move_texts();
-    positions_asked::parts();
-    records::cases();
-    limits::cases();
-    weights::cases();
-    lent::cases();
-    games_faulty::cases();
-    games_asked::cases();
-    games_ended::cases();
-    replays::cases();
+    let mut text = [0u8; 131072];
+    let n = io::read_full(STDIN_FILENO, &mut text);
+    asked::lines(&text[..n]);
 }

@@ -37,14 +37,6 @@ fn signed(z: i32) {
     }
 }
 
-// The entry and the case that a line is about.
-pub(crate) fn asked(entry: &[u8], case: &[u8]) {
-    write(entry);
-    write(b", ");
-    write(case);
-    write(b": ");
-}
-
 pub(crate) fn end() {
     write(b"\n");
 }
@@ -179,6 +171,14 @@ pub(crate) fn one(yes: bool) -> u64
     ensures { λ r. ⌜ r ≤ 1 ⌝ }
 {
     if yes { 1 } else { 0 }
+}
+
+pub(crate) fn blank_move() -> Move {
+    Move {
+        captured: 0,
+        from: 0,
+        to: 0,
+    }
 }
 
 fn blank(m: Move) -> bool {

@@ -8,8 +8,14 @@ use games::game::Judged;
 use games::game::Outcome;
 use games::game::Played;
 use games::game::Termination;
+use positions::position;
 use positions::position::Position;
 use squares::piece::Color;
+
+pub(crate) fn blank_game() -> Game {
+    let b = Game::from_position(position::initial());
+    b.game
+}
 
 fn white(side: Color) -> bool {
     match side {

@@ -1,5 +1,6 @@
 pub mod Told
 pub mod Listing
+pub mod Table
 pub mod Whole
 pub mod PlayLaws
 pub mod PlayedGames

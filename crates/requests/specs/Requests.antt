@@ -2,9 +2,10 @@
 -- fit answers the line.
 use Prim.Native.Nat.{ℕ}
 use Prim.Native.Char.{code}
-use mathlib.Core.List.{List, [], _∷_, _++_}
+use Prim.Native.String.{String}
+use mathlib.Core.List.{List, [], _∷_, _++_, map}
 use mathlib.Core.Bool.{cond}
-use lib.ListN.{length}
+use lib.ListN.{length, getD}
 use lib.Dec.{eqb, ltb}
 use lib.IntN.{ℤ}
 use Rattle.squares.specs.Squares.{bitOf, rowOf, ofSquare}
@@ -84,13 +85,6 @@ depthAnswer p s = onParsed (unsignedOf s) (λ n. countedAnswer (perftOf p n))
 unfoldable pub splitAnswer : Position → List ℕ → List ℕ
 splitAnswer p s = onParsed (unsignedOf s) (λ n. dividedAnswer (divideOf p n))
 
--- atmost, evalw
-unfoldable pub limitAnswer : ℕ → Position → List ℕ
-limitAnswer limit p = listAnswer (legalMovesOf p limit)
-
-unfoldable pub weighedAnswer : Classical → Position → List ℕ
-weighedAnswer w p = scoredAnswer (evaluateOf w p)
-
 -- what is done with a position and the rest of the line
 abbrev pub workAnswer : Task → Position → List ℕ → List ℕ
 workAnswer (task.Tell a) p s = answerTo a p
@@ -98,8 +92,8 @@ workAnswer task.Parse p s = parsedAnswer p s
 workAnswer task.After p s = successorAnswer p s
 workAnswer task.Perft p s = depthAnswer p s
 workAnswer task.Divide p s = splitAnswer p s
-workAnswer (task.Limit n) p s = limitAnswer n p
-workAnswer (task.Weigh w) p s = weighedAnswer w p
+workAnswer (task.Limit n) p s = listAnswer (legalMovesOf p n)
+workAnswer (task.Weigh w) p s = scoredAnswer (evaluateOf w p)
 workAnswer task.Play p s = playsAnswer given.Text p s
 workAnswer task.Record p s = playsAnswer given.Record p s
 workAnswer task.Outcome p s = freshAnswer p
@@ -165,45 +159,51 @@ unfoldable pub partsAnswer : List ℕ → List ℕ
 partsAnswer arg = cond (eqb (blanksIn arg) 3) (setsAnswer arg) bad
 
 -- ---- by the request's name
-unfoldable pub gamesOf : List ℕ → Kind
-gamesOf name =
-    cond (sameText name (bytes "play")) (kind.Rest task.Play)
-    (cond (sameText name (bytes "record")) (kind.Rest task.Record)
-    (cond (sameText name (bytes "outcome")) kind.Outcome kind.Unknown))
+pub record Named : Type 0 where
+  pub name : String
+  pub kind : Kind
 
-unfoldable pub countingOf : List ℕ → Kind
-countingOf name =
-    cond (sameText name (bytes "perft")) (kind.Rest task.Perft)
-    (cond (sameText name (bytes "divide")) (kind.Rest task.Divide)
-    (cond (sameText name (bytes "atmost")) kind.Atmost
-    (cond (sameText name (bytes "evalw")) kind.Evalw (gamesOf name))))
+abbrev row : String → Kind → Named
+row n k = record { name = n; kind = k }
 
-unfoldable pub wordingOf : List ℕ → Kind
-wordingOf name =
-    cond (sameText name (bytes "parse")) (kind.Rest task.Parse)
-    (cond (sameText name (bytes "after")) (kind.Rest task.After)
-    (cond (sameText name (bytes "square")) kind.Square
-    (cond (sameText name (bytes "parts")) kind.Parts (countingOf name))))
+-- the requests, in the protocol's order
+abbrev pub requests : List Named
+requests =
+    row "fen" (kind.About form.Fen asked.Fen)
+    ∷ row "hub" (kind.About form.Hub asked.Hub)
+    ∷ row "fen2hub" (kind.About form.Fen asked.Hub)
+    ∷ row "hub2fen" (kind.About form.Hub asked.Fen)
+    ∷ row "square" kind.Square
+    ∷ row "parts" kind.Parts
+    ∷ row "bits" (kind.About form.Either asked.Bits)
+    ∷ row "moves" (kind.About form.Either asked.Moves)
+    ∷ row "atmost" kind.Atmost
+    ∷ row "parse" (kind.Rest task.Parse)
+    ∷ row "after" (kind.Rest task.After)
+    ∷ row "perft" (kind.Rest task.Perft)
+    ∷ row "divide" (kind.Rest task.Divide)
+    ∷ row "eval" (kind.About form.Either asked.Eval)
+    ∷ row "evalw" kind.Evalw
+    ∷ row "hash" (kind.About form.Either asked.Hash)
+    ∷ row "flip" (kind.About form.Either asked.Flip)
+    ∷ row "caps" (kind.About form.Either asked.Caps)
+    ∷ row "quiet" (kind.About form.Either asked.Quiet)
+    ∷ row "play" (kind.Rest task.Play)
+    ∷ row "outcome" kind.Outcome
+    ∷ row "record" (kind.Rest task.Record)
+    ∷ []
 
-unfoldable pub playingOf : List ℕ → Kind
-playingOf name =
-    cond (sameText name (bytes "moves")) (kind.About form.Either asked.Moves)
-    (cond (sameText name (bytes "caps")) (kind.About form.Either asked.Caps)
-    (cond (sameText name (bytes "quiet")) (kind.About form.Either asked.Quiet) (wordingOf name)))
-
-unfoldable pub placeOf : List ℕ → Kind
-placeOf name =
-    cond (sameText name (bytes "bits")) (kind.About form.Either asked.Bits)
-    (cond (sameText name (bytes "eval")) (kind.About form.Either asked.Eval)
-    (cond (sameText name (bytes "hash")) (kind.About form.Either asked.Hash)
-    (cond (sameText name (bytes "flip")) (kind.About form.Either asked.Flip) (playingOf name))))
+-- the kind of the row with this name
+abbrev pub named : List ℕ → List Named → Kind
+named name [] = kind.Unknown
+named name (r ∷ rs) = cond (sameText name (bytes (r .name))) (r .kind) (named name rs)
 
 unfoldable pub kindOf : List ℕ → Kind
-kindOf name =
-    cond (sameText name (bytes "fen")) (kind.About form.Fen asked.Fen)
-    (cond (sameText name (bytes "hub")) (kind.About form.Hub asked.Hub)
-    (cond (sameText name (bytes "fen2hub")) (kind.About form.Fen asked.Hub)
-    (cond (sameText name (bytes "hub2fen")) (kind.About form.Hub asked.Fen) (placeOf name))))
+kindOf name = named name requests
+
+-- the kind of a row by its number, from 0 on
+unfoldable pub kindAt : ℕ → Kind
+kindAt n = getD (map (λ r. r .kind) requests) n kind.Unknown
 
 abbrev pub kindAnswer : Kind → List ℕ → List ℕ
 kindAnswer (kind.About f a) arg = heardAnswer (task.Tell a) f arg arg

@@ -17,9 +17,6 @@ use texts::hub;
 use wording::output;
 ghost use mathlib.Core.Path.{_≡_};
 ghost use Prim.Native.Nat.{min};
-ghost use Rattle.positions.specs.Flip.{flippedOf};
-ghost use Rattle.scores.specs.Score.{default, evaluateOf};
-ghost use Rattle.movegen.specs.Lists.{legalMovesOf, hasCapturesOf, hasQuietMovesOf};
 ghost use Rattle.wording.specs.Output.{Adds, bytes};
 ghost use Rattle.requests.specs.Answers.{yesNo, setWord, fenWord, hubWord, bitsAnswer, scoredAnswer, testedAnswer, countedAnswer, fenAnswer, hubAnswer, hashAnswer, placedAnswer, moveWord, movesText, countsText, listAnswer, dividedAnswer, recordWord, moveAnswer, afterAnswer, answerTo};
 
@@ -274,36 +271,6 @@ pub(crate) fn tell_after(out: &mut [u8], at: usize, p: Placed) -> usize
     }
 }
 
-fn tell_moves(out: &mut [u8], at: usize, p: Position) -> usize
-    ensures { λ r. ⌜ Adds (listAnswer (legalMovesOf p 256)) (now (out .entry)) at (now (out .exit)) r ⌝ }
-{
-    tell_list(out, at, movegen::movegen::legal_moves(p, MAX_MOVES))
-}
-
-fn tell_eval(out: &mut [u8], at: usize, p: Position) -> usize
-    ensures { λ r. ⌜ Adds (scoredAnswer (evaluateOf default p)) (now (out .entry)) at (now (out .exit)) r ⌝ }
-{
-    tell_scored(out, at, eval::evaluate(p))
-}
-
-fn tell_flip(out: &mut [u8], at: usize, p: Position) -> usize
-    ensures { λ r. ⌜ Adds (placedAnswer (flippedOf p)) (now (out .entry)) at (now (out .exit)) r ⌝ }
-{
-    tell_placed(out, at, p.flipped())
-}
-
-fn tell_caps(out: &mut [u8], at: usize, p: Position) -> usize
-    ensures { λ r. ⌜ Adds (testedAnswer (hasCapturesOf p)) (now (out .entry)) at (now (out .exit)) r ⌝ }
-{
-    tell_tested(out, at, movegen::movegen::has_captures(p))
-}
-
-fn tell_quiet(out: &mut [u8], at: usize, p: Position) -> usize
-    ensures { λ r. ⌜ Adds (testedAnswer (hasQuietMovesOf p)) (now (out .entry)) at (now (out .exit)) r ⌝ }
-{
-    tell_tested(out, at, movegen::movegen::has_quiet_moves(p))
-}
-
 pub(crate) fn tell(asked: Asked, p: Position, out: &mut [u8], at: usize) -> usize
     ensures { λ r. ⌜ Adds (answerTo asked p) (now (out .entry)) at (now (out .exit)) r ⌝ }
 {
@@ -311,11 +278,11 @@ pub(crate) fn tell(asked: Asked, p: Position, out: &mut [u8], at: usize) -> usiz
         Asked::Fen => tell_fen(out, at, p),
         Asked::Hub => tell_hub(out, at, p),
         Asked::Bits => tell_bits(out, at, p),
-        Asked::Moves => tell_moves(out, at, p),
-        Asked::Eval => tell_eval(out, at, p),
+        Asked::Moves => tell_list(out, at, movegen::movegen::legal_moves(p, MAX_MOVES)),
+        Asked::Eval => tell_scored(out, at, eval::evaluate(p)),
         Asked::Hash => tell_hash(out, at, p),
-        Asked::Flip => tell_flip(out, at, p),
-        Asked::Caps => tell_caps(out, at, p),
-        Asked::Quiet => tell_quiet(out, at, p),
+        Asked::Flip => tell_placed(out, at, p.flipped()),
+        Asked::Caps => tell_tested(out, at, movegen::movegen::has_captures(p)),
+        Asked::Quiet => tell_tested(out, at, movegen::movegen::has_quiet_moves(p)),
     }
 }

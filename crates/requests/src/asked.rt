@@ -22,7 +22,7 @@ use wording::output;
 use wording::words;
 ghost use mathlib.Core.Path.{_≡_};
 ghost use Rattle.wording.specs.Output.{Adds};
-ghost use Rattle.requests.specs.Requests.{numberWord, squareAnswer, sideOf, partsAnswer, setsAnswer, parsedAnswer, successorAnswer, depthAnswer, splitAnswer, limitAnswer, weighedAnswer, workAnswer, heardAnswer, restAnswer, atmostAnswer, weightsOf, evalwAnswer};
+ghost use Rattle.requests.specs.Requests.{numberWord, squareAnswer, sideOf, partsAnswer, setsAnswer, parsedAnswer, successorAnswer, depthAnswer, splitAnswer, workAnswer, heardAnswer, restAnswer, atmostAnswer, weightsOf, evalwAnswer};
 
 // What is done with a position: something is told of it alone, or with the rest of the line, or by a limit or weights.
 pub enum Task {
@@ -77,18 +77,6 @@ fn split(p: Position, word: &[u8], out: &mut [u8], at: usize) -> usize
     }
 }
 
-fn limited(limit: usize, p: Position, out: &mut [u8], at: usize) -> usize
-    ensures { λ r. ⌜ Adds (limitAnswer limit p) (now (out .entry)) at (now (out .exit)) r ⌝ }
-{
-    answers::tell_list(out, at, movegen::movegen::legal_moves(p, limit))
-}
-
-fn weighed(w: Classical, p: Position, out: &mut [u8], at: usize) -> usize
-    ensures { λ r. ⌜ Adds (weighedAnswer w p) (now (out .entry)) at (now (out .exit)) r ⌝ }
-{
-    answers::tell_scored(out, at, w.evaluate(p))
-}
-
 fn work(task: Task, p: Position, rest: &[u8], out: &mut [u8], at: usize) -> usize
     ensures { λ r. ⌜ Adds (workAnswer task p (now (rest .entry))) (now (out .entry)) at (now (out .exit)) r ⌝ }
 {
@@ -98,8 +86,8 @@ fn work(task: Task, p: Position, rest: &[u8], out: &mut [u8], at: usize) -> usiz
         Task::After => successor(p, rest, out, at),
         Task::Perft => counted(p, rest, out, at),
         Task::Divide => split(p, rest, out, at),
-        Task::Limit(limit) => limited(limit, p, out, at),
-        Task::Weigh(w) => weighed(w, p, out, at),
+        Task::Limit(limit) => answers::tell_list(out, at, movegen::movegen::legal_moves(p, limit)),
+        Task::Weigh(w) => answers::tell_scored(out, at, w.evaluate(p)),
         Task::Play => plays::plays(Given::Text, p, rest, out, at),
         Task::Record => plays::plays(Given::Record, p, rest, out, at),
         Task::Outcome => plays::fresh(p, out, at),

@@ -6,10 +6,10 @@ use crate::heard::Form;
 use wording::output;
 use wording::words;
 ghost use mathlib.Core.Path.{_≡_};
-ghost use Prim.Native.Nat.{min};
+ghost use Prim.Native.Nat.{_<_, min};
 ghost use lib.ListN.{length};
 ghost use Rattle.wording.specs.Output.{Adds, written};
-ghost use Rattle.requests.specs.Requests.{gamesOf, countingOf, wordingOf, playingOf, placeOf, kindOf, kindAnswer, answerOf};
+ghost use Rattle.requests.specs.Requests.{kindAt, kindOf, kindAnswer, answerOf};
 
 // The longest line that is looked at.
 pub(crate) const LONGEST: usize = 65536;
@@ -26,111 +26,52 @@ pub(crate) enum Kind {
     Unknown,
 }
 
-// Requests about games.
-fn games(name: &[u8]) -> Kind
-    ensures { λ r. ⌜ r ≡ gamesOf (now (name .entry)) ⌝ }
+// What the request of this row asks for; the names of the rows are in `kind_of`.
+fn kind_at(row: usize) -> Kind
+    requires { ⌜ row < 22 ⌝ }
+    ensures { λ r. ⌜ r ≡ kindAt row ⌝ }
 {
-    if words::same(name, b"play") {
-        return Kind::Rest(Task::Play);
-    }
-    if words::same(name, b"record") {
-        return Kind::Rest(Task::Record);
-    }
-    if words::same(name, b"outcome") {
-        return Kind::Outcome;
-    }
-    Kind::Unknown
+    let kinds = [
+        Kind::About(Form::Fen, Asked::Fen),
+        Kind::About(Form::Hub, Asked::Hub),
+        Kind::About(Form::Fen, Asked::Hub),
+        Kind::About(Form::Hub, Asked::Fen),
+        Kind::Square,
+        Kind::Parts,
+        Kind::About(Form::Either, Asked::Bits),
+        Kind::About(Form::Either, Asked::Moves),
+        Kind::Atmost,
+        Kind::Rest(Task::Parse),
+        Kind::Rest(Task::After),
+        Kind::Rest(Task::Perft),
+        Kind::Rest(Task::Divide),
+        Kind::About(Form::Either, Asked::Eval),
+        Kind::Evalw,
+        Kind::About(Form::Either, Asked::Hash),
+        Kind::About(Form::Either, Asked::Flip),
+        Kind::About(Form::Either, Asked::Caps),
+        Kind::About(Form::Either, Asked::Quiet),
+        Kind::Rest(Task::Play),
+        Kind::Outcome,
+        Kind::Rest(Task::Record),
+    ];
+    kinds[row]
 }
 
-// Requests with numbers.
-fn counting(name: &[u8]) -> Kind
-    ensures { λ r. ⌜ r ≡ countingOf (now (name .entry)) ⌝ }
-{
-    if words::same(name, b"perft") {
-        return Kind::Rest(Task::Perft);
-    }
-    if words::same(name, b"divide") {
-        return Kind::Rest(Task::Divide);
-    }
-    if words::same(name, b"atmost") {
-        return Kind::Atmost;
-    }
-    if words::same(name, b"evalw") {
-        return Kind::Evalw;
-    }
-    games(name)
-}
-
-// Requests with texts beside a position, or without one.
-fn wording(name: &[u8]) -> Kind
-    ensures { λ r. ⌜ r ≡ wordingOf (now (name .entry)) ⌝ }
-{
-    if words::same(name, b"parse") {
-        return Kind::Rest(Task::Parse);
-    }
-    if words::same(name, b"after") {
-        return Kind::Rest(Task::After);
-    }
-    if words::same(name, b"square") {
-        return Kind::Square;
-    }
-    if words::same(name, b"parts") {
-        return Kind::Parts;
-    }
-    counting(name)
-}
-
-// Requests about the moves of a FEN word, which may be Hub.
-fn playing(name: &[u8]) -> Kind
-    ensures { λ r. ⌜ r ≡ playingOf (now (name .entry)) ⌝ }
-{
-    if words::same(name, b"moves") {
-        return Kind::About(Form::Either, Asked::Moves);
-    }
-    if words::same(name, b"caps") {
-        return Kind::About(Form::Either, Asked::Caps);
-    }
-    if words::same(name, b"quiet") {
-        return Kind::About(Form::Either, Asked::Quiet);
-    }
-    wording(name)
-}
-
-// Requests about the position of a FEN word, which may be Hub.
-fn place(name: &[u8]) -> Kind
-    ensures { λ r. ⌜ r ≡ placeOf (now (name .entry)) ⌝ }
-{
-    if words::same(name, b"bits") {
-        return Kind::About(Form::Either, Asked::Bits);
-    }
-    if words::same(name, b"eval") {
-        return Kind::About(Form::Either, Asked::Eval);
-    }
-    if words::same(name, b"hash") {
-        return Kind::About(Form::Either, Asked::Hash);
-    }
-    if words::same(name, b"flip") {
-        return Kind::About(Form::Either, Asked::Flip);
-    }
-    playing(name)
-}
-
+// The requests by name, in the protocol's order.
 fn kind_of(name: &[u8]) -> Kind
     ensures { λ r. ⌜ r ≡ kindOf (now (name .entry)) ⌝ }
 {
-    if words::same(name, b"fen") {
-        return Kind::About(Form::Fen, Asked::Fen);
+    let mut row = 0;
+    while row < 22 {
+        let rows =
+            b"fen hub fen2hub hub2fen square parts bits moves atmost parse after perft divide eval evalw hash flip caps quiet play outcome record";
+        if words::same(name, words::word(rows, row)) {
+            return kind_at(row);
+        }
+        row += 1;
     }
-    if words::same(name, b"hub") {
-        return Kind::About(Form::Hub, Asked::Hub);
-    }
-    if words::same(name, b"fen2hub") {
-        return Kind::About(Form::Fen, Asked::Hub);
-    }
-    if words::same(name, b"hub2fen") {
-        return Kind::About(Form::Hub, Asked::Fen);
-    }
-    place(name)
+    Kind::Unknown
 }
 
 fn answer_kind(kind: Kind, arg: &[u8], out: &mut [u8], at: usize) -> usize

@@ -7,29 +7,11 @@ use borrow.Author.Needs.{needs}
 use Rattle.requests.proofs.answers.put_fen.Statement.{statement}
 use Rattle.requests.proofs.answers.put_fen.Tie as tie
 
-slice-aggregate-fen : tie.Need-slice-aggregate-fen
-slice-aggregate-fen c = search needs
-
-fen-requires : tie.Need-fen-requires
-fen-requires c κs = search needs
-
-enum-known-n : tie.Need-enum-known-n
-enum-known-n c = search needs
-
 array-share-prefix-space : tie.Need-array-share-prefix-space
 array-share-prefix-space c = told.fen-told (c .before .before .before .before .before .before .before .before .args .p) _ refl _ _ _ (c .before .before .before .before .before .fen .ensures .0) (c .before .before .before .before .before .fen .ensures .1) (c .before .before .n .given .1) .within
 
 slice-aggregate-put : tie.Need-slice-aggregate-put
 slice-aggregate-put c = sym (length-take-le _ _ (told.fen-told (c .before .before .before .before .before .before .before .before .before .args .p) _ refl _ _ _ (c .before .before .before .before .before .before .fen .ensures .0) (c .before .before .before .before .before .before .fen .ensures .1) (c .before .before .before .n .given .1) .within))
-
-put-requires : tie.Need-put-requires
-put-requires c κs = search needs
-
-enum-told : tie.Need-enum-told
-enum-told c = search needs
-
-same-length : tie.Need-same-length
-same-length c = search needs
 
 returns : tie.Need-returns
 returns c = laws.adds-as (told.fen-told (c .before .before .before .before .before .before .before .before .before .before .before .before .args .p) _ refl _ _ _ (c .before .before .before .before .before .before .before .before .before .fen .ensures .0) (c .before .before .before .before .before .before .before .before .before .fen .ensures .1) (c .before .before .before .before .before .before .n .given .1) .text) (c .before .before .put .ensures)
@@ -41,13 +23,13 @@ pub put-fen-spec : {M : Type 1} → statement M
 put-fen-spec =
     tie.close
     (tie.spec
-    slice-aggregate-fen
-    fen-requires
-    enum-known-n
+    (λ c. search needs)
+    (λ c κs. search needs)
+    (λ c. search needs)
     array-share-prefix-space
     slice-aggregate-put
-    put-requires
-    enum-told
-    same-length
+    (λ c κs. search needs)
+    (λ c. search needs)
+    (λ c. search needs)
     returns
     returns-2)

@@ -8,33 +8,6 @@ use Rattle.requests.specs.Answers as told
 use Rattle.requests.proofs.answers.tell_bits.Statement.{statement}
 use Rattle.requests.proofs.answers.tell_bits.Tie as tie
 
-put-ok-requires : tie.Need-put-ok-requires
-put-ok-requires c κs = search needs
-
-put-set-requires : tie.Need-put-set-requires
-put-set-requires c κs = search needs
-
-put-set-requires-2 : tie.Need-put-set-requires-2
-put-set-requires-2 c κs = search needs
-
-put-set-requires-3 : tie.Need-put-set-requires-3
-put-set-requires-3 c κs = search needs
-
-to-char-requires : tie.Need-to-char-requires
-to-char-requires c κs = search needs
-
-put-byte-requires : tie.Need-put-byte-requires
-put-byte-requires c κs = search needs
-
-put-byte-requires-2 : tie.Need-put-byte-requires-2
-put-byte-requires-2 c κs = search needs
-
-put-hash-requires : tie.Need-put-hash-requires
-put-hash-requires c κs = search needs
-
-same-length : tie.Need-same-length
-same-length c = search needs
-
 returns : tie.Need-returns
 unfolding told.bitsAnswer
 returns c =
@@ -48,13 +21,13 @@ pub tell-bits-spec : {M : Type 1} → statement M
 tell-bits-spec =
     tie.close
     (tie.spec
-    put-ok-requires
-    put-set-requires
-    put-set-requires-2
-    put-set-requires-3
-    to-char-requires
-    put-byte-requires
-    put-byte-requires-2
-    put-hash-requires
-    same-length
+    (λ c κs. search needs)
+    (λ c κs. search needs)
+    (λ c κs. search needs)
+    (λ c κs. search needs)
+    (λ c κs. search needs)
+    (λ c κs. search needs)
+    (λ c κs. search needs)
+    (λ c κs. search needs)
+    (λ c. search needs)
     returns)

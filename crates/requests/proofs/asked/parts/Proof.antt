@@ -5,24 +5,9 @@ use Rattle.requests.specs.Requests as asked
 use Rattle.requests.proofs.asked.parts.Statement.{statement}
 use Rattle.requests.proofs.asked.parts.Tie as tie
 
-blanks-requires : tie.Need-blanks-requires
-blanks-requires c κs = search needs
-
-sets-requires : tie.Need-sets-requires
-sets-requires c κs = search needs
-
-same-length : tie.Need-same-length
-same-length c = search needs
-
 returns : tie.Need-returns
 unfolding asked.partsAnswer
 returns c = rw (← c .before .before .before .before .before .blanks .ensures, eq-eqb _ 3 (c .before .before .before .before .if1 .taken)) (c .before .before .sets .ensures)
-
-put-bad-requires : tie.Need-put-bad-requires
-put-bad-requires c κs = search needs
-
-same-length-2 : tie.Need-same-length-2
-same-length-2 c = search needs
 
 returns-2 : tie.Need-returns-2
 unfolding asked.partsAnswer
@@ -32,10 +17,10 @@ pub parts-spec : {M : Type 1} → statement M
 parts-spec =
     tie.close
     (tie.spec
-    blanks-requires
-    sets-requires
-    same-length
+    (λ c κs. search needs)
+    (λ c κs. search needs)
+    (λ c. search needs)
     returns
-    put-bad-requires
-    same-length-2
+    (λ c κs. search needs)
+    (λ c. search needs)
     returns-2)

@@ -6,12 +6,6 @@ use Rattle.requests.proofs.Whole as law
 use Rattle.requests.proofs.asked.side.Statement.{statement}
 use Rattle.requests.proofs.asked.side.Tie as tie
 
-shared-slice-read-from-char : tie.Need-shared-slice-read-from-char
-shared-slice-read-from-char c = search needs
-
-from-char-requires : tie.Need-from-char-requires
-from-char-requires c κs = search needs
-
 returns : tie.Need-returns
 returns c = c .from-char .ensures ∙ sym (law.side-one (now (c .before .before .before .before .args .word)) (c .before .before .if1 .taken))
 
@@ -22,7 +16,7 @@ pub side-spec : {M : Type 1} → statement M
 side-spec =
     tie.close
     (tie.spec
-    shared-slice-read-from-char
-    from-char-requires
+    (λ c. search needs)
+    (λ c κs. search needs)
     returns
     returns-2)

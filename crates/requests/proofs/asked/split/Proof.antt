@@ -11,37 +11,13 @@ use native.Mathlib.Omega.{arith}
 use Rattle.requests.proofs.asked.split.Statement.{statement}
 use Rattle.requests.proofs.asked.split.Tie as tie
 
-unsigned-requires : tie.Need-unsigned-requires
-unsigned-requires c κs = search needs
-
-enum-known-n : tie.Need-enum-known-n
-enum-known-n c = search needs
-
 cast-divide : tie.Need-cast-divide
 unfolding asked.splitAnswer
 cast-divide c = let h = subst (λ (x : Parsed). AtMost 4294967295 x) (c .before .before .n .given .1) (c .before .before .before .before .unsigned .ensures .1) in omega (arith, h)
 
-divide-requires : tie.Need-divide-requires
-divide-requires c κs = search needs
-
-tell-divided-requires : tie.Need-tell-divided-requires
-tell-divided-requires c κs = search needs
-
-enum-told : tie.Need-enum-told
-enum-told c = search needs
-
-put-bad-requires : tie.Need-put-bad-requires
-put-bad-requires c κs = search needs
-
-same-length : tie.Need-same-length
-same-length c = search needs
-
 returns : tie.Need-returns
 unfolding asked.splitAnswer
 returns c = rw (← c .before .before .before .before .before .before .before .before .unsigned .ensures .0, c .before .before .before .before .before .before .n .given .1) (laws.adds-as (ap told.dividedAnswer (c .before .before .before .divide .ensures)) (c .before .before .tell-divided .ensures))
-
-same-length-2 : tie.Need-same-length-2
-same-length-2 c = search needs
 
 returns-2 : tie.Need-returns-2
 unfolding asked.splitAnswer
@@ -51,14 +27,14 @@ pub split-spec : {M : Type 1} → statement M
 split-spec =
     tie.close
     (tie.spec
-    unsigned-requires
-    enum-known-n
+    (λ c κs. search needs)
+    (λ c. search needs)
     cast-divide
-    divide-requires
-    tell-divided-requires
-    enum-told
-    put-bad-requires
-    same-length
+    (λ c κs. search needs)
+    (λ c κs. search needs)
+    (λ c. search needs)
+    (λ c κs. search needs)
+    (λ c. search needs)
     returns
-    same-length-2
+    (λ c. search needs)
     returns-2)

@@ -7,46 +7,13 @@ use Rattle.requests.specs.Requests as asked
 use Rattle.requests.proofs.asked.successor.Statement.{statement}
 use Rattle.requests.proofs.asked.successor.Tie as tie
 
-listed-move-requires : tie.Need-listed-move-requires
-listed-move-requires c κs = search needs
-
-enum-known-m : tie.Need-enum-known-m
-enum-known-m c = search needs
-
-after-requires : tie.Need-after-requires
-after-requires c κs = search needs
-
-tell-after-requires : tie.Need-tell-after-requires
-tell-after-requires c κs = search needs
-
-enum-known-e : tie.Need-enum-known-e
-enum-known-e c = search needs
-
-put-refusal-requires : tie.Need-put-refusal-requires
-put-refusal-requires c κs = search needs
-
-enum-told : tie.Need-enum-told
-enum-told c = search needs
-
-put-bad-requires : tie.Need-put-bad-requires
-put-bad-requires c κs = search needs
-
-same-length : tie.Need-same-length
-same-length c = search needs
-
 returns : tie.Need-returns
 unfolding asked.successorAnswer
 returns c = rw (← c .before .before .before .before .before .before .before .before .listed-move .ensures, c .before .before .before .before .before .before .m .given .1) (laws.adds-as (ap told.afterAnswer (c .before .before .before .after .ensures)) (c .before .before .tell-after .ensures))
 
-same-length-2 : tie.Need-same-length-2
-same-length-2 c = search needs
-
 returns-2 : tie.Need-returns-2
 unfolding asked.successorAnswer
 returns-2 c = rw (← c .before .before .before .before .before .before .before .listed-move .ensures, c .before .before .before .before .before .e .given .1) (c .before .before .put-refusal .ensures)
-
-same-length-3 : tie.Need-same-length-3
-same-length-3 c = search needs
 
 returns-3 : tie.Need-returns-3
 unfolding asked.successorAnswer
@@ -56,17 +23,17 @@ pub successor-spec : {M : Type 1} → statement M
 successor-spec =
     tie.close
     (tie.spec
-    listed-move-requires
-    enum-known-m
-    after-requires
-    tell-after-requires
-    enum-known-e
-    put-refusal-requires
-    enum-told
-    put-bad-requires
-    same-length
+    (λ c κs. search needs)
+    (λ c. search needs)
+    (λ c κs. search needs)
+    (λ c κs. search needs)
+    (λ c. search needs)
+    (λ c κs. search needs)
+    (λ c. search needs)
+    (λ c κs. search needs)
+    (λ c. search needs)
     returns
-    same-length-2
+    (λ c. search needs)
     returns-2
-    same-length-3
+    (λ c. search needs)
     returns-3)

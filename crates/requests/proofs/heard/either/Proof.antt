@@ -7,25 +7,13 @@ use borrow.Author.Needs.{needs}
 use Rattle.requests.proofs.heard.either.Statement.{statement}
 use Rattle.requests.proofs.heard.either.Tie as tie
 
-from-fen-requires : tie.Need-from-fen-requires
-from-fen-requires c κs = search needs
-
 returns : tie.Need-returns
 unfolding eitherOf
 returns c = rw (ne-eqb (length (now (c .before .before .before .args .text))) 51 (c .before .if1 .taken)) (c .from-fen .ensures)
 
-find-requires : tie.Need-find-requires
-find-requires c κs = search needs
-
-from-fen-requires-2 : tie.Need-from-fen-requires-2
-from-fen-requires-2 c κs = search needs
-
 returns-2 : tie.Need-returns-2
 unfolding eitherOf
 returns-2 c = let f = c .before .before .find in rw (eq-eqb (length (now (c .before .before .before .before .before .args .text))) 51 (c .before .before .before .if1 .left), ← f .ensures .0, ne-eqb (f .result) 51 (c .before .if2 .taken)) (c .from-fen2 .ensures)
-
-from-hub-requires : tie.Need-from-hub-requires
-from-hub-requires c κs = search needs
 
 returns-3 : tie.Need-returns-3
 unfolding eitherOf
@@ -35,10 +23,10 @@ pub either-spec : {M : Type 1} → statement M
 either-spec =
     tie.close
     (tie.spec
-    from-fen-requires
+    (λ c κs. search needs)
     returns
-    find-requires
-    from-fen-requires-2
+    (λ c κs. search needs)
+    (λ c κs. search needs)
     returns-2
-    from-hub-requires
+    (λ c κs. search needs)
     returns-3)

@@ -6,29 +6,11 @@ use borrow.Author.Needs.{needs}
 use Rattle.requests.proofs.heard.listed_move.Statement.{statement}
 use Rattle.requests.proofs.heard.listed_move.Tie as tie
 
-slice-aggregate-unescape : tie.Need-slice-aggregate-unescape
-slice-aggregate-unescape c = search needs
-
-unescape-requires : tie.Need-unescape-requires
-unescape-requires c κs = search needs
-
-enum-known-n : tie.Need-enum-known-n
-enum-known-n c = search needs
-
 array-share-prefix-space : tie.Need-array-share-prefix-space
 array-share-prefix-space c = told.said-fits _ _ _ _ refl (c .before .before .before .before .unescape .ensures) _ (c .before .n .given .1)
 
 slice-aggregate-parse-move : tie.Need-slice-aggregate-parse-move
 slice-aggregate-parse-move c = sym (length-take-le _ _ (told.said-fits _ _ _ _ refl (c .before .before .before .before .before .unescape .ensures) _ (c .before .before .n .given .1)))
-
-parse-move-requires : tie.Need-parse-move-requires
-parse-move-requires c κs = search needs
-
-mean-requires : tie.Need-mean-requires
-mean-requires c κs = search needs
-
-enum-told : tie.Need-enum-told
-enum-told c = search needs
 
 returns : tie.Need-returns
 returns c = told.move-meant _ _ _ _ refl (c .before .before .before .before .before .before .before .unescape .ensures) (c .before .before .before .before .before .before .before .before .before .before .args .p) _ _ _ (c .before .before .before .before .n .given .1) (c .before .parse-move .ensures) (c .mean .ensures)
@@ -40,13 +22,13 @@ pub listed-move-spec : {M : Type 1} → statement M
 listed-move-spec =
     tie.close
     (tie.spec
-    slice-aggregate-unescape
-    unescape-requires
-    enum-known-n
+    (λ c. search needs)
+    (λ c κs. search needs)
+    (λ c. search needs)
     array-share-prefix-space
     slice-aggregate-parse-move
-    parse-move-requires
-    mean-requires
-    enum-told
+    (λ c κs. search needs)
+    (λ c κs. search needs)
+    (λ c. search needs)
     returns
     returns-2)

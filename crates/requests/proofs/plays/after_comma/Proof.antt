@@ -8,30 +8,6 @@ use borrow.Author.Needs.{needs}
 use Rattle.requests.proofs.plays.after_comma.Statement.{statement}
 use Rattle.requests.proofs.plays.after_comma.Tie as tie
 
-find-requires : tie.Need-find-requires
-find-requires c κs = search needs
-
-add-result : tie.Need-add-result
-add-result c = search needs
-
-sub-result : tie.Need-sub-result
-sub-result c = search needs
-
-part-result-start : tie.Need-part-result-start
-part-result-start c = search needs
-
-part-result-end : tie.Need-part-result-end
-part-result-end c = search needs
-
-sub-result-2 : tie.Need-sub-result-2
-sub-result-2 c = search needs
-
-part-result-start-2 : tie.Need-part-result-start-2
-part-result-start-2 c = search needs
-
-part-result-end-2 : tie.Need-part-result-end-2
-part-result-end-2 c = search needs
-
 returns : tie.Need-returns
 returns c = let s = now (c .before .before .before .before .args .s) in cuts.rest s (c .before .before .find .result + 1) ∙ laws.comma-hit s (c .before .before .find .result) (c .before .before .find .ensures .0)
 
@@ -42,13 +18,13 @@ pub after-comma-spec : {M : Type 1} → statement M
 after-comma-spec =
     tie.close
     (tie.spec
-    find-requires
-    add-result
-    sub-result
-    part-result-start
-    part-result-end
-    sub-result-2
-    part-result-start-2
-    part-result-end-2
+    (λ c κs. search needs)
+    (λ c. search needs)
+    (λ c. search needs)
+    (λ c. search needs)
+    (λ c. search needs)
+    (λ c. search needs)
+    (λ c. search needs)
+    (λ c. search needs)
     returns
     returns-2)

@@ -20,24 +20,6 @@ abbrev μ-loop : tie.MeasureT-loop
 loop-holds : tie.Need-loop-holds Inv-loop μ-loop
 loop-holds c = (search needs, refl)
 
-sub-left : tie.Need-sub-left Inv-loop μ-loop
-sub-left c = search needs
-
-part-left-start : tie.Need-part-left-start Inv-loop μ-loop
-part-left-start c = search needs
-
-part-left-end : tie.Need-part-left-end Inv-loop μ-loop
-part-left-end c = search needs
-
-first-requires : tie.Need-first-requires Inv-loop μ-loop
-first-requires c κs = search needs
-
-is-readable-requires : tie.Need-is-readable-requires Inv-loop μ-loop
-is-readable-requires c κs = search needs
-
-rest-requires : tie.Need-rest-requires Inv-loop μ-loop
-rest-requires c κs = search needs
-
 sub-i : tie.Need-sub-i Inv-loop μ-loop
 sub-i c = let s = now (c .before .before .before .before .before .before .before .before .args .s) in let l = c .before .before .before .before .before .before .loop in omega (arith, laws.rest-less s (l .i) _ _ (cuts.rest s (l .i)) (c .rest .ensures) (omega arith))
 
@@ -63,12 +45,12 @@ all-readable-spec =
     Inv-loop
     μ-loop
     loop-holds
-    sub-left
-    part-left-start
-    part-left-end
-    first-requires
-    is-readable-requires
-    rest-requires
+    (λ c. search needs)
+    (λ c. search needs)
+    (λ c. search needs)
+    (λ c κs. search needs)
+    (λ c κs. search needs)
+    (λ c κs. search needs)
     sub-i
     loop-less
     loop-again

@@ -9,24 +9,6 @@ use borrow.Author.Needs.{needs}
 use Rattle.requests.proofs.plays.fresh.Statement.{statement}
 use Rattle.requests.proofs.plays.fresh.Tie as tie
 
-from-position-requires : tie.Need-from-position-requires
-from-position-requires c κs = search needs
-
-slice-aggregate-put : tie.Need-slice-aggregate-put
-slice-aggregate-put c = search needs
-
-put-requires : tie.Need-put-requires
-put-requires c κs = search needs
-
-outcome-requires : tie.Need-outcome-requires
-outcome-requires c κs = search needs
-
-put-judged-requires : tie.Need-put-judged-requires
-put-judged-requires c κs = search needs
-
-same-length : tie.Need-same-length
-same-length c = search needs
-
 returns : tie.Need-returns
 unfolding freshAnswer
 returns c = pieces.adds-then (c .before .before .before .before .before .before .before .put .ensures) (pieces.adds-as (ap judgedWord (c .before .before .before .outcome .ensures ∙ ap (λ (b : Begun). outcomeOf (b .game)) (c .before .before .before .before .before .before .before .before .before .before .before .from-position .ensures))) (c .before .before .put-judged .ensures))
@@ -35,10 +17,10 @@ pub fresh-spec : {M : Type 1} → statement M
 fresh-spec =
     tie.close
     (tie.spec
-    from-position-requires
-    slice-aggregate-put
-    put-requires
-    outcome-requires
-    put-judged-requires
-    same-length
+    (λ c κs. search needs)
+    (λ c. search needs)
+    (λ c κs. search needs)
+    (λ c κs. search needs)
+    (λ c κs. search needs)
+    (λ c. search needs)
     returns)

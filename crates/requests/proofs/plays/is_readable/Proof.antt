@@ -7,18 +7,6 @@ use borrow.Author.Needs.{needs}
 use Rattle.requests.proofs.plays.is_readable.Statement.{statement}
 use Rattle.requests.proofs.plays.is_readable.Tie as tie
 
-enum-told : tie.Need-enum-told
-enum-told c = search needs
-
-is-text-requires : tie.Need-is-text-requires
-is-text-requires c κs = search needs
-
-enum-told-2 : tie.Need-enum-told-2
-enum-told-2 c = search needs
-
-is-record-requires : tie.Need-is-record-requires
-is-record-requires c κs = search needs
-
 returns : tie.Need-returns
 returns c = c .is-text .ensures ∙ sym (ap (λ (x : Given). readableOf x (now (c .before .before .before .before .args .word))) (c .before .enum-told .given .1))
 
@@ -28,4 +16,10 @@ returns-2 c = c .is-record .ensures ∙ sym (ap (λ (x : Given). readableOf x (n
 pub is-readable-spec : {M : Type 1} → statement M
 is-readable-spec =
     tie.close
-    (tie.spec enum-told is-text-requires enum-told-2 is-record-requires returns returns-2)
+    (tie.spec
+    (λ c. search needs)
+    (λ c κs. search needs)
+    (λ c. search needs)
+    (λ c κs. search needs)
+    returns
+    returns-2)

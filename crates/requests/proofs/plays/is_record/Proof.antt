@@ -5,15 +5,6 @@ use borrow.Author.Needs.{needs}
 use Rattle.requests.proofs.plays.is_record.Statement.{statement}
 use Rattle.requests.proofs.plays.is_record.Tie as tie
 
-read-record-requires : tie.Need-read-record-requires
-read-record-requires c κs = search needs
-
-enum-told : tie.Need-enum-told
-enum-told c = search needs
-
-enum-told-2 : tie.Need-enum-told-2
-enum-told-2 c = search needs
-
 returns : tie.Need-returns
 unfolding isRecordOf
 returns c = sym (ap isMove (sym (c .before .before .read-record .ensures) ∙ c .enum-told .given .1))
@@ -23,4 +14,11 @@ unfolding isRecordOf
 returns-2 c = sym (ap isMove (sym (c .before .before .read-record .ensures) ∙ c .enum-told2 .given .1))
 
 pub is-record-spec : {M : Type 1} → statement M
-is-record-spec = tie.close (tie.spec read-record-requires enum-told enum-told-2 returns returns-2)
+is-record-spec =
+    tie.close
+    (tie.spec
+    (λ c κs. search needs)
+    (λ c. search needs)
+    (λ c. search needs)
+    returns
+    returns-2)

@@ -5,21 +5,6 @@ use borrow.Author.Needs.{needs}
 use Rattle.requests.proofs.plays.play_record.Statement.{statement}
 use Rattle.requests.proofs.plays.play_record.Tie as tie
 
-read-record-requires : tie.Need-read-record-requires
-read-record-requires c κs = search needs
-
-enum-known-m : tie.Need-enum-known-m
-enum-known-m c = search needs
-
-play-requires : tie.Need-play-requires
-play-requires c κs = search needs
-
-enum-told : tie.Need-enum-told
-enum-told c = search needs
-
-unread-requires : tie.Need-unread-requires
-unread-requires c κs = search needs
-
 returns : tie.Need-returns
 unfolding playRecordOf
 returns c = c .play .ensures ∙ sym (ap (playMove (c .before .before .before .before .before .before .args .g)) (sym (c .before .before .before .before .read-record .ensures) ∙ c .before .before .m .given .1))
@@ -32,10 +17,10 @@ pub play-record-spec : {M : Type 1} → statement M
 play-record-spec =
     tie.close
     (tie.spec
-    read-record-requires
-    enum-known-m
-    play-requires
-    enum-told
-    unread-requires
+    (λ c κs. search needs)
+    (λ c. search needs)
+    (λ c κs. search needs)
+    (λ c. search needs)
+    (λ c κs. search needs)
     returns
     returns-2)

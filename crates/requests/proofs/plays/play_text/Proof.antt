@@ -7,29 +7,11 @@ use borrow.Author.Needs.{needs}
 use Rattle.requests.proofs.plays.play_text.Statement.{statement}
 use Rattle.requests.proofs.plays.play_text.Tie as tie
 
-slice-aggregate-unescape : tie.Need-slice-aggregate-unescape
-slice-aggregate-unescape c = search needs
-
-unescape-requires : tie.Need-unescape-requires
-unescape-requires c κs = search needs
-
-enum-known-n : tie.Need-enum-known-n
-enum-known-n c = search needs
-
 array-share-prefix-space : tie.Need-array-share-prefix-space
 array-share-prefix-space c = told.said-fits _ _ _ _ refl (c .before .before .before .before .unescape .ensures) _ (c .before .n .given .1)
 
 slice-aggregate-play-str : tie.Need-slice-aggregate-play-str
 slice-aggregate-play-str c = sym (length-take-le _ _ (told.said-fits _ _ _ _ refl (c .before .before .before .before .before .unescape .ensures) _ (c .before .before .n .given .1)))
-
-play-str-requires : tie.Need-play-str-requires
-play-str-requires c κs = search needs
-
-enum-told : tie.Need-enum-told
-enum-told c = search needs
-
-unread-requires : tie.Need-unread-requires
-unread-requires c κs = search needs
 
 returns : tie.Need-returns
 returns c = laws.text-played _ _ _ _ refl (c .before .before .before .before .before .before .unescape .ensures) (c .before .before .before .before .before .before .before .before .before .args .g) _ _ (c .before .before .before .n .given .1) (c .play-str .ensures)
@@ -41,13 +23,13 @@ pub play-text-spec : {M : Type 1} → statement M
 play-text-spec =
     tie.close
     (tie.spec
-    slice-aggregate-unescape
-    unescape-requires
-    enum-known-n
+    (λ c. search needs)
+    (λ c κs. search needs)
+    (λ c. search needs)
     array-share-prefix-space
     slice-aggregate-play-str
-    play-str-requires
-    enum-told
-    unread-requires
+    (λ c κs. search needs)
+    (λ c. search needs)
+    (λ c κs. search needs)
     returns
     returns-2)

@@ -7,18 +7,6 @@ use borrow.Author.Needs.{needs}
 use Rattle.requests.proofs.plays.play_word.Statement.{statement}
 use Rattle.requests.proofs.plays.play_word.Tie as tie
 
-enum-told : tie.Need-enum-told
-enum-told c = search needs
-
-play-text-requires : tie.Need-play-text-requires
-play-text-requires c κs = search needs
-
-enum-told-2 : tie.Need-enum-told-2
-enum-told-2 c = search needs
-
-play-record-requires : tie.Need-play-record-requires
-play-record-requires c κs = search needs
-
 returns : tie.Need-returns
 returns c = c .play-text .ensures ∙ sym (ap (λ (x : Given). playWordOf x (c .before .before .before .before .args .g) (now (c .before .before .before .before .args .word))) (c .before .enum-told .given .1))
 
@@ -28,4 +16,10 @@ returns-2 c = c .play-record .ensures ∙ sym (ap (λ (x : Given). playWordOf x 
 pub play-word-spec : {M : Type 1} → statement M
 play-word-spec =
     tie.close
-    (tie.spec enum-told play-text-requires enum-told-2 play-record-requires returns returns-2)
+    (tie.spec
+    (λ c. search needs)
+    (λ c κs. search needs)
+    (λ c. search needs)
+    (λ c κs. search needs)
+    returns
+    returns-2)

@@ -23,27 +23,6 @@ abbrev μ-loop : tie.MeasureT-loop
 loop-holds : tie.Need-loop-holds Inv-loop μ-loop
 loop-holds c = (search needs, refl, λ new end a. a)
 
-sub-left : tie.Need-sub-left Inv-loop μ-loop
-sub-left c = search needs
-
-part-left-start : tie.Need-part-left-start Inv-loop μ-loop
-part-left-start c = search needs
-
-part-left-end : tie.Need-part-left-end Inv-loop μ-loop
-part-left-end c = search needs
-
-first-requires : tie.Need-first-requires Inv-loop μ-loop
-first-requires c κs = search needs
-
-play-word-requires : tie.Need-play-word-requires Inv-loop μ-loop
-play-word-requires c κs = search needs
-
-tell-word-requires : tie.Need-tell-word-requires Inv-loop μ-loop
-tell-word-requires c κs = search needs
-
-rest-requires : tie.Need-rest-requires Inv-loop μ-loop
-rest-requires c κs = search needs
-
 sub-i : tie.Need-sub-i Inv-loop μ-loop
 sub-i c = let s = now (c .before .before .before .before .before .before .before .before .before .before .before .before .before .args .s) in let l = c .before .before .before .before .before .before .before .before .before .before .loop in omega (arith, laws.rest-less s (l .i) _ _ (cuts.rest s (l .i)) (c .rest .ensures) (omega arith))
 
@@ -61,12 +40,6 @@ loop-again c =
           (pieces.adds-then (c .before .before .before .before .tell-word .ensures) a)),
     )
 
-put-end-requires : tie.Need-put-end-requires Inv-loop μ-loop
-put-end-requires c κs = search needs
-
-same-length : tie.Need-same-length Inv-loop μ-loop
-same-length c = search needs
-
 returns : tie.Need-returns Inv-loop μ-loop
 returns c = let s = now (c .before .before .before .before .before .before .before .before .args .s) in let l = c .before .before .before .before .before .loop in l .inv .2 _ _ (pieces.adds-as (laws.game-end s (l .i) (c .before .before .before .before .before .before .before .before .args .given) (l .g) (omega arith)) (c .before .before .put-end .ensures))
 
@@ -77,16 +50,16 @@ play-words-spec =
     Inv-loop
     μ-loop
     loop-holds
-    sub-left
-    part-left-start
-    part-left-end
-    first-requires
-    play-word-requires
-    tell-word-requires
-    rest-requires
+    (λ c. search needs)
+    (λ c. search needs)
+    (λ c. search needs)
+    (λ c κs. search needs)
+    (λ c κs. search needs)
+    (λ c κs. search needs)
+    (λ c κs. search needs)
     sub-i
     loop-less
     loop-again
-    put-end-requires
-    same-length
+    (λ c κs. search needs)
+    (λ c. search needs)
     returns)

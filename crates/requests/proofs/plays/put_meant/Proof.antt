@@ -6,21 +6,6 @@ use borrow.Author.Needs.{needs}
 use Rattle.requests.proofs.plays.put_meant.Statement.{statement}
 use Rattle.requests.proofs.plays.put_meant.Tie as tie
 
-enum-known-m : tie.Need-enum-known-m
-enum-known-m c = search needs
-
-put-move-requires : tie.Need-put-move-requires
-put-move-requires c κs = search needs
-
-enum-told : tie.Need-enum-told
-enum-told c = search needs
-
-enum-told-2 : tie.Need-enum-told-2
-enum-told-2 c = search needs
-
-same-length : tie.Need-same-length
-same-length c = search needs
-
 returns : tie.Need-returns
 returns c = pieces.adds-as (sym (ap meantWord (c .before .before .before .before .before .m .given .1))) (c .before .before .put-move .ensures)
 
@@ -34,11 +19,11 @@ pub put-meant-spec : {M : Type 1} → statement M
 put-meant-spec =
     tie.close
     (tie.spec
-    enum-known-m
-    put-move-requires
-    enum-told
-    enum-told-2
-    same-length
+    (λ c. search needs)
+    (λ c κs. search needs)
+    (λ c. search needs)
+    (λ c. search needs)
+    (λ c. search needs)
     returns
     returns-2
     returns-3)

@@ -11,50 +11,11 @@ use native.Mathlib.Omega.{arith}
 use Rattle.requests.proofs.plays.read_record.Statement.{statement}
 use Rattle.requests.proofs.plays.read_record.Tie as tie
 
-after-comma-requires : tie.Need-after-comma-requires
-after-comma-requires c κs = search needs
-
-up-to-requires : tie.Need-up-to-requires
-up-to-requires c κs = search needs
-
-unsigned-requires : tie.Need-unsigned-requires
-unsigned-requires c κs = search needs
-
-enum-known-from : tie.Need-enum-known-from
-enum-known-from c = search needs
-
-enum-told : tie.Need-enum-told
-enum-told c = search needs
-
 returns : tie.Need-returns
 returns c = laws.record-first (now (c .before .before .before .before .before .before .args .word)) (sym (c .before .before .unsigned .ensures .0 ∙ ap unsignedOf (c .before .before .before .up-to .ensures)) ∙ c .enum-told .given .1)
 
-up-to-requires-2 : tie.Need-up-to-requires-2
-up-to-requires-2 c κs = search needs
-
-unsigned-requires-2 : tie.Need-unsigned-requires-2
-unsigned-requires-2 c κs = search needs
-
-enum-known-to : tie.Need-enum-known-to
-enum-known-to c = search needs
-
-enum-told-2 : tie.Need-enum-told-2
-enum-told-2 c = search needs
-
 returns-2 : tie.Need-returns-2
 returns-2 c = laws.record-second (now (c .before .before .before .before .before .before .before .before .before .before .before .args .word)) _ (sym (c .before .before .before .before .before .before .before .unsigned .ensures .0 ∙ ap unsignedOf (c .before .before .before .before .before .before .before .before .up-to .ensures)) ∙ c .before .before .before .before .before .from .given .1) (sym (c .before .before .unsigned2 .ensures .0 ∙ ap unsignedOf (c .before .before .before .up-to2 .ensures ∙ ap (upTo 44) (c .before .before .before .before .before .before .before .before .before .after-comma .ensures))) ∙ c .enum-told2 .given .1)
-
-after-comma-requires-2 : tie.Need-after-comma-requires-2
-after-comma-requires-2 c κs = search needs
-
-set-requires : tie.Need-set-requires
-set-requires c κs = search needs
-
-enum-known-captured : tie.Need-enum-known-captured
-enum-known-captured c = search needs
-
-enum-told-3 : tie.Need-enum-told-3
-enum-told-3 c = search needs
 
 returns-3 : tie.Need-returns-3
 returns-3 c = laws.record-third (now (c .before .before .before .before .before .before .before .before .before .before .before .before .before .before .before .before .args .word)) _ _ (sym (c .before .before .before .before .before .before .before .before .before .before .before .before .unsigned .ensures .0 ∙ ap unsignedOf (c .before .before .before .before .before .before .before .before .before .before .before .before .before .up-to .ensures)) ∙ c .before .before .before .before .before .before .before .before .before .before .from .given .1) (sym (c .before .before .before .before .before .before .before .unsigned2 .ensures .0 ∙ ap unsignedOf (c .before .before .before .before .before .before .before .before .up-to2 .ensures ∙ ap (upTo 44) (c .before .before .before .before .before .before .before .before .before .before .before .before .before .before .after-comma .ensures))) ∙ c .before .before .before .before .before .to .given .1) (sym (c .before .before .set .ensures ∙ ap setOf (c .before .before .before .after-comma2 .ensures ∙ ap afterComma (c .before .before .before .before .before .before .before .before .before .before .before .before .before .before .after-comma .ensures))) ∙ c .enum-told3 .given .1)
@@ -72,21 +33,21 @@ pub read-record-spec : {M : Type 1} → statement M
 read-record-spec =
     tie.close
     (tie.spec
-    after-comma-requires
-    up-to-requires
-    unsigned-requires
-    enum-known-from
-    enum-told
+    (λ c κs. search needs)
+    (λ c κs. search needs)
+    (λ c κs. search needs)
+    (λ c. search needs)
+    (λ c. search needs)
     returns
-    up-to-requires-2
-    unsigned-requires-2
-    enum-known-to
-    enum-told-2
+    (λ c κs. search needs)
+    (λ c κs. search needs)
+    (λ c. search needs)
+    (λ c. search needs)
     returns-2
-    after-comma-requires-2
-    set-requires
-    enum-known-captured
-    enum-told-3
+    (λ c κs. search needs)
+    (λ c κs. search needs)
+    (λ c. search needs)
+    (λ c. search needs)
     returns-3
     cast-t12
     cast-t13

@@ -10,33 +10,9 @@ use borrow.Author.Needs.{needs}
 use Rattle.requests.proofs.plays.tell_text.Statement.{statement}
 use Rattle.requests.proofs.plays.tell_text.Tie as tie
 
-put-byte-requires : tie.Need-put-byte-requires
-put-byte-requires c κs = search needs
-
-enum-told : tie.Need-enum-told
-enum-told c = search needs
-
-put-move-of-requires : tie.Need-put-move-of-requires
-put-move-of-requires c κs = search needs
-
-put-state-requires : tie.Need-put-state-requires
-put-state-requires c κs = search needs
-
-enum-known-answer : tie.Need-enum-known-answer
-enum-known-answer c = search needs
-
-put-number-requires : tie.Need-put-number-requires
-put-number-requires c κs = search needs
-
-same-length : tie.Need-same-length
-same-length c = search needs
-
 returns : tie.Need-returns
 unfolding textTold
 returns c = pieces.adds-then (c .before .before .before .before .before .before .before .before .before .before .before .before .put-byte .ensures) (pieces.adds-as (sym (ap (λ (a : Answer). textAnswer a (moveOfWord (c .before .before .before .before .before .before .before .before .before .before .before .before .before .before .before .before .before .args .g) (now (c .before .before .before .before .before .before .before .before .before .before .before .before .before .before .before .before .before .args .word)) ++ stateText 47 (c .before .before .before .before .before .before .before .before .before .before .before .before .before .before .before .before .before .args .r .game))) (c .before .before .before .before .before .before .before .before .enum-told .given .1))) (pieces.adds-then (c .before .before .before .before .before .before .put-move-of .ensures) (c .before .before .put-state .ensures)))
-
-same-length-2 : tie.Need-same-length-2
-same-length-2 c = search needs
 
 returns-2 : tie.Need-returns-2
 unfolding textTold
@@ -46,13 +22,13 @@ pub tell-text-spec : {M : Type 1} → statement M
 tell-text-spec =
     tie.close
     (tie.spec
-    put-byte-requires
-    enum-told
-    put-move-of-requires
-    put-state-requires
-    enum-known-answer
-    put-number-requires
-    same-length
+    (λ c κs. search needs)
+    (λ c. search needs)
+    (λ c κs. search needs)
+    (λ c κs. search needs)
+    (λ c. search needs)
+    (λ c κs. search needs)
+    (λ c. search needs)
     returns
-    same-length-2
+    (λ c. search needs)
     returns-2)

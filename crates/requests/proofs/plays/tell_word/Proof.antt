@@ -8,26 +8,8 @@ use borrow.Author.Needs.{needs}
 use Rattle.requests.proofs.plays.tell_word.Statement.{statement}
 use Rattle.requests.proofs.plays.tell_word.Tie as tie
 
-enum-told : tie.Need-enum-told
-enum-told c = search needs
-
-tell-text-requires : tie.Need-tell-text-requires
-tell-text-requires c κs = search needs
-
-enum-told-2 : tie.Need-enum-told-2
-enum-told-2 c = search needs
-
-tell-record-requires : tie.Need-tell-record-requires
-tell-record-requires c κs = search needs
-
-same-length : tie.Need-same-length
-same-length c = search needs
-
 returns : tie.Need-returns
 returns c = pieces.adds-as (sym (ap (λ (x : Given). wordTold x (c .before .before .before .before .before .before .before .before .args .g) (now (c .before .before .before .before .before .before .before .before .args .word)) (c .before .before .before .before .before .before .before .before .args .r)) (c .before .before .before .before .enum-told .given .1))) (c .before .before .tell-text .ensures)
-
-same-length-2 : tie.Need-same-length-2
-same-length-2 c = search needs
 
 returns-2 : tie.Need-returns-2
 returns-2 c = pieces.adds-as (sym (ap (λ (x : Given). wordTold x (c .before .before .before .before .before .before .before .before .args .g) (now (c .before .before .before .before .before .before .before .before .args .word)) (c .before .before .before .before .before .before .before .before .args .r)) (c .before .before .before .before .enum-told2 .given .1))) (c .before .before .tell-record .ensures)
@@ -36,11 +18,11 @@ pub tell-word-spec : {M : Type 1} → statement M
 tell-word-spec =
     tie.close
     (tie.spec
-    enum-told
-    tell-text-requires
-    enum-told-2
-    tell-record-requires
-    same-length
+    (λ c. search needs)
+    (λ c κs. search needs)
+    (λ c. search needs)
+    (λ c κs. search needs)
+    (λ c. search needs)
     returns
-    same-length-2
+    (λ c. search needs)
     returns-2)

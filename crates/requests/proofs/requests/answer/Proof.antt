@@ -6,30 +6,9 @@ use Rattle.requests.specs.Requests as asked
 use Rattle.requests.proofs.requests.answer.Statement.{statement}
 use Rattle.requests.proofs.requests.answer.Tie as tie
 
-put-bad-requires : tie.Need-put-bad-requires
-put-bad-requires c κs = search needs
-
-same-length : tie.Need-same-length
-same-length c = search needs
-
 returns : tie.Need-returns
 unfolding asked.answerOf
 returns c = rw (lt-ltb 65536 _ (c .before .before .before .before .if1 .taken)) (law.whole (c .before .before .put-bad .ensures))
-
-first-requires : tie.Need-first-requires
-first-requires c κs = search needs
-
-kind-of-requires : tie.Need-kind-of-requires
-kind-of-requires c κs = search needs
-
-rest-requires : tie.Need-rest-requires
-rest-requires c κs = search needs
-
-answer-kind-requires : tie.Need-answer-kind-requires
-answer-kind-requires c κs = search needs
-
-same-length-2 : tie.Need-same-length-2
-same-length-2 c = search needs
 
 returns-2 : tie.Need-returns-2
 unfolding asked.answerOf
@@ -39,12 +18,12 @@ pub answer-spec : {M : Type 1} → statement M
 answer-spec =
     tie.close
     (tie.spec
-    put-bad-requires
-    same-length
+    (λ c κs. search needs)
+    (λ c. search needs)
     returns
-    first-requires
-    kind-of-requires
-    rest-requires
-    answer-kind-requires
-    same-length-2
+    (λ c κs. search needs)
+    (λ c κs. search needs)
+    (λ c κs. search needs)
+    (λ c κs. search needs)
+    (λ c. search needs)
     returns-2)

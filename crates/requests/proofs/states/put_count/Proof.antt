@@ -6,18 +6,6 @@ use borrow.Author.Needs.{needs}
 use Rattle.requests.proofs.states.put_count.Statement.{statement}
 use Rattle.requests.proofs.states.put_count.Tie as tie
 
-enum-known-c : tie.Need-enum-known-c
-enum-known-c c = search needs
-
-put-decimal-requires : tie.Need-put-decimal-requires
-put-decimal-requires c κs = search needs
-
-enum-told : tie.Need-enum-told
-enum-told c = search needs
-
-same-length : tie.Need-same-length
-same-length c = search needs
-
 returns : tie.Need-returns
 returns c = pieces.adds-as (sym (ap countWord (c .before .before .before .before .before .c .given .1))) (c .before .before .put-decimal .ensures)
 
@@ -26,4 +14,11 @@ returns-2 c = pieces.adds-as (sym (ap countWord (c .enum-told .given .1))) (piec
 
 pub put-count-spec : {M : Type 1} → statement M
 put-count-spec =
-    tie.close (tie.spec enum-known-c put-decimal-requires enum-told same-length returns returns-2)
+    tie.close
+    (tie.spec
+    (λ c. search needs)
+    (λ c κs. search needs)
+    (λ c. search needs)
+    (λ c. search needs)
+    returns
+    returns-2)

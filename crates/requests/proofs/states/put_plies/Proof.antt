@@ -6,27 +6,6 @@ use borrow.Author.Needs.{needs}
 use Rattle.requests.proofs.states.put_plies.Statement.{statement}
 use Rattle.requests.proofs.states.put_plies.Tie as tie
 
-put-byte-requires : tie.Need-put-byte-requires
-put-byte-requires c κs = search needs
-
-reversible-plies-requires : tie.Need-reversible-plies-requires
-reversible-plies-requires c κs = search needs
-
-put-count-requires : tie.Need-put-count-requires
-put-count-requires c κs = search needs
-
-put-byte-requires-2 : tie.Need-put-byte-requires-2
-put-byte-requires-2 c κs = search needs
-
-cast-put-decimal : tie.Need-cast-put-decimal
-cast-put-decimal c = search needs
-
-put-decimal-requires : tie.Need-put-decimal-requires
-put-decimal-requires c κs = search needs
-
-same-length : tie.Need-same-length
-same-length c = search needs
-
 returns : tie.Need-returns
 unfolding pliesText
 returns c = pieces.adds-then (c .before .before .before .before .before .before .before .before .before .before .before .before .before .before .before .before .put-byte .ensures) (pieces.adds-then (pieces.adds-as (ap countWord (c .before .before .before .before .before .before .before .before .before .before .before .before .reversible-plies .ensures)) (c .before .before .before .before .before .before .before .before .before .before .before .put-count .ensures)) (pieces.adds-then (c .before .before .before .before .before .before .before .put-byte2 .ensures) (c .before .before .put-decimal .ensures)))
@@ -35,11 +14,11 @@ pub put-plies-spec : {M : Type 1} → statement M
 put-plies-spec =
     tie.close
     (tie.spec
-    put-byte-requires
-    reversible-plies-requires
-    put-count-requires
-    put-byte-requires-2
-    cast-put-decimal
-    put-decimal-requires
-    same-length
+    (λ c κs. search needs)
+    (λ c κs. search needs)
+    (λ c κs. search needs)
+    (λ c κs. search needs)
+    (λ c. search needs)
+    (λ c κs. search needs)
+    (λ c. search needs)
     returns)

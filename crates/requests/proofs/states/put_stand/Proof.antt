@@ -6,18 +6,6 @@ use borrow.Author.Needs.{needs}
 use Rattle.requests.proofs.states.put_stand.Statement.{statement}
 use Rattle.requests.proofs.states.put_stand.Tie as tie
 
-enum-known-p : tie.Need-enum-known-p
-enum-known-p c = search needs
-
-put-fen-requires : tie.Need-put-fen-requires
-put-fen-requires c κs = search needs
-
-enum-told : tie.Need-enum-told
-enum-told c = search needs
-
-same-length : tie.Need-same-length
-same-length c = search needs
-
 returns : tie.Need-returns
 returns c = pieces.adds-as (sym (ap standWord (c .before .before .before .before .before .p .given .1))) (c .before .before .put-fen .ensures)
 
@@ -26,4 +14,11 @@ returns-2 c = pieces.adds-as (sym (ap standWord (c .enum-told .given .1))) (piec
 
 pub put-stand-spec : {M : Type 1} → statement M
 put-stand-spec =
-    tie.close (tie.spec enum-known-p put-fen-requires enum-told same-length returns returns-2)
+    tie.close
+    (tie.spec
+    (λ c. search needs)
+    (λ c κs. search needs)
+    (λ c. search needs)
+    (λ c. search needs)
+    returns
+    returns-2)
