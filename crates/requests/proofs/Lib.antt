@@ -3,5 +3,4 @@ pub mod Listing
 pub mod Whole
 pub mod PlayLaws
 pub mod PlayedGames
-pub mod LineLaws
 pub mod Rows

@@ -1,0 +1,6 @@
+pub mod Moved
+pub mod LineLaws
+pub mod StepLaws
+pub mod RunLaws
+pub mod Buffers
+pub mod Room
