@@ -4,10 +4,10 @@ use mathlib.Core.Path.{_≡_, refl, ap, sym, _∙_}
 use mathlib.Core.List.{List, [], _∷_, _++_, append-assoc}
 use mathlib.Core.Bool.{Bool, true, false, cond}
 use native.Mathlib.Omega.{arith}
-use lib.ListN.{length, take, drop, length-append, length-take}
+use lib.ListN.{length, take, drop, length-append}
 use lib.Seq.{take-all, length-take-le}
 use lib.Dec.{eqb, ltb, leb}
-use borrow.Author.Tests.{lt-ltb, ltb-true, ltb-false, leb-true, leb-false}
+use borrow.Author.Tests.{lt-ltb, leb-true, leb-false}
 use Rattle.texts.specs.Bytes.{is, indexOf, consHead}
 use Rattle.wording.specs.Output.{bad}
 use Rattle.requests.specs.Requests.{answerOf}
@@ -64,6 +64,7 @@ tail-whole b c t e = go (split (wholeOf (c ∷ t)))
     last : (q : Bool) → cond q 1 0 ≡ suc (suc (length t)) → ⊥
     last true h = omega arith
     last false h = omega arith
+
     go : Split (wholeOf (c ∷ t)) → wholeOf (c ∷ t) ≡ suc (length t)
     go (none z) = absurd (last (eqb b 10) (sym (whole-byte b (c ∷ t) z) ∙ e))
     go (some p) = omega (arith, whole-cons b (c ∷ t) p)
@@ -88,6 +89,7 @@ whole-part (b ∷ s) = go (split (wholeOf s)) (whole-part s)
     byte : wholeOf s ≡ 0 → (q : Bool) → eqb b 10 ≡ q → wholeOf (take (cond q 1 0) (b ∷ s)) ≡ cond q 1 0
     byte z true e = alone-whole b e
     byte z false e = whole-nil
+
     go : Split (wholeOf s) → wholeOf (take (wholeOf s) s) ≡ wholeOf s → wholeOf (take (wholeOf (b ∷ s)) (b ∷ s)) ≡ wholeOf (b ∷ s)
     go (none z) h =
         let e = whole-byte b s z in
@@ -103,6 +105,7 @@ open-part (b ∷ s) = go (split (wholeOf s)) (open-part s)
     byte : wholeOf s ≡ 0 → (q : Bool) → eqb b 10 ≡ q → wholeOf (drop (cond q 1 0) (b ∷ s)) ≡ 0
     byte z true e = z
     byte z false e = whole-byte b s z ∙ ap (λ (q : Bool). cond q 1 0) e
+
     go : Split (wholeOf s) → wholeOf (drop (wholeOf s) s) ≡ 0 → wholeOf (drop (wholeOf (b ∷ s)) (b ∷ s)) ≡ 0
     go (none z) h = ap (λ (k : ℕ). wholeOf (drop k (b ∷ s))) (whole-byte b s z) ∙ byte z (eqb b 10) refl
     go (some p) h = ap (λ (k : ℕ). wholeOf (drop k (b ∷ s))) (whole-cons b s p) ∙ h
@@ -212,6 +215,7 @@ open-byte b t e = go (split (wholeOf t))
     byte : (q : Bool) → _≡_ {A = ℕ} (cond q 1 0) 0 → q ≡ false
     byte true h = absurd (omega arith)
     byte false h = refl
+
     go : Split (wholeOf t) → (wholeOf t ≡ 0) × (eqb b 10 ≡ false)
     go (none z) = (z, byte (eqb b 10) (sym (whole-byte b t z) ∙ e))
     go (some p) = absurd (omega (arith, whole-cons b t p))

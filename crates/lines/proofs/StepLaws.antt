@@ -1,13 +1,13 @@
 -- One line more is answered, until there is none or no room; and the steps of a turn add up.
 use Prim.Native.Nat.{ℕ, _+_, _-_, _≤_, _<_}
-use mathlib.Core.Path.{_≡_, refl, ap, sym, _∙_}
+use mathlib.Core.Path.{_≡_, ap, sym, _∙_}
 use mathlib.Core.List.{List, [], _∷_, _++_}
 use native.Mathlib.Omega.{arith}
 use lib.ListN.{length, take, drop, length-drop, take-append-drop}
-use lib.Seq.{drop-drop, take-add, take-nil, length-take-le}
+use lib.Seq.{drop-drop, take-add, length-take-le}
 use Rattle.texts.specs.Bytes.{is, indexOf}
 use Rattle.requests.specs.Requests.{answerOf}
-use Rattle.lines.specs.Lines.{linesOf, answersTo, outputOf, wholeOf}
+use Rattle.lines.specs.Lines.{outputOf, wholeOf}
 use Rattle.lines.specs.Steps.{between, Answered}
 use Rattle.lines.proofs.LineLaws.{whole-nil, whole-append, output-nil, output-append, no-feed, line-whole, line-output}
 

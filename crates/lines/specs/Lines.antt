@@ -1,6 +1,5 @@
 -- Lines of the input and what standard output is for them.
 use Prim.Native.Nat.{ℕ, suc}
-use Prim.Native.Char.{code}
 use mathlib.Core.List.{List, [], _∷_, _++_}
 use mathlib.Core.Bool.{cond}
 use lib.Dec.{eqb, ltb}

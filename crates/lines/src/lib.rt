@@ -5,11 +5,12 @@
 // the end of the input, and their contracts say what bytes stand in the buffers then. What is written so, turn by turn, is the
 // output for the whole input, however it is cut into reads (law `run-law`). `read_more`, `write_answers`, `feed` and `serve`
 // only read, call these and write what they put into the buffer.
-use libc::{STDIN_FILENO, STDOUT_FILENO};
+use libc::STDIN_FILENO;
+use libc::STDOUT_FILENO;
 use requests::requests as asked;
 use texts::bytes;
 ghost use mathlib.Core.Path.{_≡_};
-ghost use mathlib.Core.List.{List, [], _∷_, _++_};
+ghost use mathlib.Core.List.{[], _∷_, _++_};
 ghost use Prim.Native.Nat.{_≤_, _<_, _-_, _+_, min};
 ghost use lib.ListN.{length, take, drop};
 ghost use Rattle.requests.specs.Requests.{answerOf};

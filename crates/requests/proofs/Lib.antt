@@ -4,3 +4,6 @@ pub mod Whole
 pub mod PlayLaws
 pub mod PlayedGames
 pub mod Rows
+pub mod Lengths
+pub mod Falling
+pub mod Room

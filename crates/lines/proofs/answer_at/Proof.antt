@@ -4,36 +4,27 @@ use lib.ListN.{length, length-set}
 use denote.Ref.{now}
 use Rattle.requests.specs.Requests.{answerOf}
 use Rattle.lines.proofs.Buffers as laws
-use Rattle.lines.proofs.Room.{answer-short}
+use Rattle.requests.proofs.Room.{answer-short}
 use borrow.Author.Needs.{needs}
 use native.Mathlib.Omega.{arith}
 use Rattle.lines.proofs.answer_at.Statement.{statement}
 use Rattle.lines.proofs.answer_at.Tie as tie
-use Rattle.lines.proofs.answer_at.Reads as reads
-use Rattle.lines.proofs.answer_at.Lts as lts
-use Rattle.requests.proofs.requests.answer.Reads as answer-reads
 
--- src/lib.rt:34:33
 sub-answer : tie.Need-sub-answer
 sub-answer c = search needs
 
--- src/lib.rt:34:33
 part-answer-start : tie.Need-part-answer-start
 part-answer-start c = search needs
 
--- src/lib.rt:34:33
 part-answer-end : tie.Need-part-answer-end
 part-answer-end c = search needs
 
--- src/lib.rt:34:9
 answer-requires : tie.Need-answer-requires
 answer-requires c κs = search needs
 
--- src/lib.rt:35:9
 add-out : tie.Need-add-out
 add-out c = search needs
 
--- src/lib.rt:35:5
 slice-write-out : tie.Need-slice-write-out
 slice-write-out c =
     let a = c .before .before .before .before .before .before .args in
@@ -41,19 +32,15 @@ slice-write-out c =
     let s = answer-short (now (a .line)) in
     omega (arith, laws.put-in (now (a .out)) (answerOf (now (a .line))) (f .last .1 .0) (a .at) (f .result) (omega (arith, s)) (f .ensures .0) (f .ensures .1))
 
--- src/lib.rt:36:5
 add-result : tie.Need-add-result
 add-result c = search needs
 
--- src/lib.rt:36:5
 add-result-2 : tie.Need-add-result-2
 add-result-2 c = search needs
 
--- src/lib.rt:29:1
 same-length : tie.Need-same-length
 same-length c = search needs
 
--- src/lib.rt:29:1
 returns : tie.Need-returns
 returns c =
     let a = c .before .before .before .before .before .before .args in

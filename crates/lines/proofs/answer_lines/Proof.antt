@@ -1,21 +1,15 @@
 -- Line by line: the answers so far are those to the lines so far.
-use mathlib.Core.Path.{_≡_, refl, ap, sym, _∙_}
-use Prim.Native.Nat.{_≤_, _-_, _+_}
+use mathlib.Core.Path.{_≡_, refl, sym}
+use Prim.Native.Nat.{_-_}
 use native.Mathlib.Omega.{arith}
-use lib.ListN.{length, take, drop}
+use lib.ListN.{length}
 use lib.Seq.{length-take-le}
 use denote.Ref.{now}
 use borrow.Author.Needs.{needs}
 use Rattle.texts.proofs.Cuts.{rest}
-use Rattle.lines.specs.Lines.{wholeOf, outputOf}
-use Rattle.lines.specs.Steps.{between, Answered}
 use Rattle.lines.proofs.StepLaws as laws
 use Rattle.lines.proofs.answer_lines.Statement.{statement}
 use Rattle.lines.proofs.answer_lines.Tie as tie
-use Rattle.lines.proofs.answer_lines.Reads as reads
-use Rattle.lines.proofs.answer_lines.Lts as lts
-use Rattle.lines.proofs.answer_at.Reads as answer-at-reads
-use Rattle.texts.proofs.bytes.find.Reads as find-reads
 
 abbrev Inv-loop : tie.InvT-loop
 Inv-loop s from out₀ at₀ put₀ out at put = (length out ≡ length out₀) × laws.Answering s from out at put

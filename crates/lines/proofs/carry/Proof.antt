@@ -8,34 +8,24 @@ use borrow.Author.Needs.{needs}
 use native.Mathlib.Omega.{arith}
 use Rattle.lines.proofs.carry.Statement.{statement}
 use Rattle.lines.proofs.carry.Tie as tie
-use Rattle.lines.proofs.carry.Reads as reads
-use Rattle.lines.proofs.carry.Lts as lts
-use Rattle.lines.proofs.kept.Reads as kept-reads
-use Rattle.lines.proofs.shift.Reads as shift-reads
 
--- src/lib.rt:99:18
 sub-kept : tie.Need-sub-kept
 sub-kept c = let a = c .before .args in omega (arith, c .before .pre .1, whole-le (take (a .full) (now (a .buf))), length-take (a .full) (now (a .buf)))
 
--- src/lib.rt:99:9
 kept-requires : tie.Need-kept-requires
 kept-requires c κs = search needs
 
--- src/lib.rt:100:22
 add-shift : tie.Need-add-shift
 add-shift c = search needs
 
--- src/lib.rt:100:5
 shift-requires : tie.Need-shift-requires
 shift-requires c κs =
     let a = c .before .before .before .args in
     (omega arith, omega (arith, c .before .before .before .pre .1, whole-le (take (a .full) (now (a .buf))), length-take (a .full) (now (a .buf))))
 
--- src/lib.rt:93:1
 same-length : tie.Need-same-length
 same-length c = search needs
 
--- src/lib.rt:93:1
 returns : tie.Need-returns
 returns c =
     let s = c .before .before .before .before .before .before in

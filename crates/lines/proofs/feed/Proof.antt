@@ -7,13 +7,6 @@ use borrow.Author.Needs.{needs}
 use native.Mathlib.Omega.{arith}
 use Rattle.lines.proofs.feed.Statement.{statement}
 use Rattle.lines.proofs.feed.Tie as tie
-use Rattle.lines.proofs.feed.Reads as reads
-use Rattle.lines.proofs.feed.Lts as lts
-use Rattle.io.proofs.write_all.Reads as write-all-reads
-use Rattle.lines.proofs.carry.Reads as carry-reads
-use Rattle.lines.proofs.last_answer.Reads as last-answer-reads
-use Rattle.lines.proofs.read_more.Reads as read-more-reads
-use Rattle.lines.proofs.write_answers.Reads as write-answers-reads
 
 abbrev Inv-loop : tie.InvT-loop
 Inv-loop buf₀ out₀ have₀ turns₀ buf out have turns = (have ≤ 65537) × (length buf ≡ length buf₀) × (length out ≡ length out₀) × (65537 < length buf) × (1507328 ≤ length out)

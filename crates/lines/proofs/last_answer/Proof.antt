@@ -6,23 +6,16 @@ use borrow.Author.Needs.{needs}
 use native.Mathlib.Omega.{arith}
 use Rattle.lines.proofs.last_answer.Statement.{statement}
 use Rattle.lines.proofs.last_answer.Tie as tie
-use Rattle.lines.proofs.last_answer.Reads as reads
-use Rattle.lines.proofs.last_answer.Lts as lts
-use Rattle.lines.proofs.answer_at.Reads as answer-at-reads
 
--- src/lib.rt:65:9
 returns : tie.Need-returns
 returns c = (omega arith, laws.last-none (now (c .before .before .before .args .line)) (c .if1 .taken))
 
--- src/lib.rt:67:5
 answer-at-requires : tie.Need-answer-at-requires
 answer-at-requires c κs = search needs
 
--- src/lib.rt:59:1
 same-length : tie.Need-same-length
 same-length c = search needs
 
--- src/lib.rt:59:1
 returns-2 : tie.Need-returns-2
 returns-2 c = let f = c .before .before .answer-at in (f .ensures .0, f .ensures .1 ∙ laws.last-some (now (c .before .before .before .before .before .before .before .args .line)) (c .before .before .before .before .if1 .left))
 

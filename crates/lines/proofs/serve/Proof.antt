@@ -1,5 +1,5 @@
 -- The buffers have room for a line and for an answer.
-use Prim.Native.Nat.{ℕ, _≤_, _<_}
+use Prim.Native.Nat.{ℕ, _≤_}
 use mathlib.Core.Path.{_≡_, sym}
 use mathlib.Core.List.{List}
 use lib.ListN.{length, replicate, length-replicate}

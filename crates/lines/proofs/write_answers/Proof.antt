@@ -1,5 +1,5 @@
 -- Step by step, up to the last whole line.
-use mathlib.Core.Path.{_≡_, refl, sym}
+use mathlib.Core.Path.{_≡_, sym}
 use Prim.Native.Nat.{_-_}
 use lib.ListN.{length, take}
 use lib.Seq.{length-take-le}
@@ -11,10 +11,6 @@ use Rattle.lines.proofs.StepLaws as laws
 use native.Mathlib.Omega.{arith}
 use Rattle.lines.proofs.write_answers.Statement.{statement}
 use Rattle.lines.proofs.write_answers.Tie as tie
-use Rattle.lines.proofs.write_answers.Reads as reads
-use Rattle.lines.proofs.write_answers.Lts as lts
-use Rattle.io.proofs.write_all.Reads as write-all-reads
-use Rattle.lines.proofs.answer_lines.Reads as answer-lines-reads
 
 abbrev Inv-loop : tie.InvT-loop
 Inv-loop s out₀ at₀ t₀ out at t = (length out ≡ length out₀) × (wholeOf (take at s) ≡ at) × Answered s at out (t .at) (t .put)
