@@ -4,5 +4,7 @@ pub mod Table
 pub mod Whole
 pub mod PlayLaws
 pub mod PlayedGames
-pub mod LineLaws
 pub mod Rows
+pub mod Lengths
+pub mod Falling
+pub mod Room

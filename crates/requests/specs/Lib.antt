@@ -3,5 +3,4 @@ pub mod Answers
 pub mod States
 pub mod Plays
 pub mod Requests
-pub mod Lines
 pub mod Computed

@@ -2,7 +2,6 @@
 mod answers;
 mod asked;
 mod heard;
-pub mod lines;
 mod plays;
 pub mod requests;
 mod states;

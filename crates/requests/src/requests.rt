@@ -12,7 +12,7 @@ ghost use Rattle.wording.specs.Output.{Adds, written};
 ghost use Rattle.requests.specs.Requests.{kindAt, kindOf, kindAnswer, answerOf};
 
 // The longest line that is looked at.
-pub(crate) const LONGEST: usize = 65536;
+pub const LONGEST: usize = 65536;
 
 // What a request's name asks for.
 pub(crate) enum Kind {

@@ -4,10 +4,10 @@ use Prim.Native.Nat.{ℕ, _≤_, _-_}
 use lib.ListN.{length, take, drop, length-set}
 use denote.Ref.{now}
 use native.Mathlib.Omega.{arith}
-use Rattle.requests.proofs.LineLaws as laws
+use Rattle.lines.proofs.Moved as laws
 use borrow.Author.Needs.{needs}
-use Rattle.requests.proofs.lines.shift.Statement.{statement}
-use Rattle.requests.proofs.lines.shift.Tie as tie
+use Rattle.lines.proofs.shift.Statement.{statement}
+use Rattle.lines.proofs.shift.Tie as tie
 
 abbrev Inv-loop : tie.InvT-loop
 Inv-loop buf₀ used full i₀ buf i = (used ≤ i) × (i ≤ full) × (full ≤ length buf) × (length buf ≡ length buf₀) × (take (i - used) buf ≡ take (i - used) (drop used buf₀)) × (drop i buf ≡ drop i buf₀)

@@ -1,0 +1,5 @@
+pub mod Moved
+pub mod LineLaws
+pub mod StepLaws
+pub mod RunLaws
+pub mod Buffers

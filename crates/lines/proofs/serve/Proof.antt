@@ -1,0 +1,27 @@
+-- The buffers have room for a line and for an answer.
+use Prim.Native.Nat.{ℕ, _≤_}
+use mathlib.Core.Path.{_≡_, sym}
+use mathlib.Core.List.{List}
+use lib.ListN.{length, replicate, length-replicate}
+use borrow.Author.Needs.{needs}
+use native.Mathlib.Omega.{arith}
+use Rattle.lines.proofs.serve.Statement.{statement}
+use Rattle.lines.proofs.serve.Tie as tie
+
+slice-aggregate-feed : tie.Need-slice-aggregate-feed
+slice-aggregate-feed c = sym (length-replicate {A = ℕ} 131072 0)
+
+slice-aggregate-feed-2 : tie.Need-slice-aggregate-feed-2
+slice-aggregate-feed-2 c = sym (length-replicate {A = ℕ} 1572864 0)
+
+fits : (l : List ℕ) (n m : ℕ) → length l ≡ n → m ≤ n → m ≤ length l
+fits l n m e h = omega (arith, e)
+
+feed-requires : tie.Need-feed-requires
+feed-requires c κs = (fits (replicate 131072 0) 131072 65538 (length-replicate {A = ℕ} 131072 0) (omega arith), fits (replicate 1572864 0) 1572864 1507328 (length-replicate {A = ℕ} 1572864 0) (omega arith))
+
+returns : tie.Need-returns
+returns c = search needs
+
+pub serve-spec : {M : Type 1} → statement M
+serve-spec = tie.close (tie.spec slice-aggregate-feed slice-aggregate-feed-2 feed-requires returns)

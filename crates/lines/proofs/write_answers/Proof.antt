@@ -1,0 +1,66 @@
+-- Step by step, up to the last whole line.
+use mathlib.Core.Path.{_≡_, sym}
+use Prim.Native.Nat.{_-_}
+use lib.ListN.{length, take}
+use lib.Seq.{length-take-le}
+use borrow.Author.Needs.{needs}
+use Rattle.lines.specs.Lines.{wholeOf}
+use Rattle.lines.specs.Steps.{Answered}
+use Rattle.lines.proofs.LineLaws.{whole-nil}
+use Rattle.lines.proofs.StepLaws as laws
+use native.Mathlib.Omega.{arith}
+use Rattle.lines.proofs.write_answers.Statement.{statement}
+use Rattle.lines.proofs.write_answers.Tie as tie
+
+abbrev Inv-loop : tie.InvT-loop
+Inv-loop s out₀ at₀ t₀ out at t = (length out ≡ length out₀) × (wholeOf (take at s) ≡ at) × Answered s at out (t .at) (t .put)
+
+abbrev μ-loop : tie.MeasureT-loop
+μ-loop s out₀ at₀ t₀ out at t = length s - at
+
+answer-lines-requires : tie.Need-answer-lines-requires Inv-loop μ-loop
+answer-lines-requires c κs = search needs
+
+loop-holds : tie.Need-loop-holds Inv-loop μ-loop
+loop-holds c = (search needs, whole-nil, c .before .before .answer-lines .ensures)
+
+slice-reshare-prefix-write-all : tie.Need-slice-reshare-prefix-write-all Inv-loop μ-loop
+slice-reshare-prefix-write-all c = search needs
+
+slice-aggregate-write-all : tie.Need-slice-aggregate-write-all Inv-loop μ-loop
+slice-aggregate-write-all c = sym (length-take-le _ _ (omega arith))
+
+write-all-requires : tie.Need-write-all-requires Inv-loop μ-loop
+write-all-requires c κs = search needs
+
+answer-lines-requires-2 : tie.Need-answer-lines-requires-2 Inv-loop μ-loop
+answer-lines-requires-2 c κs = search needs
+
+loop-less : tie.Need-loop-less Inv-loop μ-loop
+loop-less c = search needs
+
+loop-again : tie.Need-loop-again Inv-loop μ-loop
+loop-again c = let l = c .before .before .before .before .before .before .before .before .loop in (search needs, laws.onward-whole (l .inv .1) (l .inv .2), c .before .before .answer-lines2 .ensures)
+
+same-length : tie.Need-same-length Inv-loop μ-loop
+same-length c = search needs
+
+returns : tie.Need-returns Inv-loop μ-loop
+returns c = let l = c .before .before .loop in (omega arith, laws.all-whole (l .inv .1) (l .inv .2) (omega arith))
+
+pub write-answers-spec : {M : Type 1} → statement M
+write-answers-spec =
+    tie.close
+    (tie.spec
+    Inv-loop
+    μ-loop
+    answer-lines-requires
+    loop-holds
+    slice-reshare-prefix-write-all
+    slice-aggregate-write-all
+    write-all-requires
+    answer-lines-requires-2
+    loop-less
+    loop-again
+    same-length
+    returns)

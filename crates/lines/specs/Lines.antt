@@ -1,0 +1,57 @@
+-- Lines of the input and what standard output is for them.
+use Prim.Native.Nat.{ℕ, suc}
+use mathlib.Core.List.{List, [], _∷_, _++_}
+use mathlib.Core.Bool.{cond}
+use lib.Dec.{eqb, ltb}
+use lib.ListN.{take, drop}
+use Rattle.texts.specs.Bytes.{consHead}
+use Rattle.requests.specs.Requests.{answerOf}
+
+-- ---- a whole input
+
+-- the lines of some bytes: a line feed (10) ends a line; the last line may lack it; behind a line feed at the end there is no line
+unfoldable pub linesOf : List ℕ → List (List ℕ)
+linesOf [] = []
+linesOf (b ∷ s) = let rest = linesOf s in cond (eqb b 10) ([] ∷ rest) (consHead b rest)
+
+-- the answer to each line, in order, a line feed behind each
+unfoldable pub answersTo : List (List ℕ) → List ℕ
+answersTo [] = []
+answersTo (line ∷ lines) = answerOf line ++ (10 ∷ answersTo lines)
+
+-- what standard output is for a standard input
+unfoldable pub outputOf : List ℕ → List ℕ
+outputOf s = answersTo (linesOf s)
+
+-- ---- an input that comes in pieces
+
+-- how many bytes the whole lines of s take: those up to its last line feed
+unfoldable pub wholeOf : List ℕ → ℕ
+wholeOf [] = 0
+wholeOf (b ∷ s) = let n = wholeOf s in cond (ltb 0 n) (suc n) (cond (eqb b 10) 1 0)
+
+-- the bytes of its whole lines, and those of the line behind them, which has no line feed yet
+unfoldable pub wholeLines : List ℕ → List ℕ
+wholeLines s = take (wholeOf s) s
+
+unfoldable pub openLine : List ℕ → List ℕ
+openLine s = drop (wholeOf s) s
+
+-- what is carried over to the next turn: of a line of more than 65,536 bytes, which is a bad request, one byte more than those
+unfoldable pub carriedOf : List ℕ → List ℕ
+carriedOf s = take 65537 (openLine s)
+
+-- at the end of the input: the answer to the line that was carried over, if there is one
+unfoldable pub lastAnswer : List ℕ → List ℕ
+lastAnswer [] = []
+lastAnswer (b ∷ s) = answerOf (b ∷ s) ++ (10 ∷ [])
+
+-- what is written for some pieces, read one after the other: each turn writes the answers to the lines that are whole then
+unfoldable pub turnsOutput : List ℕ → List (List ℕ) → List ℕ
+turnsOutput carried [] = lastAnswer carried
+turnsOutput carried (piece ∷ pieces) = let s = carried ++ piece in outputOf (wholeLines s) ++ turnsOutput (carriedOf s) pieces
+
+-- the pieces put together
+unfoldable pub together : List (List ℕ) → List ℕ
+together [] = []
+together (piece ∷ pieces) = piece ++ together pieces
