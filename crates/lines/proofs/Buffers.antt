@@ -11,8 +11,8 @@ use lib.Seq.{take-all, take-at, take-suc-set, take-append-le, drop-append-le, le
 use borrow.Author.Tests.{leb-true, leb-false}
 use borrow.Rule.Slice.PartMut.{putMid, postOf, same-len-mid}
 use Rattle.texts.proofs.Cuts.{rest}
-use Rattle.wording.specs.Output.{written}
-use Rattle.wording.proofs.Pieces.{written-length}
+use Rattle.texts.specs.Lent.{written}
+use Rattle.texts.proofs.Pieces.{written-length}
 use Rattle.requests.specs.Requests.{answerOf}
 use Rattle.lines.specs.Lines.{wholeOf, openLine, carriedOf, lastAnswer}
 

@@ -6,8 +6,9 @@ use native.Mathlib.Numerals.{add-one}
 use lib.ListN.{getD}
 use Rattle.positions.specs.declared.moves.Move.{Move}
 use Rattle.captures.specs.Lists.{blank}
-use Rattle.wording.specs.Output.{Adds, decimal}
-use Rattle.wording.proofs.Pieces.{adds-then, adds-as, adds-none}
+use Rattle.texts.specs.Lent.{Adds}
+use Rattle.wording.specs.Output.{decimal}
+use Rattle.texts.proofs.Pieces.{adds-then, adds-as, adds-none}
 use Rattle.requests.specs.Answers.{moveWord, movesText, countsText}
 
 pub moves-none : (ms : List Move) (a : List ℕ) (i : ℕ) → Adds (movesText ms 0) a i a i

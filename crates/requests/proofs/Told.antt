@@ -35,7 +35,7 @@ use Rattle.notation.specs.Choice.{parseMoveOf}
 use Rattle.notation.specs.declared.notation.Found.{Found}
 use Rattle.notation.specs.declared.notation.Found.the-variants as found
 use Rattle.notation.proofs.MoveTexts.{move-short}
-use Rattle.wording.specs.Output.{written, Holds}
+use Rattle.texts.specs.Lent.{written, Holds}
 use Rattle.wording.specs.Escapes.{Plain, text, broken, plain, undoneOf, Undid}
 use Rattle.requests.specs.Heard.{heardOf, eitherOf, readOf, heardText, positionOf, meantOf, meantText, listedMoveOf, placingOf, placingText, squareOf}
 use Rattle.requests.specs.Answers.{fenWord, hubWord, moveWord}

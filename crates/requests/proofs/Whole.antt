@@ -8,15 +8,8 @@ use lib.Seq.{take-nil}
 use Rattle.squares.specs.Pieces.{colorFromCharOf}
 use Rattle.squares.specs.declared.piece.Sided.the-variants as sided
 use Rattle.squares.specs.declared.refusal.Refusal.the-variants.{NoSide}
-use Rattle.wording.specs.Output.{written, Holds, Adds}
+use Rattle.texts.specs.Lent.{written, Holds, Adds}
 use Rattle.requests.specs.Requests.{sideOf}
-
-start : (o : List ℕ) → Holds o [] o 0
-unfolding written
-start o = record { bytes = sym (ap (λ (y : List ℕ). y ++ o) (take-nil (length o))); place = omega arith }
-
-pub whole : {s o new : List ℕ} {end : ℕ} → Adds s o 0 new end → (end ≡ min (length s) (length o)) × (new ≡ written s o)
-whole {s} {o} a = let h = a .held o [] (start o) in (h .place, h .bytes)
 
 pub side-one : (s : List ℕ) → length s ≡ 1 → sideOf s ≡ colorFromCharOf (getD s 0 0)
 unfolding sideOf

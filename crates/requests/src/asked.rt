@@ -21,7 +21,7 @@ use wording::numbers::Signed;
 use wording::output;
 use wording::words;
 ghost use mathlib.Core.Path.{_≡_};
-ghost use Rattle.wording.specs.Output.{Adds};
+ghost use Rattle.texts.specs.Lent.{Adds};
 ghost use Rattle.requests.specs.Requests.{numberWord, squareAnswer, sideOf, partsAnswer, setsAnswer, parsedAnswer, successorAnswer, depthAnswer, splitAnswer, workAnswer, heardAnswer, restAnswer, atmostAnswer, weightsOf, evalwAnswer};
 
 // What is done with a position: something is told of it alone, or with the rest of the line, or by a limit or weights.

@@ -23,7 +23,7 @@ use wording::words;
 ghost use mathlib.Core.Path.{_≡_};
 ghost use Rattle.squares.specs.declared.refusal.Refusal.the-variants.{BadMoveText};
 ghost use Rattle.games.specs.Play.{refusedPlay};
-ghost use Rattle.wording.specs.Output.{Adds};
+ghost use Rattle.texts.specs.Lent.{Adds};
 ghost use Rattle.requests.specs.Plays.{afterComma, recordOf, isTextOf, isRecordOf, readableOf, allReadable, wordsOf, playTextOf, playRecordOf, playWordOf, meantWord, moveOfWord, textTold, recordTold, wordTold, gameText, playsAnswer, freshAnswer};
 
 // How the plays of a game are given.

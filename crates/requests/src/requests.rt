@@ -8,7 +8,7 @@ use wording::words;
 ghost use mathlib.Core.Path.{_≡_};
 ghost use Prim.Native.Nat.{_<_, min};
 ghost use lib.ListN.{length};
-ghost use Rattle.wording.specs.Output.{Adds, written};
+ghost use Rattle.texts.specs.Lent.{Adds, written};
 ghost use Rattle.requests.specs.Requests.{kindAt, kindOf, kindAnswer, answerOf};
 
 // The longest line that is looked at.

@@ -14,7 +14,7 @@ use squares::piece::Color;
 use squares::refusal::Answer;
 use squares::refusal::Refusal;
 use wording::output;
-ghost use Rattle.wording.specs.Output.{Adds};
+ghost use Rattle.texts.specs.Lent.{Adds};
 ghost use Rattle.requests.specs.States.{winnerWord, outcomeWord, judgedWord, countWord, pliesText, stateText, standWord, numberWord, movesWord, endText};
 
 fn put_winner(out: &mut [u8], at: usize, w: Winner) -> usize

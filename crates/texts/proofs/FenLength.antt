@@ -12,10 +12,14 @@ use Rattle.squares.specs.Squares.{all, squareAtBit, containsOf}
 use Rattle.squares.specs.Computed.{computed}
 use Rattle.squares.proofs.Pointwise.{has-half, has-low}
 use Rattle.squares.proofs.Numbers.{has-all}
-use Rattle.positions.specs.Boards.{Board}
-use Rattle.positions.specs.Acceptance.{Accepted}
+use Rattle.positions.specs.Boards.{Board, boardOf}
+use Rattle.positions.specs.Acceptance.{Accepted, sound}
+use Rattle.positions.specs.declared.position.Position.{Position}
+use Rattle.positions.proofs.Accepts.{sound-says}
 use Rattle.texts.specs.Bytes.{joined, digits}
+use Rattle.texts.specs.Lent.{Adds}
 use Rattle.texts.specs.Fen.{itemText, listText, fenText}
+use Rattle.texts.proofs.Pieces.{Starts, starts}
 
 -- K, digits and comma of bit i
 cost : ℕ → ℕ
@@ -108,3 +112,10 @@ module _ (b : Board) (a : Accepted b) where
   pub fen-short : length (fenText b) ≤ 196
   unfolding fenText joined
   fen-short = omega (arith, lists-short, length-append (listText (b .kings) (b .white)) (58 ∷ 66 ∷ listText (b .kings) (b .black)))
+
+-- so that 200 bytes hold the text of a sound position
+pub fen-fits : (p : Position) → sound p ≡ true → length (fenText (boardOf p)) ≤ 200
+fen-fits p s = omega (arith, fen-short (boardOf p) (sound-says p s .accepted))
+
+pub fen-starts : (p : Position) {o new : List ℕ} {n : ℕ} → sound p ≡ true → length o ≡ 200 → Adds (fenText (boardOf p)) o 0 new n → Starts (fenText (boardOf p)) new n
+fen-starts p s e a = starts (omega (arith, fen-fits p s, e)) a

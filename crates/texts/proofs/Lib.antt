@@ -3,6 +3,7 @@ pub mod Cuts
 pub mod SquareTexts
 pub mod Readers
 pub mod FenLength
+pub mod Pieces
 pub mod Writers
 pub mod ListLaws
 pub mod Marks

@@ -19,7 +19,8 @@ use Rattle.texts.specs.Bytes.{joined, digits}
 use Rattle.texts.specs.Fen.{itemText, listText, separator, fieldText, fenText}
 use Rattle.texts.specs.Hub.{squaresFrom, hubChar, hubText}
 use Rattle.texts.specs.declared.bytes.Text.{Text}
-use Rattle.texts.specs.Lent.{content, noTextOf, pushOf, put}
+use Rattle.texts.specs.Lent.{Adds, content, noTextOf, pushOf, put}
+use Rattle.texts.proofs.Pieces.{adds-none, adds-then, adds-as}
 
 -- one byte more of s over o
 pub write-step : (s o : List ℕ) (i : ℕ) → i < length s → length s ≤ length o
@@ -117,21 +118,21 @@ pub put-large : (t : Text) (n : ℕ) → 10 ≤ n → pushOf (pushOf t (48 + n /
 unfolding put
 put-large t n h = ap (put t) (sym (digits-large n h))
 
-pub put-king : (t : Text) (kings n : ℕ) (k : Bool) → k ≡ containsOf kings n → k ≡ true → put (pushOf t 75) (digits n) ≡ put t (itemText kings n)
-unfolding itemText put
-put-king t kings n k q e = rw (← q, e)
-
-pub put-man : (t : Text) (kings n : ℕ) (k : Bool) → k ≡ containsOf kings n → k ≡ false → put t (digits n) ≡ put t (itemText kings n)
+pub item-king : (kings n : ℕ) (k : Bool) → k ≡ containsOf kings n → k ≡ true → (75 ∷ []) ++ digits n ≡ itemText kings n
 unfolding itemText
-put-man t kings n k q e = rw (← q, e)
+item-king kings n k q e = rw (← q, e)
 
-pub put-first : (t : Text) (f : Bool) → f ≡ true → t ≡ put t (separator f)
-unfolding separator put
-put-first t f e = rw e
+pub item-man : (kings n : ℕ) (k : Bool) → k ≡ containsOf kings n → k ≡ false → digits n ≡ itemText kings n
+unfolding itemText
+item-man kings n k q e = rw (← q, e)
 
-pub put-later : (t : Text) (f : Bool) → f ≡ false → pushOf t 44 ≡ put t (separator f)
-unfolding separator put
-put-later t f e = rw e
+pub separator-first : (f : Bool) → f ≡ true → [] ≡ separator f
+unfolding separator
+separator-first f e = rw e
+
+pub separator-later : (f : Bool) → f ≡ false → 44 ∷ [] ≡ separator f
+unfolding separator
+separator-later f e = rw e
 
 pub square-lt : (i : ℕ) → squareAtBit i < 100
 unfolding squareAtBit
@@ -171,36 +172,31 @@ pub remaining-end : (kings : ℕ) (first : Bool) (s : ℕ) → s ≡ 0 → remai
 unfolding remaining
 remaining-end kings first s e = ap (λ (x : ℕ). remaining kings first (members x)) e ∙ ap (remaining kings first) members-none
 
--- one turn of the loop
-pub list-turn : (t u v : Text) (kings : ℕ) (first : Bool) (s n : ℕ) → 0 < s → s < 2 ^ 64 → n ≡ squareAtBit (lowest s)
-    → u ≡ put t (separator first) → v ≡ put u (itemText kings n)
-    → put v (remaining kings false (members (bitAnd s (s - 1)))) ≡ put t (remaining kings first (members s))
-list-turn t u v kings first s n p h q e f =
-    let r = remaining kings false (members (bitAnd s (s - 1))) in
-    ap (λ (x : Text). put x r) (f ∙ ap (λ (x : Text). put x (itemText kings n)) e ∙ put-two t (separator first) (itemText kings n))
-    ∙ put-two t (separator first ++ itemText kings n) r
-    ∙ ap (put t) (sym (remaining-next kings first s n p h q))
+-- where `left` goes behind what was written so far, the whole text has gone behind what stood at first
+pub record Leaves (whole first : List ℕ) (from : ℕ) (left out : List ℕ) (at : ℕ) : Type 0 where
+  pub rest : (new : List ℕ) (end : ℕ) → Adds left out at new end → Adds whole first from new end
 
-pub list-done : (t : Text) (kings : ℕ) (first : Bool) (s : ℕ) → s ≡ 0 → t ≡ put t (remaining kings first (members s))
-list-done t kings first s e = put-none t ∙ ap (put t) (sym (remaining-end kings first s e))
+pub list-start : (kings s : ℕ) (out : List ℕ) (at : ℕ) → Leaves (listText kings s) out at (remaining kings true (members s)) out at
+list-start kings s out at = record { rest = λ new end x. adds-as (remaining-all kings s) x }
+
+-- one turn of the loop
+pub list-turn : {w a b c d : List ℕ} {h i j k : ℕ} (kings : ℕ) (first : Bool) (s n : ℕ) → 0 < s → s < 2 ^ 64 → n ≡ squareAtBit (lowest s)
+    → Leaves w a h (remaining kings first (members s)) b i → Adds (separator first) b i c j → Adds (itemText kings n) c j d k
+    → Leaves w a h (remaining kings false (members (bitAnd s (s - 1)))) d k
+list-turn kings first s n p l q g x y =
+    record { rest = λ new end z. g .rest new end (adds-as (sym (remaining-next kings first s n p l q)) (adds-then (adds-then x y) z)) }
+
+pub list-done : {w a b : List ℕ} {h i : ℕ} (kings : ℕ) (first : Bool) (s : ℕ) → s ≡ 0 → Leaves w a h (remaining kings first (members s)) b i → Adds w a h b i
+list-done {b = b} {i = i} kings first s e g = g .rest b i (adds-as (sym (remaining-end kings first s e)) (adds-none b i))
 
 -- ---- the whole text
-pub put-field : (t u v r : Text) (letter kings s : ℕ) → u ≡ pushOf t 58 → v ≡ pushOf u letter → r ≡ put v (listText kings s) → r ≡ put t (fieldText letter kings s)
-unfolding fieldText put
-put-field t u v r letter kings s a b c = c ∙ ap (λ (x : Text). put x (listText kings s)) (b ∙ ap (λ (x : Text). pushOf x letter) a)
+pub field-parts : (letter kings s : ℕ) → (58 ∷ []) ++ ((letter ∷ []) ++ listText kings s) ≡ fieldText letter kings s
+unfolding fieldText
+field-parts letter kings s = refl
 
-fen-parts : (b : Board) → ((colorChar (b .side) ∷ []) ++ fieldText 87 (b .kings) (b .white)) ++ fieldText 66 (b .kings) (b .black) ≡ fenText b
+pub fen-parts : (b : Board) (x : ℕ) → x ≡ colorChar (b .side) → (x ∷ []) ++ (fieldText 87 (b .kings) (b .white) ++ fieldText 66 (b .kings) (b .black)) ≡ fenText b
 unfolding fenText joined fieldText
-fen-parts b = refl
-
-pub put-fen : (e t u r : Text) (b : Board) (x : ℕ) → e ≡ noTextOf → x ≡ colorChar (b .side) → t ≡ pushOf e x → u ≡ put t (fieldText 87 (b .kings) (b .white))
-    → r ≡ put u (fieldText 66 (b .kings) (b .black)) → r ≡ put noTextOf (fenText b)
-put-fen e t u r b x n q a c d =
-    d ∙ ap (λ (y : Text). put y (fieldText 66 (b .kings) (b .black)))
-    (c ∙ ap (λ (y : Text). put y (fieldText 87 (b .kings) (b .white))) (a ∙ ap₂ pushOf n q ∙ put-one noTextOf (colorChar (b .side)))
-    ∙ put-two noTextOf (colorChar (b .side) ∷ []) (fieldText 87 (b .kings) (b .white)))
-    ∙ put-two noTextOf ((colorChar (b .side) ∷ []) ++ fieldText 87 (b .kings) (b .white)) (fieldText 66 (b .kings) (b .black))
-    ∙ ap (put noTextOf) (fen-parts b)
+fen-parts b x e = rw e
 
 -- ---- Hub, square by square
 pub hub-start : (e t : Text) (b : Board) (x : ℕ) → e ≡ noTextOf → x ≡ colorChar (b .side) → t ≡ pushOf e x

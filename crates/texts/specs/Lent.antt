@@ -1,5 +1,6 @@
 -- Writing into lent space (document 01: bytes after a written text stay; refused, every byte stays).
-use Prim.Native.Nat.{ℕ, _+_}
+use Prim.Native.Nat.{ℕ, _+_, min}
+use mathlib.Core.Path.{_≡_}
 use mathlib.Core.List.{List, [], _∷_, _++_}
 use mathlib.Core.Bool.{cond}
 use lib.ListN.{length, take, drop, set, replicate}
@@ -16,6 +17,21 @@ emitOf t out = cond (leb (length t) (length out)) (wrote.Length (length t)) (wro
 -- the lent bytes afterwards
 unfoldable pub emitted : List ℕ → List ℕ → List ℕ
 emitted t out = cond (leb (length t) (length out)) (t ++ drop (length t) out) out
+
+-- ---- piece by piece into lent bytes
+
+-- the lent bytes o with the text t over their start; what has no room is left out, bytes behind the text stay
+unfoldable pub written : List ℕ → List ℕ → List ℕ
+written t o = take (length o) t ++ drop (length t) o
+
+-- so far the text t was written over the lent bytes o, up to the place
+pub record Holds (o t out : List ℕ) (at : ℕ) : Type 0 where
+  pub bytes : out ≡ written t o
+  pub place : at ≡ min (length t) (length o)
+
+-- the piece s went behind whatever had been written
+pub record Adds (s out : List ℕ) (at : ℕ) (new : List ℕ) (end : ℕ) : Type 0 where
+  pub held : (o t : List ℕ) → Holds o t out at → Holds o (t ++ s) new end
 
 -- ---- a text that the code builds by value: 200 bytes, of which the first count
 unfoldable pub content : Text → List ℕ

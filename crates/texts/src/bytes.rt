@@ -1,10 +1,11 @@
 // Bytes of texts: trimming, cutting, and writing into lent space.
 use squares::refusal::Refusal;
 ghost use mathlib.Core.Path.{_≡_};
+ghost use mathlib.Core.List.{_∷_, []};
 ghost use Prim.Native.Nat.{_≤_};
 ghost use lib.ListN.{length};
 ghost use Rattle.texts.specs.Bytes.{ascii, readable, blank, is, trimStart, trimEnd, trim, upTo, behind, strip, digits, cuts, indexOf};
-ghost use Rattle.texts.specs.Lent.{emitOf, emitted, noTextOf, pushOf, put};
+ghost use Rattle.texts.specs.Lent.{emitOf, emitted, Adds, noTextOf, pushOf, put};
 
 // The length of a written text, or the refusal.
 pub enum Wrote {
@@ -159,6 +160,28 @@ pub fn emit(s: &[u8], out: &mut [u8]) -> Wrote
         i += 1;
     }
     Wrote::Length(i)
+}
+
+// One byte behind what was written into lent space, where there is room; a byte without room is left out.
+pub fn put_byte(out: &mut [u8], at: usize, b: u8) -> usize
+    ensures { λ r. ⌜ Adds (b ∷ []) (now (out .entry)) at (now (out .exit)) r ⌝ }
+{
+    if at < out.len() {
+        out[at] = b;
+        return at + 1;
+    }
+    at
+}
+
+// A number below 100 in decimal.
+pub(crate) fn put_digits(out: &mut [u8], at: usize, n: u8) -> usize
+    ensures { λ r. ⌜ Adds (digits n) (now (out .entry)) at (now (out .exit)) r ⌝ }
+{
+    if n < 10 {
+        return put_byte(out, at, b'0' + n);
+    }
+    let k = put_byte(out, at, b'0' + n / 10);
+    put_byte(out, k, b'0' + n % 10)
 }
 
 pub fn no_text() -> Text

@@ -9,7 +9,8 @@ use lib.Seq.{drop-drop}
 use lib.Dec.{eqb, leb}
 use borrow.Author.Tests.{le-leb, lt-leb, eq-eqb, ne-eqb}
 use Rattle.texts.proofs.Cuts.{drop-next, rest}
-use Rattle.wording.specs.Output.{Holds, Adds}
+use Rattle.texts.proofs.Pieces.{start}
+use Rattle.texts.specs.Lent.{Holds, Adds}
 use Rattle.wording.specs.Numbers.{digitOf}
 use Rattle.wording.specs.Escapes.{Plain, text, broken, highOf, hexEscape, escapeOf, UsedIn, before, onEscape, undo, plain, undoneOf, Undid}
 use Rattle.wording.specs.declared.escapes.Escape.{Escape}
@@ -143,8 +144,8 @@ pub record Undoing (s o out : List ℕ) (i at : ℕ) : Type 0 where
   pub held : Holds o done out at
 
 pub undoing-start : (s o : List ℕ) → Undoing s o o 0 0
-unfolding plain behind Rattle.wording.specs.Output.written
-undoing-start s o = record { done = []; whole = go (undo 0 s); held = record { bytes = sym (ap (λ (y : List ℕ). y ++ o) (lib.Seq.take-nil (length o))); place = omega arith } }
+unfolding plain behind
+undoing-start s o = record { done = []; whole = go (undo 0 s); held = start o }
   where
     go : (p : Plain) → p ≡ behind [] p
     go (text t) = refl

@@ -1,4 +1,3 @@
-pub mod Pieces
 pub mod WordLaws
 pub mod Values
 pub mod Escaped

@@ -6,7 +6,7 @@ use mathlib.Core.List.{List, [], _∷_}
 use mathlib.Core.Bool.{true, false, cond, _&&_}
 use lib.ListN.{length}
 use lib.Dec.{eqb, leb}
-use Rattle.wording.specs.Output.{Holds}
+use Rattle.texts.specs.Lent.{Holds}
 use Rattle.wording.specs.Numbers.{digitOf}
 use Rattle.wording.specs.declared.escapes.Escape.{Escape}
 use Rattle.wording.specs.declared.escapes.Escape.the-variants as escape

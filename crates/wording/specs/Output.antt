@@ -1,11 +1,9 @@
--- Writing an answer into lent bytes, and the texts of numbers, refusals and bad requests.
-use mathlib.Core.Path.{_≡_}
-use Prim.Native.Nat.{ℕ, zero, suc, _/_, min}
+-- The texts of numbers, refusals and bad requests.
+use Prim.Native.Nat.{ℕ, zero, suc, _/_}
 use Prim.Native.Char.{code}
 use Prim.Native.String.{String, [] as []ˢ, _∷_ as _∷ˢ_}
 use mathlib.Core.List.{List, [], _∷_, _++_}
 use mathlib.Core.Bool.{true, false}
-use lib.ListN.{length, take, drop}
 use lib.Dec.{ltb}
 use lib.IntN.{ℤ, pos, negsuc}
 use Rattle.io.specs.Digits.{digits}
@@ -16,21 +14,6 @@ use Rattle.squares.specs.declared.refusal.Refusal.{Refusal}
 abbrev pub bytes : String → List ℕ
 bytes []ˢ = []
 bytes (c ∷ˢ s) = code c ∷ bytes s
-
--- ---- lent bytes
-
--- the lent bytes o with the text t over their start; what has no room is left out, bytes behind the text stay
-unfoldable pub written : List ℕ → List ℕ → List ℕ
-written t o = take (length o) t ++ drop (length t) o
-
--- so far the text t was written over the lent bytes o, up to the place
-pub record Holds (o t out : List ℕ) (at : ℕ) : Type 0 where
-  pub bytes : out ≡ written t o
-  pub place : at ≡ min (length t) (length o)
-
--- the piece s went behind whatever had been written
-pub record Adds (s out : List ℕ) (at : ℕ) (new : List ℕ) (end : ℕ) : Type 0 where
-  pub held : (o t : List ℕ) → Holds o t out at → Holds o (t ++ s) new end
 
 -- ---- numbers
 

@@ -1,17 +1,8 @@
 // An answer is written piece by piece into lent bytes, each piece behind the one before; what has no room is left out.
 use squares::refusal::Refusal;
-ghost use mathlib.Core.List.{_∷_, []};
-ghost use Rattle.wording.specs.Output.{Adds, decimal, hex, hash, signed, refusal, bad};
-
-pub fn put_byte(out: &mut [u8], at: usize, b: u8) -> usize
-    ensures { λ r. ⌜ Adds (b ∷ []) (now (out .entry)) at (now (out .exit)) r ⌝ }
-{
-    if at < out.len() {
-        out[at] = b;
-        return at + 1;
-    }
-    at
-}
+pub use texts::bytes::put_byte;
+ghost use Rattle.texts.specs.Lent.{Adds};
+ghost use Rattle.wording.specs.Output.{decimal, hex, hash, signed, refusal, bad};
 
 pub fn put(out: &mut [u8], at: usize, s: &[u8]) -> usize
     ensures { λ r. ⌜ Adds (now (s .entry)) (now (out .entry)) at (now (out .exit)) r ⌝ }

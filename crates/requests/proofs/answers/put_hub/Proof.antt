@@ -1,7 +1,7 @@
 -- The text in lent space that is long enough for every one.
 use mathlib.Core.Path.{refl, sym}
 use Rattle.requests.proofs.Told as told
-use Rattle.wording.proofs.Pieces as laws
+use Rattle.texts.proofs.Pieces as laws
 use lib.Seq.{length-take-le}
 use borrow.Author.Needs.{needs}
 use Rattle.requests.proofs.answers.put_hub.Statement.{statement}

@@ -2,10 +2,10 @@
 use mathlib.Core.Path.{_≡_, refl, ap}
 use Prim.Native.Nat.{_≤_, _-_}
 use lib.ListN.{length}
-use Rattle.wording.proofs.Pieces as laws
+use Rattle.texts.proofs.Pieces as laws
 use Rattle.requests.proofs.Listing as listing
 use Rattle.requests.specs.Answers.{movesText}
-use Rattle.wording.specs.Output.{Adds}
+use Rattle.texts.specs.Lent.{Adds}
 use borrow.Author.Needs.{needs}
 use native.Mathlib.Omega.{arith}
 use Rattle.requests.proofs.answers.put_moves.Statement.{statement}

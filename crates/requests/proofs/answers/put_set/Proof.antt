@@ -1,6 +1,6 @@
 -- A set, then a space.
 use borrow.Author.Needs.{needs}
-use Rattle.wording.proofs.Pieces as laws
+use Rattle.texts.proofs.Pieces as laws
 use Rattle.requests.specs.Answers as told
 use Rattle.requests.proofs.answers.put_set.Statement.{statement}
 use Rattle.requests.proofs.answers.put_set.Tie as tie

@@ -1,6 +1,6 @@
 -- The FEN, then the hash; or the refusal.
 use borrow.Author.Needs.{needs}
-use Rattle.wording.proofs.Pieces as laws
+use Rattle.texts.proofs.Pieces as laws
 use Rattle.requests.proofs.answers.tell_after.Statement.{statement}
 use Rattle.requests.proofs.answers.tell_after.Tie as tie
 

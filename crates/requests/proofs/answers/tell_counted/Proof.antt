@@ -1,6 +1,6 @@
 -- A count, or the refusal.
 use borrow.Author.Needs.{needs}
-use Rattle.wording.proofs.Pieces as laws
+use Rattle.texts.proofs.Pieces as laws
 use Rattle.requests.proofs.answers.tell_counted.Statement.{statement}
 use Rattle.requests.proofs.answers.tell_counted.Tie as tie
 

@@ -1,6 +1,6 @@
 -- How many moves, then each with its count; or the refusal.
 use borrow.Author.Needs.{needs}
-use Rattle.wording.proofs.Pieces as laws
+use Rattle.texts.proofs.Pieces as laws
 use Rattle.requests.specs.Answers as told
 use Rattle.requests.proofs.answers.tell_divided.Statement.{statement}
 use Rattle.requests.proofs.answers.tell_divided.Tie as tie

@@ -1,6 +1,6 @@
 -- Piece by piece.
 use borrow.Author.Needs.{needs}
-use Rattle.wording.proofs.Pieces as laws
+use Rattle.texts.proofs.Pieces as laws
 use Rattle.requests.specs.Answers as told
 use Rattle.requests.proofs.answers.tell_hash.Statement.{statement}
 use Rattle.requests.proofs.answers.tell_hash.Tie as tie

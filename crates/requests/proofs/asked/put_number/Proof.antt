@@ -1,6 +1,6 @@
 -- The number, if any.
 use borrow.Author.Needs.{needs}
-use Rattle.wording.proofs.Pieces as laws
+use Rattle.texts.proofs.Pieces as laws
 use Rattle.requests.proofs.asked.put_number.Statement.{statement}
 use Rattle.requests.proofs.asked.put_number.Tie as tie
 

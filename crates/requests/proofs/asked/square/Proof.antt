@@ -1,7 +1,7 @@
 -- Number, bit and row; or the refusal.
 use mathlib.Core.Path.{ap}
 use borrow.Author.Needs.{needs}
-use Rattle.wording.proofs.Pieces as laws
+use Rattle.texts.proofs.Pieces as laws
 use Rattle.requests.specs.Requests as asked
 use Rattle.requests.proofs.asked.square.Statement.{statement}
 use Rattle.requests.proofs.asked.square.Tie as tie

@@ -1,7 +1,7 @@
 -- By the task: each arm knows which it is, and hands on what its callee adds.
 use mathlib.Core.Path.{ap}
 use borrow.Author.Needs.{needs}
-use Rattle.wording.proofs.Pieces as laws
+use Rattle.texts.proofs.Pieces as laws
 use Rattle.requests.specs.Answers as told
 use Rattle.requests.proofs.asked.work.Statement.{statement}
 use Rattle.requests.proofs.asked.work.Tie as tie

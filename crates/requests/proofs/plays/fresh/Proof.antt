@@ -1,6 +1,6 @@
 -- The game begun, then its outcome.
 use mathlib.Core.Path.{ap, _∙_}
-use Rattle.wording.proofs.Pieces as pieces
+use Rattle.texts.proofs.Pieces as pieces
 use Rattle.requests.specs.Plays.{freshAnswer}
 use Rattle.requests.specs.States.{judgedWord}
 use Rattle.games.specs.Play.{outcomeOf}

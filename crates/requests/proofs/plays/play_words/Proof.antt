@@ -4,11 +4,11 @@ use Prim.Native.Nat.{ℕ, _≤_, _-_}
 use mathlib.Core.List.{List}
 use lib.ListN.{length, drop}
 use denote.Ref.{now}
-use Rattle.wording.proofs.Pieces as pieces
+use Rattle.texts.proofs.Pieces as pieces
 use Rattle.requests.proofs.PlayLaws as laws
 use Rattle.texts.proofs.Cuts as cuts
 use Rattle.requests.specs.Plays.{gameText, wordsOf}
-use Rattle.wording.specs.Output.{Adds}
+use Rattle.texts.specs.Lent.{Adds}
 use borrow.Author.Needs.{needs}
 use native.Mathlib.Omega.{arith}
 use Rattle.requests.proofs.plays.play_words.Statement.{statement}

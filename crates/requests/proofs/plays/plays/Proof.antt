@@ -1,7 +1,7 @@
 -- Every word read first, then all played.
 use mathlib.Core.Path.{sym, _∙_}
 use denote.Ref.{now}
-use Rattle.wording.proofs.Pieces as pieces
+use Rattle.texts.proofs.Pieces as pieces
 use Rattle.requests.proofs.PlayLaws as laws
 use borrow.Author.Needs.{needs}
 use Rattle.requests.proofs.plays.plays.Statement.{statement}

@@ -1,7 +1,7 @@
 -- The position standing, then the move on it.
 use mathlib.Core.Path.{ap, sym, _∙_}
 use denote.Ref.{now}
-use Rattle.wording.proofs.Pieces as pieces
+use Rattle.texts.proofs.Pieces as pieces
 use Rattle.requests.specs.Plays.{meantWord, moveAt, moveOfWord}
 use Rattle.positions.specs.declared.position.Placed.{Placed}
 use borrow.Author.Needs.{needs}

@@ -1,6 +1,6 @@
 -- Piece by piece.
 use mathlib.Core.Path.{ap}
-use Rattle.wording.proofs.Pieces as pieces
+use Rattle.texts.proofs.Pieces as pieces
 use Rattle.requests.specs.Plays.{recordTold}
 use Rattle.wording.specs.Output.{decimal}
 use borrow.Author.Needs.{needs}

@@ -2,7 +2,7 @@
 use mathlib.Core.Path.{ap, sym}
 use mathlib.Core.List.{_++_}
 use denote.Ref.{now}
-use Rattle.wording.proofs.Pieces as pieces
+use Rattle.texts.proofs.Pieces as pieces
 use Rattle.requests.specs.Plays.{moveOfWord, textAnswer, textTold}
 use Rattle.requests.specs.States.{stateText}
 use Rattle.squares.specs.declared.refusal.Answer.{Answer}

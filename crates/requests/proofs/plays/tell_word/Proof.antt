@@ -1,7 +1,7 @@
 -- By how plays are given.
 use mathlib.Core.Path.{ap, sym}
 use denote.Ref.{now}
-use Rattle.wording.proofs.Pieces as pieces
+use Rattle.texts.proofs.Pieces as pieces
 use Rattle.requests.specs.Plays.{wordTold}
 use Rattle.requests.specs.declared.plays.Given.{Given}
 use borrow.Author.Needs.{needs}

@@ -1,6 +1,6 @@
 -- By the case.
 use mathlib.Core.Path.{ap, sym}
-use Rattle.wording.proofs.Pieces as pieces
+use Rattle.texts.proofs.Pieces as pieces
 use Rattle.requests.specs.States.{judgedWord}
 use borrow.Author.Needs.{needs}
 use Rattle.requests.proofs.states.put_judged.Statement.{statement}

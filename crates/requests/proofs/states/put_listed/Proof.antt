@@ -1,6 +1,6 @@
 -- By the answer.
 use mathlib.Core.Path.{ap, sym}
-use Rattle.wording.proofs.Pieces as pieces
+use Rattle.texts.proofs.Pieces as pieces
 use Rattle.requests.specs.States.{lengthWord, movesWord}
 use Rattle.squares.specs.declared.refusal.Answer.{Answer}
 use borrow.Author.Needs.{needs}

@@ -1,6 +1,6 @@
 -- By the reason.
 use mathlib.Core.Path.{ap, sym}
-use Rattle.wording.proofs.Pieces as pieces
+use Rattle.texts.proofs.Pieces as pieces
 use Rattle.requests.specs.States.{endingWord}
 use Rattle.games.specs.declared.game.Termination.{Termination}
 use borrow.Author.Needs.{needs}

@@ -1,6 +1,6 @@
 -- Piece by piece.
 use mathlib.Core.Path.{ap}
-use Rattle.wording.proofs.Pieces as pieces
+use Rattle.texts.proofs.Pieces as pieces
 use Rattle.requests.specs.States.{judgedWord, countWord, stateText}
 use borrow.Author.Needs.{needs}
 use Rattle.requests.proofs.states.put_state.Statement.{statement}

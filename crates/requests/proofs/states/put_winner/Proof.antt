@@ -1,6 +1,6 @@
 -- By the winner.
 use mathlib.Core.Path.{ap, sym, _∙_}
-use Rattle.wording.proofs.Pieces as pieces
+use Rattle.texts.proofs.Pieces as pieces
 use Rattle.requests.specs.States.{winnerWord}
 use Rattle.games.specs.declared.game.Winner.the-variants as winner
 use borrow.Author.Needs.{needs}

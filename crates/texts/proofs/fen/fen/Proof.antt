@@ -1,38 +1,33 @@
 -- A sound position has a text of at most 196 bytes; then it is lent space that decides.
-use mathlib.Core.Path.{ap, sym, _∙_}
+use mathlib.Core.Path.{refl, ap, sym, _∙_}
 use mathlib.Core.List.{List}
-use Prim.Native.Nat.{ℕ, _-_}
-use lib.ListN.{length, length-take}
+use Prim.Native.Nat.{ℕ}
+use lib.ListN.{length}
+use lib.Seq.{length-take-le}
 use denote.Ref.{now}
 use borrow.Author.Tests.{le-leb}
-use Rattle.texts.specs.Lent.{emitOf, emitted, content}
+use Rattle.texts.specs.Lent.{emitOf, emitted}
 use Rattle.texts.specs.Fen.{fenText, fenOf, fenLent}
 use Rattle.positions.specs.Boards.{boardOf}
-use Rattle.positions.proofs.Accepts.{sound-says}
-use Rattle.texts.proofs.FenLength.{fen-short}
-use Rattle.texts.proofs.Writers.{filled}
+use Rattle.texts.proofs.FenLength.{fen-fits, fen-starts}
 use borrow.Author.Needs.{needs}
-use native.Mathlib.Omega.{arith}
 use Rattle.texts.proofs.fen.fen.Statement.{statement}
 use Rattle.texts.proofs.fen.fen.Tie as tie
 
 sound-requires : tie.Need-sound-requires
 sound-requires c κs = search needs
 
-fen-text-requires : tie.Need-fen-text-requires
-fen-text-requires c κs = search needs
+slice-aggregate-put-fen : tie.Need-slice-aggregate-put-fen
+slice-aggregate-put-fen c = search needs
+
+put-fen-requires : tie.Need-put-fen-requires
+put-fen-requires c κs = search needs
 
 array-share-prefix-text : tie.Need-array-share-prefix-text
-array-share-prefix-text c =
-    let p = c .before .before .before .before .before .args .p in
-    let f = filled _ (omega (arith, fen-short (boardOf p) (sound-says p (sym (c .before .before .before .sound .ensures) ∙ c .before .before .if1 .taken) .accepted))) (c .before .fen-text .ensures) in
-    omega (arith, f .fits, f .size)
+array-share-prefix-text c = fen-starts (c .before .before .before .before .before .before .args .p) (sym (c .before .before .before .before .sound .ensures) ∙ c .before .before .before .if1 .taken) refl (c .before .put-fen .ensures) .fits
 
 slice-aggregate-emit : tie.Need-slice-aggregate-emit
-slice-aggregate-emit c =
-    let p = c .before .before .before .before .before .before .args .p in
-    let f = filled _ (omega (arith, fen-short (boardOf p) (sound-says p (sym (c .before .before .before .before .sound .ensures) ∙ c .before .before .before .if1 .taken) .accepted))) (c .before .before .fen-text .ensures) in
-    simp length-take (omega (arith, f .fits, f .size))
+slice-aggregate-emit c = sym (length-take-le _ _ (fen-starts (c .before .before .before .before .before .before .before .args .p) (sym (c .before .before .before .before .before .sound .ensures) ∙ c .before .before .before .before .if1 .taken) refl (c .before .before .put-fen .ensures) .fits))
 
 emit-requires : tie.Need-emit-requires
 emit-requires c κs = search needs
@@ -41,13 +36,14 @@ same-length : tie.Need-same-length
 same-length c = search needs
 
 returns : tie.Need-returns
-unfolding fenOf fenLent content
+unfolding fenOf fenLent
 returns c =
-    let p = c .before .before .before .before .before .before .before .before .before .before .args .p in
-    let s = sym (c .before .before .before .before .before .before .before .before .sound .ensures) ∙ c .before .before .before .before .before .before .before .if1 .taken in
-    let h = le-leb (length (fenText (boardOf p))) 200 (omega (arith, fen-short (boardOf p) (sound-says p s .accepted))) in
-    let f = filled _ (omega (arith, fen-short (boardOf p) (sound-says p s .accepted))) (c .before .before .before .before .before .before .fen-text .ensures) in
-    (rw (s, h) (c .before .before .emit .ensures .0 ∙ ap (λ (t : List ℕ). emitOf t (now (c .before .before .before .before .before .before .before .before .before .before .args .out))) (f .text)), rw (s, h) (c .before .before .emit .ensures .1 ∙ ap (λ (t : List ℕ). emitted t (now (c .before .before .before .before .before .before .before .before .before .before .args .out))) (f .text)))
+    let p = c .before .before .before .before .before .before .before .before .before .before .before .args .p in
+    let o = now (c .before .before .before .before .before .before .before .before .before .before .before .args .out) in
+    let s = sym (c .before .before .before .before .before .before .before .before .before .sound .ensures) ∙ c .before .before .before .before .before .before .before .before .if1 .taken in
+    let h = le-leb (length (fenText (boardOf p))) 200 (fen-fits p s) in
+    let t = fen-starts p s refl (c .before .before .before .before .before .before .put-fen .ensures) .text in
+    (rw (s, h) (c .before .before .emit .ensures .0 ∙ ap (λ (x : List ℕ). emitOf x o) t), rw (s, h) (c .before .before .emit .ensures .1 ∙ ap (λ (x : List ℕ). emitted x o) t))
 
 returns-2 : tie.Need-returns-2
 unfolding fenOf fenLent
@@ -58,7 +54,8 @@ fen-spec =
     tie.close
     (tie.spec
     sound-requires
-    fen-text-requires
+    slice-aggregate-put-fen
+    put-fen-requires
     array-share-prefix-text
     slice-aggregate-emit
     emit-requires

@@ -4,8 +4,8 @@ use Prim.Native.Nat.{_≤_, _-_}
 use lib.ListN.{length}
 use denote.Ref.{now}
 use lib.ListN.{take}
-use Rattle.wording.specs.Output.{Adds}
-use Rattle.wording.proofs.Pieces as laws
+use Rattle.texts.specs.Lent.{Adds}
+use Rattle.texts.proofs.Pieces as laws
 use borrow.Author.Needs.{needs}
 use native.Mathlib.Omega.{arith}
 use Rattle.wording.proofs.output.put.Statement.{statement}

@@ -1,5 +1,5 @@
 -- The fewest digits are those of the definition.
-use Rattle.wording.proofs.Pieces as laws
+use Rattle.texts.proofs.Pieces as laws
 use Rattle.wording.proofs.Numerals.{hash-is}
 use borrow.Author.Needs.{needs}
 use Rattle.wording.proofs.output.put_hash.Statement.{statement}

@@ -1,6 +1,6 @@
 -- Piece by piece.
 use mathlib.Core.Path.{ap}
-use Rattle.wording.proofs.Pieces as laws
+use Rattle.texts.proofs.Pieces as laws
 use Rattle.wording.specs.Output.{refusal, decimal}
 use borrow.Author.Needs.{needs}
 use Rattle.wording.proofs.output.put_refusal.Statement.{statement}

@@ -1,5 +1,5 @@
 -- A negative number has 1 added, its sign changed, and 1 added to its size.
-use Rattle.wording.proofs.Pieces as laws
+use Rattle.texts.proofs.Pieces as laws
 use Rattle.wording.proofs.Signs as signs
 use borrow.Author.Needs.{needs}
 use native.Mathlib.Omega.{arith}

@@ -1,9 +1,9 @@
 -- The byte goes behind the text, or has no room.
-use Rattle.wording.proofs.Pieces as laws
+use Rattle.texts.proofs.Pieces as laws
 use denote.Ref.{now}
 use borrow.Author.Needs.{needs}
-use Rattle.wording.proofs.output.put_byte.Statement.{statement}
-use Rattle.wording.proofs.output.put_byte.Tie as tie
+use Rattle.texts.proofs.bytes.put_byte.Statement.{statement}
+use Rattle.texts.proofs.bytes.put_byte.Tie as tie
 
 slice-write-out : tie.Need-slice-write-out
 slice-write-out c = search needs

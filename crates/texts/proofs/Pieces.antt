@@ -1,12 +1,12 @@
 -- Pieces of an answer: one byte more, one piece behind another, whatever room there is.
-use Prim.Native.Nat.{ℕ, suc, _+_, _≤_, _<_}
+use Prim.Native.Nat.{ℕ, suc, _+_, _≤_, _<_, min}
 use mathlib.Core.Path.{_≡_, ap, sym, _∙_, subst}
 use mathlib.Core.List.{List, [], _∷_, _++_, append-assoc, append-nil}
 use native.Mathlib.Omega.{arith}
 use native.Mathlib.Numerals.{add-one}
 use lib.ListN.{length, take, drop, getD, set, length-append, length-take, length-drop, drop-of-length-le}
-use lib.Seq.{take-all, drop-cons, set-append-seam, append-snoc, take-append-le, take-suc}
-use Rattle.wording.specs.Output.{written, Holds, Adds}
+use lib.Seq.{take-all, drop-cons, set-append-seam, append-snoc, take-append-le, take-append-seam, take-suc, take-nil}
+use Rattle.texts.specs.Lent.{written, Holds, Adds}
 
 pub written-length : (t o : List ℕ) → length (written t o) ≡ length o
 unfolding written
@@ -49,6 +49,31 @@ byte-out out at b h = record { held = λ o t g. kept o t g }
     kept o t g =
         let l : length o ≤ length t = omega (arith, holds-length g, g .place) in
         record { bytes = g .bytes ∙ same-written o t b l; place = omega (arith, g .place, length-append t (b ∷ [])) }
+
+-- ---- from the start of the lent bytes on
+pub start : (o : List ℕ) → Holds o [] o 0
+unfolding written
+start o = record { bytes = sym (ap (λ (y : List ℕ). y ++ o) (take-nil (length o))); place = omega arith }
+
+pub whole : {s o new : List ℕ} {end : ℕ} → Adds s o 0 new end → (end ≡ min (length s) (length o)) × (new ≡ written s o)
+whole {s} {o} a = let h = a .held o [] (start o) in (h .place, h .bytes)
+
+-- what a text that fits leaves in the bytes before the place
+pub record Starts (s new : List ℕ) (end : ℕ) : Type 0 where
+  pub text : take end new ≡ s
+  pub place : end ≡ length s
+  pub fits : end ≤ length new
+
+pub starts : {s o new : List ℕ} {end : ℕ} → length s ≤ length o → Adds s o 0 new end → Starts s new end
+unfolding written
+starts {s} {o} {new} {end} h a =
+    let p : end ≡ length s = omega (arith, whole a .0) in
+    let e : new ≡ s ++ drop (length s) o = whole a .1 ∙ ap (λ (t : List ℕ). t ++ drop (length s) o) (take-all (length o) s h) in
+    record {
+      text = ap (λ (t : List ℕ). take end t) e ∙ ap (λ (n : ℕ). take n (s ++ drop (length s) o)) p ∙ take-append-seam s (drop (length s) o);
+      place = p;
+      fits = omega (arith, p, ap length (whole a .1), written-length s o);
+    }
 
 -- ---- pieces
 pub adds-none : (out : List ℕ) (at : ℕ) → Adds [] out at out at
