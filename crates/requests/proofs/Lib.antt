@@ -1,7 +1,7 @@
 pub mod Told
 pub mod Listing
 pub mod Table
-pub mod Whole
+pub mod Sides
 pub mod PlayLaws
 pub mod PlayedGames
 pub mod Rows

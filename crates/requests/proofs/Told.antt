@@ -22,7 +22,7 @@ use Rattle.positions.specs.declared.position.Placed.the-variants as placed
 use Rattle.positions.proofs.Accepts.{sound-says}
 use Rattle.texts.specs.Bytes.{readable, fromStrOf, is, indexOf}
 use Rattle.texts.specs.Parts.{placing}
-use Rattle.texts.specs.Lent.{emitOf, emitted}
+use Rattle.texts.specs.Lent.{emitOf, emitted, written, Holds}
 use Rattle.texts.specs.Fen.{fenText, fenOf, fenLent, fromFenOf}
 use Rattle.texts.specs.Hub.{hubText, hubOf, hubLent, fromHubOf}
 use Rattle.texts.specs.declared.bytes.Wrote.{Wrote}
@@ -35,7 +35,6 @@ use Rattle.notation.specs.Choice.{parseMoveOf}
 use Rattle.notation.specs.declared.notation.Found.{Found}
 use Rattle.notation.specs.declared.notation.Found.the-variants as found
 use Rattle.notation.proofs.MoveTexts.{move-short}
-use Rattle.texts.specs.Lent.{written, Holds}
 use Rattle.wording.specs.Escapes.{Plain, text, broken, plain, undoneOf, Undid}
 use Rattle.requests.specs.Heard.{heardOf, eitherOf, readOf, heardText, positionOf, meantOf, meantText, listedMoveOf, placingOf, placingText, squareOf}
 use Rattle.requests.specs.Answers.{fenWord, hubWord, moveWord}

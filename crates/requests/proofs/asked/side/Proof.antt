@@ -2,7 +2,7 @@
 use mathlib.Core.Path.{sym, _∙_}
 use denote.Ref.{now}
 use borrow.Author.Needs.{needs}
-use Rattle.requests.proofs.Whole as law
+use Rattle.requests.proofs.Sides as law
 use Rattle.requests.proofs.asked.side.Statement.{statement}
 use Rattle.requests.proofs.asked.side.Tie as tie
 

@@ -1,14 +1,12 @@
--- A whole answer, from the start of the lent bytes on; the side of a word.
-use Prim.Native.Nat.{ℕ, min}
-use mathlib.Core.Path.{_≡_, refl, ap, sym}
-use mathlib.Core.List.{List, [], _∷_, _++_}
+-- The side of a word.
+use Prim.Native.Nat.{ℕ}
+use mathlib.Core.Path.{_≡_, refl}
+use mathlib.Core.List.{List, [], _∷_}
 use native.Mathlib.Omega.{arith}
 use lib.ListN.{length, getD}
-use lib.Seq.{take-nil}
 use Rattle.squares.specs.Pieces.{colorFromCharOf}
 use Rattle.squares.specs.declared.piece.Sided.the-variants as sided
 use Rattle.squares.specs.declared.refusal.Refusal.the-variants.{NoSide}
-use Rattle.texts.specs.Lent.{written, Holds, Adds}
 use Rattle.requests.specs.Requests.{sideOf}
 
 pub side-one : (s : List ℕ) → length s ≡ 1 → sideOf s ≡ colorFromCharOf (getD s 0 0)
