@@ -6,6 +6,7 @@ use denote.Ref.{now}
 use Rattle.texts.proofs.Writers as laws
 use Rattle.texts.specs.Fen.{listText}
 use Rattle.squares.specs.Sets.{members, lowest}
+use Rattle.squares.proofs.Loops.{cleared}
 use native.Mathlib.Omega.{arith}
 use borrow.Author.Needs.{needs}
 use Rattle.texts.proofs.fen.put_list.Statement.{statement}
@@ -36,13 +37,13 @@ sub-left : tie.Need-sub-left Inv-loop μ-loop
 sub-left c = omega arith
 
 loop-less : tie.Need-loop-less Inv-loop μ-loop
-loop-less c = laws.cleared (c .before .before .before .before .before .before .before .before .before .before .loop .left) (omega arith)
+loop-less c = cleared (c .before .before .before .before .before .before .before .before .before .before .loop .left) (omega arith)
 
 loop-again : tie.Need-loop-again Inv-loop μ-loop
 loop-again c =
     let l = c .before .before .before .before .before .before .before .before .before .before .loop in
     let a = c .before .before .before .before .before .before .before .before .before .before .before .before .args in
-    (search needs, omega (arith, laws.cleared (l .left) (omega arith), l .inv .1), laws.list-turn (a .kings) (l .first) (l .left) _ (omega arith) (l .inv .1) (c .before .before .before .before .before .before .before .before .from-bit .ensures) (l .inv .2) (c .before .before .before .before .before .before .put-separator .ensures) (c .before .before .put-item .ensures))
+    (search needs, omega (arith, cleared (l .left) (omega arith), l .inv .1), laws.list-turn (a .kings) (l .first) (l .left) _ (omega arith) (l .inv .1) (c .before .before .before .before .before .before .before .before .from-bit .ensures) (l .inv .2) (c .before .before .before .before .before .before .put-separator .ensures) (c .before .before .put-item .ensures))
 
 same-length : tie.Need-same-length Inv-loop μ-loop
 same-length c = search needs
