@@ -90,7 +90,7 @@ digits-short n = go (ltb n 10)
     go false = omega arith
 
 -- each square has at most two digits, and a separator behind it but for the last
-joined-short : (c n : ℕ) (l : List ℕ) → suc (length (joined c (map digits (n ∷ l)))) ≤ 3 * length (n ∷ l)
+pub joined-short : (c n : ℕ) (l : List ℕ) → suc (length (joined c (map digits (n ∷ l)))) ≤ 3 * length (n ∷ l)
 unfolding joined
 joined-short c n [] = omega (arith, digits-short n)
 joined-short c n (k ∷ l) =
