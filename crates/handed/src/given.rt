@@ -10,7 +10,6 @@ use wording::numbers;
 use wording::numbers::Parsed;
 use wording::numbers::Signed;
 use wording::words;
-ghost use Prim.Native.Nat.{_<_, _^_};
 
 pub(crate) fn letter(s: &[u8]) -> u8 {
     if 0 < s.len() { s[0] } else { 0 }
