@@ -19,7 +19,7 @@ use Rattle.positions.specs.declared.moves.Move.{Move}
 use Rattle.positions.proofs.Records.{OnBoard, on-board}
 use Rattle.texts.specs.Bytes.{readable, blank, is, holds, splitOn, joined, digits}
 use Rattle.texts.proofs.ListLaws.{each, each-map, each-imp, lacks, lacks-joined, lacks-or, holds-lacks, holds-in, trim-lacks, split-joined}
-use Rattle.texts.proofs.Clean.{high, Reader, blanks, dash, cross, above, lacks-of, digits-law, ascii-lacks}
+use Rattle.texts.proofs.Clean.{high, Reader, blanks, dash, cross, above, lacks-of, digits-law, numbers-lack, ascii-lacks}
 use Rattle.texts.proofs.Marks.{marks, always, put-members, each-members}
 use Rattle.notation.specs.MoveText.{separatorOf, named, moveText}
 use Rattle.notation.specs.Notation.{atCut, unsaid, heardSquare, heardSquares, wellFormed, heardTrimmed, readMoveOf}
@@ -29,9 +29,6 @@ use Rattle.notation.proofs.Chosen.{Says}
 use Rattle.notation.proofs.MoveTexts.{move-short}
 
 -- ---- the parts of the text
-parts-lack : {p : ℕ → Bool} → Reader p → (l : List ℕ) → each isSquare l ≡ true → each (lacks p) (map digits l) ≡ true
-parts-lack {p} r l h = each-map digits (lacks p) l (each-imp isSquare (λ (n : ℕ). lacks p (digits n)) (λ n e. lacks-of r (digits n) (digits-law n e .clean)) l h)
-
 parts-uncut : (l : List ℕ) → each isSquare l ≡ true → each (lacks atCut) (map digits l) ≡ true
 unfolding atCut
 parts-uncut l h =
@@ -134,7 +131,7 @@ module _ (m : Move) (o : OnBoard m) where
 
   text-lacks : {p : ℕ → Bool} → Reader p → (c : ℕ) → p c ≡ false → lacks p (textBy c) ≡ true
   unfolding textBy
-  text-lacks {p} r c e = lacks-joined p c e (map digits (named m)) (parts-lack r (named m) all-squares)
+  text-lacks {p} r c e = lacks-joined p c e (map digits (named m)) (numbers-lack r (named m) all-squares)
 
   split-is : (c : ℕ) → atCut c ≡ true → splitOn atCut (textBy c) ≡ map digits (named m)
   unfolding textBy named

@@ -1,12 +1,12 @@
 -- A move's text as the code builds it, and how long it is at most.
-use Prim.Native.Nat.{ℕ, suc, _+_, _-_, _*_, _≤_, _<_, _^_, _/_, _%_}
+use Prim.Native.Nat.{ℕ, _+_, _-_, _≤_, _<_, _^_}
 use mathlib.Core.Path.{_≡_, refl, sym, ap, ap₂, _∙_}
 use mathlib.Core.List.{List, [], _∷_, _++_, map, append-assoc, append-nil}
 use mathlib.Core.Bool.{Bool, true, false, cond, not}
 use native.Mathlib.Omega.{arith}
 use lib.Bits.{bitAnd}
-use lib.Dec.{eqb, ltb}
-use lib.ListN.{length, length-append, length-map}
+use lib.Dec.{eqb}
+use lib.ListN.{length, length-map}
 use borrow.Author.Tests.{eqb-true}
 use Rattle.squares.specs.Sets.{members, lowest}
 use Rattle.squares.specs.Squares.{squareAtBit}
@@ -19,7 +19,7 @@ use Rattle.positions.proofs.Records.{OnBoard, on-board}
 use Rattle.texts.specs.Bytes.{joined, digits}
 use Rattle.texts.specs.Lent.{noTextOf, pushOf, put}
 use Rattle.texts.specs.declared.bytes.Text.{Text}
-use Rattle.texts.proofs.Writers.{put-two, put-one, put-none}
+use Rattle.texts.proofs.Writers.{put-two, put-one, put-none, joined-short}
 use Rattle.notation.specs.MoveText.{separatorOf, named, moveText, shortText, takenText}
 
 -- ---- the parts of the text
@@ -81,21 +81,6 @@ pub taken-done : (t : Text) (s : ℕ) → s ≡ 0 → t ≡ put t (takenText (me
 taken-done t s e = put-none t ∙ ap (put t) (sym (taken-none s e))
 
 -- ---- lengths
-digits-short : (n : ℕ) → length (digits n) ≤ 2
-unfolding digits
-digits-short n = go (ltb n 10)
-  where
-    go : (t : Bool) → length (cond t ((48 + n) ∷ []) ((48 + n / 10) ∷ (48 + n % 10) ∷ [])) ≤ 2
-    go true = omega arith
-    go false = omega arith
-
--- each square has at most two digits, and a separator behind it but for the last
-pub joined-short : (c n : ℕ) (l : List ℕ) → suc (length (joined c (map digits (n ∷ l)))) ≤ 3 * length (n ∷ l)
-unfolding joined
-joined-short c n [] = omega (arith, digits-short n)
-joined-short c n (k ∷ l) =
-    omega (arith, digits-short n, joined-short c k l, length-append (digits n) (c ∷ joined c (map digits (k ∷ l))))
-
 named-short : (m : Move) → OnBoard m → length (map squareAtBit (members (m .captured))) ≤ 50
 named-short m o = omega (arith, length-map (members (m .captured)) squareAtBit, members-length (m .captured), size-squares (m .captured) (o .fits) (o .taken))
 

@@ -10,8 +10,8 @@ use borrow.Author.Tests.{eqb-true, eq-eqb, ne-eqb}
 use Rattle.squares.specs.Squares.{single}
 use Rattle.squares.specs.declared.square.Numbered.{Numbered}
 use Rattle.squares.specs.declared.square.Numbered.the-variants as numbered
-use Rattle.texts.specs.Bytes.{is, holds, splitOn, readSquare, indexOf, partsFrom}
-use Rattle.texts.proofs.Cuts.{rest, parts-start, parts-step, parts-none}
+use Rattle.texts.specs.Bytes.{is, holds, splitOn, upTo, readSquare, partsFrom}
+use Rattle.texts.proofs.Cuts.{parts-start, part-step, parts-none}
 use Rattle.texts.proofs.ListLaws.{lacks-held, split-agree}
 use Rattle.notation.specs.Notation.{atCut, malformed, unsaid, asFirst, asSecond, asLater, heardSquare, onSquare, heardSquares, wellFormed, inForm, heardTrimmed}
 use Rattle.notation.specs.declared.notation.Said.{Said}
@@ -76,16 +76,12 @@ none x = refl
 pub opened : (c : ℕ) (s : List ℕ) (h : Said) (x : Bool) → h ≡ unsaid x → heardSquares (unsaid x) (splitOn (is c) s) ≡ heardSquares h (partsFrom (is c) s 0)
 opened c s h x e = ap₂ heardSquares (sym e) (sym (parts-start (is c) s))
 
--- r is where the next separator stands, a what stands before it
-pub heard-turn : (c : ℕ) (s : List ℕ) (at r : ℕ) (h : Said) (a : Numbered) → at ≤ length s
-    → r ≡ indexOf (is c) (take (length s - at) (drop at s))
-    → a ≡ readSquare (take r (take (length s - at) (drop at s)))
-    → heardSquares h (partsFrom (is c) s at) ≡ onSquare a (λ n. heardSquares (heardSquare h n) (partsFrom (is c) s (at + r + 1)))
+-- u is what stands before the next separator, a what it says
+pub heard-turn : (c : ℕ) (s : List ℕ) (at : ℕ) (u : List ℕ) (h : Said) (a : Numbered) → at ≤ length s
+    → u ≡ upTo c (take (length s - at) (drop at s)) → a ≡ readSquare u
+    → heardSquares h (partsFrom (is c) s at) ≡ onSquare a (λ n. heardSquares (heardSquare h n) (partsFrom (is c) s (at + length u + 1)))
 unfolding heardSquares
-heard-turn c s at r h a l e f =
-    let e′ : r ≡ indexOf (is c) (drop at s) = rw (rest s at) at e in
-    let f′ : a ≡ readSquare (take r (drop at s)) = rw (rest s at) at f in
-    rw (parts-step (is c) s at l, ← e′, ← f′)
+heard-turn c s at u h a l e f = ap (heardSquares h) (part-step c s at u l e) ∙ rw (← f)
 
 pub heard-end : (c : ℕ) (s : List ℕ) (at : ℕ) (h : Said) → length s < at → heardSquares h (partsFrom (is c) s at) ≡ heard.Said h
 unfolding heardSquares

@@ -30,7 +30,8 @@ use Rattle.texts.specs.Hub.{hubText}
 use Rattle.texts.proofs.FenLength.{fen-short}
 use Rattle.texts.proofs.HubTrip.{hub-length}
 use Rattle.notation.specs.MoveText.{separatorOf, named, moveText}
-use Rattle.notation.proofs.MoveTexts.{joined-short, move-short}
+use Rattle.texts.proofs.Writers.{joined-short}
+use Rattle.notation.proofs.MoveTexts.{move-short}
 use Rattle.movegen.specs.declared.movegen.Listed.{Listed}
 use Rattle.movegen.specs.declared.perft.Divided.{Divided}
 use Rattle.wording.specs.Output.{bytes, places, decimal, hex, hash, signed, refusal, bad}

@@ -1,7 +1,6 @@
 pub mod Integers
 pub mod Advances
 pub mod Scores
-pub mod Men
 pub mod ScoreBounds
 pub mod ScoreSums
 pub mod ScoreFlip

@@ -24,10 +24,10 @@ use Rattle.scores.specs.Score.{advanced, center, guard, guarding, materi
 use Rattle.positions.specs.declared.position.Position.{Position}
 use Rattle.scores.specs.declared.eval.Scored.the-variants as scored
 use Rattle.positions.proofs.Accepts.{sound-says}
+use Rattle.positions.proofs.OnSquares.{wide, men-squares, men-kings}
 use Rattle.scores.proofs.Integers.{abs-neg, abs-eighth, le-within}
 use Rattle.squares.proofs.Sums.{size-and-le}
 use Rattle.scores.proofs.Advances.{advanced-le}
-use Rattle.scores.proofs.Men.{wide, men-squares, men-kings}
 
 -- ---- a difference of two numbers, each at most n
 abs-sub-le : (a b n : ℕ) → a ≤ n → b ≤ n → natAbs (subℕ a b) ≤ n

@@ -33,7 +33,7 @@ use Rattle.scores.specs.declared.eval.Scored.the-variants as scored
 use Rattle.positions.proofs.Rotation.{Squares, has-rotated, rotated-lt, rotated-twice, size-rotated, sum-rotated}
 use Rattle.positions.proofs.Accepts.{says-sound}
 use Rattle.positions.proofs.Flips.{flipped-sound}
-use Rattle.scores.proofs.Men.{wide, colored-squares, men-squares, kings-squares}
+use Rattle.positions.proofs.OnSquares.{wide, colored-squares, men-squares, kings-squares}
 
 -- ---- sets turned round
 rotated-and : (s k : ℕ) → bitAnd (rotated s) (rotated k) ≡ rotated (bitAnd s k)

@@ -1,11 +1,11 @@
 -- What holds of each square's text, by one computed test over 1 to 50: it reads back, and no byte of it means anything to a reader.
 use Prim.Native.Nat.{ℕ}
 use mathlib.Core.Path.{_≡_, refl, ap}
-use mathlib.Core.List.{List, [], _∷_}
+use mathlib.Core.List.{List, [], _∷_, map}
 use mathlib.Core.Bool.{Bool, true, false, cond, _&&_, _||_, not, false≢true}
 use native.Mathlib.Omega.{arith}
 use lib.Dec.{eqb, leb}
-use borrow.Author.Tests.{eqb-true}
+use borrow.Author.Tests.{eqb-true, not-true}
 use Rattle.squares.specs.Squares.{isSquare, containsOf}
 use Rattle.squares.specs.declared.square.Numbered.{Numbered}
 use Rattle.squares.specs.declared.square.Numbered.the-variants as numbered
@@ -15,7 +15,7 @@ use Rattle.squares.proofs.Numbers.{square-range}
 use Rattle.texts.specs.Bytes.{ascii, blank, is, upTo, behind, startsWith, digits, readSquare}
 use Rattle.texts.specs.Fen.{endOf, itemText}
 use Rattle.texts.specs.Computed.{computed}
-use Rattle.texts.proofs.ListLaws.{lacks, lacks-imp, lacks-cons}
+use Rattle.texts.proofs.ListLaws.{each, each-map, each-imp, lacks, lacks-imp, lacks-cons}
 
 unfoldable pub high : ℕ → Bool
 high b = not (leb b 127)
@@ -67,10 +67,6 @@ unfolding reads
 reads-is n (numbered.Number m) h = ap numbered.Number (eqb-true m n h)
 reads-is n (numbered.Refused e) h = absurd (false≢true h)
 
-off : (x : Bool) → not x ≡ true → x ≡ false
-off true h = absurd (false≢true h)
-off false h = refl
-
 pub record Digits (n : ℕ) : Type 0 where
   pub up-to : endOf (upTo 45 (digits n)) ≡ numbered.Number n
   pub behind-it : endOf (behind 45 (digits n)) ≡ numbered.Number n
@@ -102,9 +98,13 @@ digits-law n h =
       up-to = reads-is n _ (and-left a _ t);
       behind-it = reads-is n _ (and-left b _ t1);
       read = reads-is n _ (and-left c _ t2);
-      no-king = off _ (and-left d _ t3);
+      no-king = not-true _ (and-left d _ t3);
       clean = and-right d _ t3;
     }
+
+-- the numbers of squares, one by one
+pub numbers-lack : {p : ℕ → Bool} → Reader p → (l : List ℕ) → each isSquare l ≡ true → each (lacks p) (map digits l) ≡ true
+numbers-lack {p} r l h = each-map digits (lacks p) l (each-imp isSquare (λ (n : ℕ). lacks p (digits n)) (λ n e. lacks-of r (digits n) (digits-law n e .clean)) l h)
 
 -- an item has no special byte
 pub item-clean : (kings n : ℕ) → Digits n → lacks special (itemText kings n) ≡ true

@@ -1,13 +1,13 @@
 -- What the byte loops find, place by place: trimming, finding, splitting at a place, a square's digits.
 use Prim.Native.Nat.{ℕ, suc, _+_, _-_, _≤_, _<_}
-use mathlib.Core.Path.{_≡_, refl, ap, sym, _∙_}
+use mathlib.Core.Path.{_≡_, refl, ap, ap₂, sym, _∙_}
 use mathlib.Core.List.{List, [], _∷_, _++_}
 use mathlib.Core.Bool.{Bool, true, false, cond, _||_}
 use native.Mathlib.Omega.{arith}
 use native.Mathlib.Numerals.{add-one}
 use native.Mathlib.Nat.{add-assoc}
 use lib.ListN.{length, take, drop, getD, length-drop, drop-of-length-le}
-use lib.Seq.{drop-cons, take-suc, take-all, drop-drop}
+use lib.Seq.{drop-cons, take-suc, take-all, drop-drop, length-take-le}
 use lib.Dec.{leb, ltb, eqb, leb·suc-suc}
 use borrow.Author.Tests.{le-leb, lt-leb, lt-ltb, eq-eqb, ne-eqb, leb-true, leb-false}
 use Rattle.texts.specs.Bytes.{ascii, is, holds, trimStart, keepEnd, trimEnd, consHead, splitOn, upTo, behindOr, behind, startsWith, strip, indexOf, partsFrom}
@@ -200,6 +200,20 @@ pub parts-step : (p : ℕ → Bool) (s : List ℕ) (at : ℕ) → at ≤ length 
 parts-step p s at h =
     let m = indexOf p (drop at s) in
     open-at p s at h ∙ split-step p (drop at s) ∙ ap (λ (x : List (List ℕ)). take m (drop at s) ∷ x) (parts-drop p s at (m + 1) h ∙ ap (partsFrom p s) (sym (add-assoc at m 1)))
+
+-- u is the part at the place `at`, up to the next c
+module _ (c : ℕ) (s : List ℕ) (at : ℕ) (u : List ℕ) (h : at ≤ length s) (e : u ≡ upTo c (take (length s - at) (drop at s))) where
+  part-is : u ≡ take (indexOf (is c) (drop at s)) (drop at s)
+  part-is = e ∙ ap (upTo c) (rest s at) ∙ up-to-is c (drop at s)
+
+  part-long : length u ≡ indexOf (is c) (drop at s)
+  part-long = ap length part-is ∙ length-take-le (indexOf (is c) (drop at s)) (drop at s) (index-le (is c) (drop at s))
+
+  pub part-fits : at + length u ≤ length s
+  part-fits = omega (arith, part-long, index-le (is c) (drop at s), length-drop at s)
+
+  pub part-step : partsFrom (is c) s at ≡ u ∷ partsFrom (is c) s (at + length u + 1)
+  part-step = parts-step (is c) s at h ∙ sym (ap₂ (λ (x : List ℕ) (n : ℕ). x ∷ partsFrom (is c) s (at + n + 1)) part-is part-long)
 
 pub parts-none : (p : ℕ → Bool) (s : List ℕ) (at : ℕ) → length s < at → partsFrom p s at ≡ []
 unfolding partsFrom

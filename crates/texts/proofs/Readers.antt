@@ -5,8 +5,8 @@ use mathlib.Core.List.{List, [], _∷_}
 use mathlib.Core.Bool.{Bool, true, _&&_}
 use native.Mathlib.Omega.{arith}
 use native.Mathlib.Numerals.{add-one}
-use lib.ListN.{length, take, drop, getD, length-drop, drop-of-length-le}
-use lib.Seq.{drop-cons, length-take-le}
+use lib.ListN.{length, take, drop, getD, drop-of-length-le}
+use lib.Seq.{drop-cons}
 use lib.Dec.{eqb, leb}
 use lib.Bits.{bitOr}
 use borrow.Author.Tests.{eqb-true, le-leb}
@@ -27,7 +27,7 @@ use Rattle.texts.specs.Hub.{hubByteOf, hubFrom, hubParts}
 use Rattle.texts.specs.declared.parts.Parts.{Parts}
 use Rattle.texts.specs.declared.parts.Reading.{Reading}
 use Rattle.texts.specs.declared.parts.Reading.the-variants as reading
-use Rattle.texts.proofs.Cuts.{first-at, rest, up-to-is, index-le, split-step, parts-step, parts-none}
+use Rattle.texts.proofs.Cuts.{first-at, split-step, part-fits, part-step, parts-none}
 use Rattle.texts.proofs.SquareTexts.{read-on-square}
 
 -- ---- a run of squares, one more at its end
@@ -75,25 +75,13 @@ module _ (read : Parts → List ℕ → Reading) (c : ℕ) (s : List ℕ) where
   unfolding readEach
   turned {whole} {p} {at} {u} {f} {a} l e g k h =
       record {
-        fits = fits;
-        goes = λ {q} z. record { within = omega (arith, fits); answer = l .answer ∙ step ∙ rw z };
+        fits = part-fits c s at u h e;
+        goes = λ {q} z. record { within = omega (arith, part-fits c s at u h e); answer = l .answer ∙ step ∙ rw z };
         stops = λ z. l .answer ∙ step ∙ rw z;
       }
     where
-      place : ℕ
-      place = indexOf (is c) (drop at s)
-
-      text : u ≡ take place (drop at s)
-      text = e ∙ ap (upTo c) (rest s at) ∙ up-to-is c (drop at s)
-
-      long : length u ≡ place
-      long = ap length text ∙ length-take-le place (drop at s) (index-le (is c) (drop at s))
-
-      fits : at + length u ≤ length s
-      fits = omega (arith, long, index-le (is c) (drop at s), length-drop at s)
-
       step : readEach read p (partsFrom (is c) s at) ≡ andThen a (λ q. readEach read q (partsFrom (is c) s (at + length u + 1)))
-      step = ap (readEach read p) (parts-step (is c) s at h) ∙ rw (← text, ← long, ← g, ← k)
+      step = ap (readEach read p) (part-step c s at u h e) ∙ rw (← g, ← k)
 
   pub none-left : {whole : Reading} {p : Parts} {at : ℕ} → Left whole p at → length s < at → whole ≡ reading.Parts p
   unfolding readEach

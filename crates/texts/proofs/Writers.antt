@@ -1,13 +1,14 @@
 -- A text that grows by value: what was put on, and the loops over squares.
-use Prim.Native.Nat.{ℕ, suc, _+_, _-_, _≤_, _<_, _^_, _/_, _%_}
+use Prim.Native.Nat.{ℕ, suc, _+_, _-_, _*_, _≤_, _<_, _^_, _/_, _%_}
 use mathlib.Core.Path.{_≡_, refl, ap, ap₂, sym, _∙_, subst}
 use mathlib.Core.List.{List, [], _∷_, _++_, map, append-assoc, append-nil}
 use mathlib.Core.Bool.{Bool, true, false, cond}
 use native.Mathlib.Omega.{arith}
 use native.Mathlib.Numerals.{add-one}
-use lib.ListN.{length, take, drop, getD, set, length-set, length-replicate}
+use lib.ListN.{length, take, drop, getD, set, length-append, length-set, length-replicate}
 use lib.Seq.{drop-cons, take-suc, take-suc-set, set-at, length-take-le, append-snoc, take-length}
-use lib.Bits.{bitAnd, and-comm, and-le-l}
+use lib.Bits.{bitAnd}
+use lib.Dec.{ltb}
 use borrow.Author.Tests.{lt-ltb, le-ltb}
 use Rattle.squares.specs.Sets.{members, lowest}
 use Rattle.squares.specs.Squares.{squareAtBit, containsOf, onBoard}
@@ -98,9 +99,6 @@ filled {t} s h e =
     subst (λ (u : Text). Filled u s) (sym e)
     (record { text = put-content noTextOf s o ∙ no-content s; fits = omega (arith, put-room noTextOf s o .room); size = put-room noTextOf s o .size })
 
-pub cleared : (m : ℕ) → 0 < m → bitAnd m (m - 1) < m
-cleared m p = omega (arith, subst (λ (u : ℕ). u ≤ m - 1) (and-comm (m - 1) m) (and-le-l (m - 1) m))
-
 -- ---- numbers and items
 pub digits-small : (n : ℕ) → n < 10 → digits n ≡ (48 + n) ∷ []
 unfolding digits
@@ -109,6 +107,21 @@ digits-small n h = rw (lt-ltb n 10 h)
 pub digits-large : (n : ℕ) → 10 ≤ n → digits n ≡ ((48 + n / 10) ∷ []) ++ ((48 + n % 10) ∷ [])
 unfolding digits
 digits-large n h = rw (le-ltb n 10 h)
+
+pub digits-short : (n : ℕ) → length (digits n) ≤ 2
+unfolding digits
+digits-short n = go (ltb n 10)
+  where
+    go : (t : Bool) → length (cond t ((48 + n) ∷ []) ((48 + n / 10) ∷ (48 + n % 10) ∷ [])) ≤ 2
+    go true = omega arith
+    go false = omega arith
+
+-- each number has at most two digits, and a separator behind it but for the last
+pub joined-short : (c n : ℕ) (l : List ℕ) → suc (length (joined c (map digits (n ∷ l)))) ≤ 3 * length (n ∷ l)
+unfolding joined
+joined-short c n [] = omega (arith, digits-short n)
+joined-short c n (k ∷ l) =
+    omega (arith, digits-short n, joined-short c k l, length-append (digits n) (c ∷ joined c (map digits (k ∷ l))))
 
 pub put-small : (t : Text) (n : ℕ) → n < 10 → pushOf t (48 + n) ≡ put t (digits n)
 put-small t n h = put-one t (48 + n) ∙ ap (put t) (sym (digits-small n h))

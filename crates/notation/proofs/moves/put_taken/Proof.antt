@@ -4,8 +4,9 @@ use Prim.Native.Nat.{_<_, _-_, _^_}
 use borrow.Author.Needs.{needs}
 use native.Mathlib.Omega.{arith}
 use Rattle.squares.specs.Sets.{members, lowest}
+use Rattle.squares.proofs.Loops.{cleared}
 use Rattle.texts.specs.Lent.{put}
-use Rattle.texts.proofs.Writers.{cleared, square-lt}
+use Rattle.texts.proofs.Writers.{square-lt}
 use Rattle.notation.specs.MoveText.{takenText}
 use Rattle.notation.proofs.MoveTexts.{taken-turn, taken-done}
 use Rattle.notation.proofs.moves.put_taken.Statement.{statement}

@@ -2,11 +2,10 @@
 use mathlib.Core.Path.{_≡_, refl, ap, sym, _∙_}
 use Prim.Native.Nat.{_≤_, _-_, _+_}
 use native.Mathlib.Omega.{arith}
-use lib.ListN.{length, length-drop}
-use lib.Seq.{length-take-le}
+use lib.ListN.{length}
 use denote.Ref.{now}
 use Rattle.texts.specs.Bytes.{is, partsFrom}
-use Rattle.texts.proofs.Cuts.{rest}
+use Rattle.texts.proofs.Cuts.{part-fits}
 use Rattle.notation.specs.Notation.{heardSquares}
 use Rattle.notation.specs.declared.notation.Said.{Said}
 use Rattle.notation.proofs.Reading.{none, opened, heard-turn, heard-end, one-more}
@@ -27,20 +26,17 @@ unsaid-requires c κs = search needs
 loop-holds : tie.Need-loop-holds Inv-loop μ-loop
 loop-holds c = (omega arith, (omega (arith, ap (λ (h : Said). h .count) (c .unsaid .ensures), none (c .before .before .args .capture)), refl))
 
-sub-rest : tie.Need-sub-rest Inv-loop μ-loop
-sub-rest c = search needs
+sub-up-to : tie.Need-sub-up-to Inv-loop μ-loop
+sub-up-to c = search needs
 
-part-rest-start : tie.Need-part-rest-start Inv-loop μ-loop
-part-rest-start c = search needs
+part-up-to-start : tie.Need-part-up-to-start Inv-loop μ-loop
+part-up-to-start c = search needs
 
-part-rest-end : tie.Need-part-rest-end Inv-loop μ-loop
-part-rest-end c = search needs
+part-up-to-end : tie.Need-part-up-to-end Inv-loop μ-loop
+part-up-to-end c = search needs
 
-find-requires : tie.Need-find-requires Inv-loop μ-loop
-find-requires c κs = search needs
-
-slice-aggregate-read-square : tie.Need-slice-aggregate-read-square Inv-loop μ-loop
-slice-aggregate-read-square c = sym (length-take-le _ _ (omega arith))
+up-to-requires : tie.Need-up-to-requires Inv-loop μ-loop
+up-to-requires c κs = search needs
 
 read-square-requires : tie.Need-read-square-requires Inv-loop μ-loop
 read-square-requires c κs = search needs
@@ -56,41 +52,37 @@ enum-told c = search needs
 
 returns : tie.Need-returns Inv-loop μ-loop
 returns c =
-    let a = c .before .before .before .before .before .before .before .before .before .before .args in
-    let s = now (a .s) in
-    let u = c .before .before .before .before .before .before .before .before .unsaid in
-    let l = c .before .before .before .before .before .before .before .loop in
-    let f = c .before .before .before .before .find in
-    let d = c .before .before .read-square in
-    sym (opened (a .c) s (u .result) (a .capture) (u .ensures) ∙ l .inv .1 .1 ∙ heard-turn (a .c) s (l .at) (f .result) (l .h) (d .result) (omega arith) (f .ensures .0) (d .ensures) ∙ rw (c .enum-told .given .1))
+    let d = c .before .before in
+    let l = d .before .before .before .before .loop in
+    let u = d .before .before .before .before .before .unsaid in
+    let a = d .before .before .before .before .before .before .before .args in
+    sym (opened (a .c) (now (a .s)) (u .result) (a .capture) (u .ensures) ∙ l .inv .1 .1 ∙ heard-turn (a .c) (now (a .s)) (l .at) _ (l .h) _ (omega arith) (d .before .up-to .ensures) (d .read-square .ensures) ∙ rw (c .enum-told .given .1))
 
 add-at : tie.Need-add-at Inv-loop μ-loop
 add-at c =
-    let s = now (c .before .before .before .before .before .before .before .before .before .before .before .before .args .s) in
-    let l = c .before .before .before .before .before .before .before .before .before .loop in
-    omega (arith, ap length (rest s (l .at)), length-drop (l .at) s)
+    let d = c .before .before .before .before in
+    let a = d .before .before .before .before .before .before .before .args in
+    omega (arith, part-fits (a .c) (now (a .s)) (d .before .before .before .before .loop .at) _ (omega arith) (d .before .up-to .ensures))
 
 add-at-2 : tie.Need-add-at-2 Inv-loop μ-loop
 add-at-2 c =
-    let s = now (c .before .before .before .before .before .before .before .before .before .before .before .before .args .s) in
-    let l = c .before .before .before .before .before .before .before .before .before .loop in
-    omega (arith, ap length (rest s (l .at)), length-drop (l .at) s)
+    let d = c .before .before .before .before in
+    let a = d .before .before .before .before .before .before .before .args in
+    omega (arith, part-fits (a .c) (now (a .s)) (d .before .before .before .before .loop .at) _ (omega arith) (d .before .up-to .ensures))
 
 loop-less : tie.Need-loop-less Inv-loop μ-loop
 loop-less c = search needs
 
 loop-again : tie.Need-loop-again Inv-loop μ-loop
 loop-again c =
-    let a = c .before .before .before .before .before .before .before .before .before .before .before .before .args in
-    let s = now (a .s) in
-    let l = c .before .before .before .before .before .before .before .before .before .loop in
-    let f = c .before .before .before .before .before .before .find in
-    let d = c .before .before .before .before .read-square in
+    let d = c .before .before .before .before in
+    let l = d .before .before .before .before .loop in
+    let a = d .before .before .before .before .before .before .before .args in
     let m = c .heard-square in (
-      omega (arith, ap length (rest s (l .at)), length-drop (l .at) s),
+      omega (arith, part-fits (a .c) (now (a .s)) (l .at) _ (omega arith) (d .before .up-to .ensures)),
       (
         omega (arith, l .inv .1 .0, ap (λ (h : Said). h .count) (m .ensures) ∙ one-more (l .h) _),
-        l .inv .1 .1 ∙ heard-turn (a .c) s (l .at) (f .result) (l .h) (d .result) (omega arith) (f .ensures .0) (d .ensures) ∙ rw (c .before .before .k .given .1, ← m .ensures),
+        l .inv .1 .1 ∙ heard-turn (a .c) (now (a .s)) (l .at) _ (l .h) _ (omega arith) (d .before .up-to .ensures) (d .read-square .ensures) ∙ rw (c .before .before .k .given .1, ← m .ensures),
       ),
     )
 
@@ -108,11 +100,10 @@ heard-squares-spec = tie.close (tie.spec
     μ-loop
     unsaid-requires
     loop-holds
-    sub-rest
-    part-rest-start
-    part-rest-end
-    find-requires
-    slice-aggregate-read-square
+    sub-up-to
+    part-up-to-start
+    part-up-to-end
+    up-to-requires
     read-square-requires
     enum-known-k
     heard-square-requires

@@ -6,6 +6,7 @@ use Rattle.texts.proofs.Writers as laws
 use Rattle.texts.specs.Lent.{put}
 use Rattle.texts.specs.Fen.{listText}
 use Rattle.squares.specs.Sets.{members, lowest}
+use Rattle.squares.proofs.Loops.{cleared}
 use borrow.Author.Needs.{needs}
 use native.Mathlib.Omega.{arith}
 use Rattle.texts.proofs.fen.put_list.Statement.{statement}
@@ -33,13 +34,13 @@ sub-left : tie.Need-sub-left Inv-loop μ-loop
 sub-left c = omega arith
 
 loop-less : tie.Need-loop-less Inv-loop μ-loop
-loop-less c = laws.cleared (c .before .before .before .before .loop .left) (omega arith)
+loop-less c = cleared (c .before .before .before .before .loop .left) (omega arith)
 
 loop-again : tie.Need-loop-again Inv-loop μ-loop
 loop-again c =
     let l = c .before .before .before .before .loop in
     let a = c .before .before .before .before .before .args in
-    (laws.list-turn (l .t) _ _ (a .kings) (l .first) (l .left) _ (omega arith) (l .inv .1) (c .before .before .from-bit .ensures) (c .before .put-separator .ensures) (c .put-item .ensures) ∙ l .inv .0, omega (arith, laws.cleared (l .left) (omega arith), l .inv .1))
+    (laws.list-turn (l .t) _ _ (a .kings) (l .first) (l .left) _ (omega arith) (l .inv .1) (c .before .before .from-bit .ensures) (c .before .put-separator .ensures) (c .put-item .ensures) ∙ l .inv .0, omega (arith, cleared (l .left) (omega arith), l .inv .1))
 
 returns : tie.Need-returns Inv-loop μ-loop
 returns c =

@@ -10,9 +10,9 @@ use Rattle.squares.specs.Squares.{all}
 use Rattle.positions.specs.Boards.{boardOf, menOf}
 use Rattle.scores.specs.Score.{advanced, center, placementOf}
 use Rattle.positions.proofs.Accepts.{accepted-says}
+use Rattle.positions.proofs.OnSquares.{and-all, men-squares}
 use Rattle.scores.proofs.Integers.{held-within, add-of, fits, read}
 use Rattle.scores.proofs.Scores.{weights-of, count-le, of-term, center-is}
-use Rattle.scores.proofs.Men.{and-all, men-squares}
 use Rattle.scores.proofs.eval.Classical.placement.Statement.{statement}
 use Rattle.scores.proofs.eval.Classical.placement.Tie as tie
 
