@@ -1,5 +1,6 @@
 // What a line asks. Its first byte says of what: a of a position, b of a number, c of lent space, d of a move text, e of a
-// game, g of a list of records. Then the entry's number and a number for it, and behind a semicolon what the answer is to begin with.
+// game, g of a list of records. Then come the entry's number and a number for it (d: the text; g: how many answers, how
+// many numbers, and these), and behind a semicolon what the answer begins with.
 use crate::given;
 use crate::show;
 use crate::show_games;

@@ -1,8 +1,9 @@
-// What a line hands in. Its first byte says what: p a position, m a move record, w weights, and of a game f the same
-// position in every entry, k a kept one, n its three numbers. Numbers are hexadecimal, weights decimal.
+// What a line hands in. Its first byte says what: p a position, i the initial one, m a move record, w weights, and of a game
+// f the same position in every entry, k a kept one, n its three numbers. Numbers are hexadecimal, weights decimal.
 use crate::boards;
 use games::game::Game;
 use positions::moves::Move;
+use positions::position;
 use positions::position::Position;
 use scores::eval::Classical;
 use squares::piece::Color;
@@ -10,7 +11,6 @@ use wording::numbers;
 use wording::numbers::Parsed;
 use wording::numbers::Signed;
 use wording::words;
-ghost use Prim.Native.Nat.{_<_, _^_};
 
 pub(crate) fn letter(s: &[u8]) -> u8 {
     if 0 < s.len() { s[0] } else { 0 }
@@ -40,13 +40,18 @@ fn side(n: u64) -> Color {
 }
 
 // White, black, kings, the side and what is wrong with the hash.
-pub(crate) fn position(p: Position, s: &[u8]) -> Position {
-    if letter(s) != b'p' {
-        return p;
-    }
+fn placed(s: &[u8]) -> Position {
     let white = number(s, 1);
     let black = number(s, 2);
     boards::with_hash(white, black, number(s, 3), side(number(s, 4)), number(s, 5))
+}
+
+pub(crate) fn position(p: Position, s: &[u8]) -> Position {
+    match letter(s) {
+        b'i' => position::initial(),
+        b'p' => placed(s),
+        _ => p,
+    }
 }
 
 pub(crate) fn record(m: Move, s: &[u8]) -> Move {

@@ -11,7 +11,7 @@ mod show_games;
 use libc::STDIN_FILENO;
 
 fn main() {
-    let mut text = [0u8; 131072];
+    let mut text = io::large_buffer();
     let n = io::read_full(STDIN_FILENO, &mut text);
     asked::lines(&text[..n]);
 }

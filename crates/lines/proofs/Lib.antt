@@ -3,3 +3,4 @@ pub mod LineLaws
 pub mod StepLaws
 pub mod RunLaws
 pub mod Buffers
+pub mod Rows

@@ -4,7 +4,7 @@ use mathlib.Core.Path.{_≡_, refl, ap, sym, _∙_}
 use mathlib.Core.List.{List, [], _∷_, _++_, append-assoc}
 use native.Mathlib.Omega.{arith}
 use lib.ListN.{length, take, drop, take-append-drop, length-drop}
-use lib.Seq.{drop-drop, length-take-le, take-append-add}
+use lib.Seq.{drop-drop, length-take-le, take-length, take-append-add}
 use Rattle.lines.specs.Lines.{outputOf, wholeOf, wholeLines, openLine, carriedOf, lastAnswer, turnsOutput, together}
 use Rattle.lines.specs.Steps.{between, Answered}
 use Rattle.lines.specs.Runs as runs
@@ -95,3 +95,26 @@ run-turns (runs.turn {carried} {piece} {written} {rest} {pieces} kept buffer w e
 -- for every list of pieces: each line of the input is answered once and in order, however the input is cut
 pub run-law : {pieces : List (List ℕ)} {written : List ℕ} → Run [] pieces written → written ≡ outputOf (together pieces)
 run-law {pieces} r = run-turns r ∙ turns-law pieces
+
+-- there is a run for every list of pieces
+step-all : (s : List ℕ) → Answered s 0 (outputOf (wholeLines s)) (wholeOf s) (length (outputOf (wholeLines s)))
+unfolding wholeLines
+step-all s =
+    let z : wholeOf s - 0 ≡ wholeOf s = omega arith in
+    record {
+      onward = omega arith;
+      inside = whole-le s;
+      whole = ap (λ (n : ℕ). wholeOf (take n s)) z ∙ whole-part s ∙ sym z;
+      fits = omega arith;
+      answers = take-length (outputOf (wholeLines s)) ∙ ap (λ (n : ℕ). outputOf (take n s)) (sym z);
+      goesOn = λ e. e;
+    }
+
+pub run-some : (carried : List ℕ) (pieces : List (List ℕ)) → (written : List ℕ) × Run carried pieces written
+run-some carried [] = let a = lastAnswer carried in (take (length a) a, runs.end (length a) a (take-length a))
+run-some carried (piece ∷ pieces) =
+    let s = carried ++ piece in
+    let c = carriedOf s in
+    let a = outputOf (wholeLines s) in
+    let r = run-some (take (length c) c) pieces in
+    ((take (length a) a ++ []) ++ r .0, runs.turn (length c) c (runs.more (length a) a (step-all s) (runs.none (open-part s))) (take-length c) (r .1))

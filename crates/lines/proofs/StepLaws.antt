@@ -39,17 +39,12 @@ module _ (s : List ℕ) (from : ℕ) (out : List ℕ) (at put : ℕ) (g : Answer
   behind : drop (at - from) (drop from s) ≡ drop at s
   behind = let k : from + (at - from) ≡ at = omega (arith, g .onward) in drop-drop (at - from) from s ∙ ap (λ (n : ℕ). drop n s) k
 
+  ends : (at ≡ from → wholeOf (drop from s) ≡ 0) → Answered s from out at put
+  ends o = record { onward = g .onward; inside = g .inside; whole = g .whole; fits = g .fits; answers = g .answers; goesOn = o }
+
   -- no place for the next answer: something was answered
   pub full : (room : ℕ) → room ≤ length out → length out - put < room → Answered s from out at put
-  full room h l =
-      record {
-        onward = g .onward;
-        inside = g .inside;
-        whole = g .whole;
-        fits = g .fits;
-        answers = g .answers;
-        goesOn = λ e. absurd (none e);
-      }
+  full room h l = ends (λ e. absurd (none e))
     where
       none : at ≡ from → ⊥
       none e =
@@ -59,15 +54,7 @@ module _ (s : List ℕ) (from : ℕ) (out : List ℕ) (at put : ℕ) (g : Answer
   -- t is what stands behind the lines so far
   module _ (t : List ℕ) (q : t ≡ drop at s) (n : ℕ) (e : n ≡ indexOf (is 10) t) where
     pub finished : n ≡ length t → Answered s from out at put
-    finished l =
-        record {
-          onward = g .onward;
-          inside = g .inside;
-          whole = g .whole;
-          fits = g .fits;
-          answers = g .answers;
-          goesOn = λ k. ap (λ (m : ℕ). wholeOf (drop m s)) (sym k) ∙ ap wholeOf (sym q) ∙ no-feed t (sym e ∙ l);
-        }
+    finished l = ends (λ k. ap (λ (m : ℕ). wholeOf (drop m s)) (sym k) ∙ ap wholeOf (sym q) ∙ no-feed t (sym e ∙ l))
 
     more : between from (at + n + 1) s ≡ between from at s ++ take (n + 1) t
     more =

@@ -30,6 +30,7 @@ use Rattle.texts.specs.Hub.{hubText}
 use Rattle.texts.proofs.FenLength.{fen-short}
 use Rattle.texts.proofs.HubTrip.{hub-length}
 use Rattle.notation.specs.MoveText.{separatorOf, named, moveText}
+use Rattle.texts.proofs.Writers.{joined-short}
 use Rattle.notation.proofs.MoveTexts.{move-short}
 use Rattle.movegen.specs.declared.movegen.Listed.{Listed}
 use Rattle.movegen.specs.declared.perft.Divided.{Divided}
@@ -121,20 +122,6 @@ move-most m = go (squaresOf m) refl
     go true e = move-short m e
     go false e = omega arith
 
-two-digits : (n : ℕ) → length (digits n) ≤ 2
-unfolding digits
-two-digits n = go (ltb n 10)
-  where
-    go : (t : Bool) → length (cond t ((48 + n) ∷ []) ((48 + n / 10) ∷ (48 + n % 10) ∷ [])) ≤ 2
-    go true = omega arith
-    go false = omega arith
-
--- each square has at most two digits, and a separator behind it but for the last
-squares-most : (c n : ℕ) (l : List ℕ) → suc (length (joined c (map digits (n ∷ l)))) ≤ 3 * length (n ∷ l)
-unfolding joined
-squares-most c n [] = omega (arith, two-digits n)
-squares-most c n (k ∷ l) = omega (arith, two-digits n, squares-most c k l, length-append (digits n) (c ∷ joined c (map digits (k ∷ l))))
-
 -- three bytes for each piece taken
 pub move-by : (m : Move) → length (moveWord m) ≤ 5 + 3 * size (m .captured)
 unfolding moveWord moveText named
@@ -144,7 +131,7 @@ move-by m = go (squaresOf m)
     go true =
         omega (
           arith,
-          squares-most (separatorOf m) (m .from) (m .to ∷ map squareAtBit (members (m .captured))),
+          joined-short (separatorOf m) (m .from) (m .to ∷ map squareAtBit (members (m .captured))),
           length-map (members (m .captured)) squareAtBit,
           members-length (m .captured),
         )

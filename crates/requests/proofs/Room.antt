@@ -41,7 +41,7 @@ use Rattle.wording.specs.declared.numbers.Parsed.the-variants as parsed
 use Rattle.requests.specs.Answers.{fenAnswer, hubAnswer, hashAnswer, setWord, bitsAnswer, placedAnswer, scoredAnswer, testedAnswer, countedAnswer, moveWord, recordWord, moveAnswer, afterAnswer, answerTo, dividedAnswer}
 use Rattle.requests.specs.Heard.{positionOf, listedMoveOf, squareOf}
 use Rattle.requests.specs.Plays.{wordsOf, allReadable, gameText, playsAnswer, freshAnswer}
-use Rattle.requests.specs.Requests.{onHeard, onMeant, onParsed, onSided, onWeights, parsedAnswer, successorAnswer, depthAnswer, splitAnswer, limitAnswer, weighedAnswer, workAnswer, heardAnswer, restAnswer, atmostAnswer, weightsOf, evalwAnswer, numberWord, placingAnswer, squareAnswer, sideOf, setsAnswer, partsAnswer, kindOf, kindAnswer, answerOf}
+use Rattle.requests.specs.Requests.{onHeard, onMeant, onParsed, onSided, onWeights, parsedAnswer, successorAnswer, depthAnswer, splitAnswer, workAnswer, heardAnswer, restAnswer, atmostAnswer, weightsOf, evalwAnswer, numberWord, placingAnswer, squareAnswer, sideOf, setsAnswer, partsAnswer, kindOf, kindAnswer, answerOf}
 use Rattle.requests.specs.declared.answers.Asked.{Asked}
 use Rattle.requests.specs.declared.answers.Asked.the-variants as asked
 use Rattle.requests.specs.declared.asked.Task.{Task}
@@ -173,7 +173,7 @@ fresh-most p = omega (arith, judged-most (outcomeOf (newOf p .game)))
 
 -- ---- with a position
 work-most : (t : Task) (p : Position) (s : List ℕ) → length s ≤ 65536 → length (workAnswer t p s) ≤ 1442469
-unfolding parsedAnswer successorAnswer depthAnswer splitAnswer limitAnswer weighedAnswer
+unfolding parsedAnswer successorAnswer depthAnswer splitAnswer
 work-most (task.Tell a) p s l = omega (arith, tell-most a p)
 work-most task.Parse p s l = omega (arith, on-meant (listedMoveOf p s) moveAnswer move-answer)
 work-most task.After p s l = omega (arith, on-meant (listedMoveOf p s) (λ m. afterAnswer (afterOf p m)) (λ m. after-most (afterOf p m)))

@@ -93,13 +93,13 @@ fn tell_bits(out: &mut [u8], at: usize, p: Position) -> usize
     ensures { λ r. ⌜ Adds (bitsAnswer p) (now (out .entry)) at (now (out .exit)) r ⌝ }
 {
     let side = p.side;
-    let k = put_ok(out, at);
-    let white = put_set(out, k, p.white);
-    let black = put_set(out, white, p.black);
-    let kings = put_set(out, black, p.kings);
-    let letter = output::put_byte(out, kings, side.to_char());
-    let blank = output::put_byte(out, letter, b' ');
-    output::put_hash(out, blank, p.hash)
+    let mut k = put_ok(out, at);
+    k = put_set(out, k, p.white);
+    k = put_set(out, k, p.black);
+    k = put_set(out, k, p.kings);
+    k = output::put_byte(out, k, side.to_char());
+    k = output::put_byte(out, k, b' ');
+    output::put_hash(out, k, p.hash)
 }
 
 // A position as FEN, or the refusal.
@@ -177,8 +177,8 @@ fn put_moves(out: &mut [u8], at: usize, list: MoveList) -> usize
             return k;
         }
         let m = list.moves[i];
-        let b = output::put_byte(out, k, b' ');
-        k = put_move(out, b, m);
+        k = output::put_byte(out, k, b' ');
+        k = put_move(out, k, m);
         i += 1;
     }
     k
@@ -212,10 +212,10 @@ fn put_counts(out: &mut [u8], at: usize, list: MoveList, counts: [u64; 256]) -> 
             return k;
         }
         let m = list.moves[i];
-        let b = output::put_byte(out, k, b' ');
-        let e = put_move(out, b, m);
-        let n = output::put_byte(out, e, b'=');
-        k = output::put_decimal(out, n, counts[i]);
+        k = output::put_byte(out, k, b' ');
+        k = put_move(out, k, m);
+        k = output::put_byte(out, k, b'=');
+        k = output::put_decimal(out, k, counts[i]);
         i += 1;
     }
     k
@@ -241,21 +241,21 @@ pub(crate) fn tell_divided(out: &mut [u8], at: usize, d: Divided) -> usize
 fn put_record(out: &mut [u8], at: usize, m: Move) -> usize
     ensures { λ r. ⌜ Adds (recordWord m) (now (out .entry)) at (now (out .exit)) r ⌝ }
 {
-    let from = output::put_decimal(out, at, m.from as u64);
-    let comma = output::put_byte(out, from, b',');
-    let to = output::put_decimal(out, comma, m.to as u64);
-    let last = output::put_byte(out, to, b',');
-    output::put_hex(out, last, m.captured)
+    let mut k = output::put_decimal(out, at, m.from as u64);
+    k = output::put_byte(out, k, b',');
+    k = output::put_decimal(out, k, m.to as u64);
+    k = output::put_byte(out, k, b',');
+    output::put_hex(out, k, m.captured)
 }
 
 // The move's Hub text, first square, last square and set.
 pub(crate) fn tell_move(out: &mut [u8], at: usize, m: Move) -> usize
     ensures { λ r. ⌜ Adds (moveAnswer m) (now (out .entry)) at (now (out .exit)) r ⌝ }
 {
-    let k = put_ok(out, at);
-    let text = put_move(out, k, m);
-    let blank = output::put_byte(out, text, b' ');
-    put_record(out, blank, m)
+    let mut k = put_ok(out, at);
+    k = put_move(out, k, m);
+    k = output::put_byte(out, k, b' ');
+    put_record(out, k, m)
 }
 
 // The FEN of the position after a move, and its hash.

@@ -200,12 +200,12 @@ pub(crate) fn square(word: &[u8], out: &mut [u8], at: usize) -> usize
 {
     match heard::square(word) {
         Placing::Square(k) => {
-            let a = answers::put_ok(out, at);
-            let b = output::put_decimal(out, a, k as u64);
-            let c = output::put_byte(out, b, b' ');
-            let d = put_number(out, c, squares::square::bit(k));
-            let e = output::put_byte(out, d, b' ');
-            put_number(out, e, squares::square::row(k))
+            let mut to = answers::put_ok(out, at);
+            to = output::put_decimal(out, to, k as u64);
+            to = output::put_byte(out, to, b' ');
+            to = put_number(out, to, squares::square::bit(k));
+            to = output::put_byte(out, to, b' ');
+            put_number(out, to, squares::square::row(k))
         }
         Placing::Refused(e) => output::put_refusal(out, at, e),
         Placing::Bad => output::put_bad(out, at),

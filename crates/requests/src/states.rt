@@ -66,21 +66,21 @@ fn put_count(out: &mut [u8], at: usize, c: Counted) -> usize
 fn put_plies(out: &mut [u8], at: usize, g: Game, mark: u8) -> usize
     ensures { λ r. ⌜ Adds (pliesText mark g) (now (out .entry)) at (now (out .exit)) r ⌝ }
 {
-    let a = output::put_byte(out, at, mark);
-    let b = put_count(out, a, g.reversible_plies());
-    let c = output::put_byte(out, b, mark);
-    output::put_decimal(out, c, g.material as u64)
+    let mut k = output::put_byte(out, at, mark);
+    k = put_count(out, k, g.reversible_plies());
+    k = output::put_byte(out, k, mark);
+    output::put_decimal(out, k, g.material as u64)
 }
 
 // The outcome, both counts and how often the position has stood, a mark before each.
 pub(crate) fn put_state(out: &mut [u8], at: usize, g: Game, mark: u8) -> usize
     ensures { λ r. ⌜ Adds (stateText mark g) (now (out .entry)) at (now (out .exit)) r ⌝ }
 {
-    let a = output::put_byte(out, at, mark);
-    let b = put_judged(out, a, g.outcome());
-    let c = put_plies(out, b, g, mark);
-    let d = output::put_byte(out, c, mark);
-    put_count(out, d, g.repetitions())
+    let mut k = output::put_byte(out, at, mark);
+    k = put_judged(out, k, g.outcome());
+    k = put_plies(out, k, g, mark);
+    k = output::put_byte(out, k, mark);
+    put_count(out, k, g.repetitions())
 }
 
 fn put_stand(out: &mut [u8], at: usize, p: Placed) -> usize
@@ -116,9 +116,9 @@ fn put_listed(out: &mut [u8], at: usize, l: Listed) -> usize
 pub(crate) fn put_end(out: &mut [u8], at: usize, g: Game) -> usize
     ensures { λ r. ⌜ Adds (endText g) (now (out .entry)) at (now (out .exit)) r ⌝ }
 {
-    let a = output::put(out, at, b" | ");
-    let b = put_stand(out, a, g.position());
-    let c = put_state(out, b, g, b' ');
-    let d = output::put_byte(out, c, b' ');
-    put_listed(out, d, g.legal_moves(MAX_MOVES))
+    let mut k = output::put(out, at, b" | ");
+    k = put_stand(out, k, g.position());
+    k = put_state(out, k, g, b' ');
+    k = output::put_byte(out, k, b' ');
+    put_listed(out, k, g.legal_moves(MAX_MOVES))
 }
