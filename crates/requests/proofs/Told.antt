@@ -5,7 +5,7 @@ use mathlib.Core.List.{List, []}
 use mathlib.Core.Bool.{Bool, true, false, cond, _&&_}
 use native.Mathlib.Omega.{arith}
 use lib.ListN.{length, take, drop, length-take}
-use lib.Seq.{take-all, take-append-seam, take-at}
+use lib.Seq.{take-all, take-append-seam}
 use lib.Dec.{leb, eqb}
 use borrow.Author.Tests.{le-leb, lt-leb, leb-true, leb-false}
 use Rattle.squares.specs.declared.refusal.Refusal.{Refusal}
@@ -22,7 +22,8 @@ use Rattle.positions.specs.declared.position.Placed.the-variants as placed
 use Rattle.positions.proofs.Accepts.{sound-says}
 use Rattle.texts.specs.Bytes.{readable, fromStrOf, is, indexOf}
 use Rattle.texts.specs.Parts.{placing}
-use Rattle.texts.specs.Lent.{emitOf, emitted, written, Holds}
+use Rattle.texts.specs.Lent.{emitOf, emitted}
+use Rattle.texts.proofs.Pieces.{part-of}
 use Rattle.texts.specs.Fen.{fenText, fenOf, fenLent, fromFenOf}
 use Rattle.texts.specs.Hub.{hubText, hubOf, hubLent, fromHubOf}
 use Rattle.texts.specs.declared.bytes.Wrote.{Wrote}
@@ -191,18 +192,13 @@ pub record Spelt (s o out : List ℕ) (n : ℕ) : Type 0 where
   pub part : take n out ≡ take (length o) done
   pub within : n ≤ length out
 
-part-of : (o t out : List ℕ) (n : ℕ) → Holds o t out (min (length t) (length o)) → n ≡ min (length t) (length o) → take n out ≡ take (length o) t
-unfolding written
-part-of o t out n h q =
-    ap (take n) (h .bytes) ∙ take-at (take (length o) t) (drop (length t) o) n (length-take (length o) t ∙ omega (arith, q))
-
 spelt : (s o out : List ℕ) (n : ℕ) → Undid s o out (undone.Length n) → Spelt s o out n
 spelt s o out n u = go (plain s) refl
   where
     go : (p : Plain) → plain s ≡ p → Spelt s o out n
     go (text t) e =
         let q : n ≡ min (length t) (length o) = (let w : undone.Length n ≡ undone.Length (min (length t) (length o)) = u .answer ∙ ap (undoneOf (length o)) e in cc) in
-        let w = part-of o t out n (u .bytes t e) q in
+        let w = ap (λ (i : ℕ). take i out) q ∙ part-of (u .bytes t e) in
         record { done = t; whole = e; part = w; within = omega (arith, q, ap length w, length-take n out, length-take (length o) t) }
     go broken e = absurd (let w : undone.Length n ≡ undone.Bad = u .answer ∙ ap (undoneOf (length o)) e in let z : _≡_ {A = ℕ} 0 1 = cc in omega arith)
 

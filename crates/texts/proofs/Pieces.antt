@@ -5,7 +5,7 @@ use mathlib.Core.List.{List, [], _∷_, _++_, append-assoc, append-nil}
 use native.Mathlib.Omega.{arith}
 use native.Mathlib.Numerals.{add-one}
 use lib.ListN.{length, take, drop, getD, set, length-append, length-take, length-drop, drop-of-length-le}
-use lib.Seq.{take-all, drop-cons, set-append-seam, append-snoc, take-append-le, take-append-seam, take-suc, take-nil}
+use lib.Seq.{take-all, drop-cons, set-append-seam, append-snoc, take-append-le, take-at, take-suc, take-nil}
 use Rattle.texts.specs.Lent.{written, Holds, Adds}
 
 pub written-length : (t o : List ℕ) → length (written t o) ≡ length o
@@ -58,22 +58,21 @@ start o = record { bytes = sym (ap (λ (y : List ℕ). y ++ o) (take-nil (length
 pub whole : {s o new : List ℕ} {end : ℕ} → Adds s o 0 new end → (end ≡ min (length s) (length o)) × (new ≡ written s o)
 whole {s} {o} a = let h = a .held o [] (start o) in (h .place, h .bytes)
 
--- what a text that fits leaves in the bytes before the place
+-- what stands before the place: the text, as far as there is room
+pub part-of : {o t out : List ℕ} {at : ℕ} → Holds o t out at → take at out ≡ take (length o) t
+unfolding written
+part-of {o} {t} {out} {at} h =
+    ap (take at) (h .bytes) ∙ take-at (take (length o) t) (drop (length t) o) at (length-take (length o) t ∙ omega (arith, h .place))
+
+-- the whole text, where there is room for it
 pub record Starts (s new : List ℕ) (end : ℕ) : Type 0 where
   pub text : take end new ≡ s
-  pub place : end ≡ length s
   pub fits : end ≤ length new
 
 pub starts : {s o new : List ℕ} {end : ℕ} → length s ≤ length o → Adds s o 0 new end → Starts s new end
-unfolding written
-starts {s} {o} {new} {end} h a =
-    let p : end ≡ length s = omega (arith, whole a .0) in
-    let e : new ≡ s ++ drop (length s) o = whole a .1 ∙ ap (λ (t : List ℕ). t ++ drop (length s) o) (take-all (length o) s h) in
-    record {
-      text = ap (λ (t : List ℕ). take end t) e ∙ ap (λ (n : ℕ). take n (s ++ drop (length s) o)) p ∙ take-append-seam s (drop (length s) o);
-      place = p;
-      fits = omega (arith, p, ap length (whole a .1), written-length s o);
-    }
+starts {s} {o} h a =
+    let g = a .held o [] (start o) in
+    record { text = part-of g ∙ take-all (length o) s h; fits = omega (arith, g .place, holds-length g) }
 
 -- ---- pieces
 pub adds-none : (out : List ℕ) (at : ℕ) → Adds [] out at out at
