@@ -212,18 +212,32 @@ unfolding fenText joined fieldText
 fen-parts b x e = rw e
 
 -- ---- Hub, square by square
-pub hub-start : (e t : Text) (b : Board) (x : ℕ) → e ≡ noTextOf → x ≡ colorChar (b .side) → t ≡ pushOf e x
-    → put t (map (hubChar b) (squaresFrom 50 1)) ≡ put noTextOf (hubText b)
-unfolding hubText put
-hub-start e t b x n q a = ap (λ (y : Text). put y (map (hubChar b) (squaresFrom 50 1))) (a ∙ ap₂ pushOf n q)
 
-pub hub-turn : (t u : Text) (b : Board) (n x : ℕ) → n ≤ 50 → x ≡ hubChar b n → u ≡ pushOf t x
-    → put u (map (hubChar b) (squaresFrom (51 - (n + 1)) (n + 1))) ≡ put t (map (hubChar b) (squaresFrom (51 - n) n))
-unfolding squaresFrom put
-hub-turn t u b n x h q a =
+-- what remains from square n on
+abbrev pub squaresLeft : Board → ℕ → List ℕ
+squaresLeft b n = map (hubChar b) (squaresFrom (51 - n) n)
+
+pub hub-start : (b : Board) (out : List ℕ) (at : ℕ) → Leaves (squaresLeft b 1) out at (squaresLeft b 1) out at
+hub-start b out at = record { rest = λ new end x. x }
+
+left-next : (b : Board) (n x : ℕ) → n ≤ 50 → x ≡ hubChar b n → (x ∷ []) ++ squaresLeft b (n + 1) ≡ squaresLeft b n
+unfolding squaresFrom
+left-next b n x h q =
     let k : 51 - n ≡ suc (51 - (n + 1)) = omega arith in
-    rw k (ap (λ (y : Text). put y (map (hubChar b) (squaresFrom (51 - (n + 1)) (n + 1)))) (a ∙ ap (pushOf t) q))
+    rw k (ap (λ (y : ℕ). y ∷ squaresLeft b (n + 1)) q)
 
-pub hub-done : (t : Text) (b : Board) (n : ℕ) → n ≡ 51 → t ≡ put t (map (hubChar b) (squaresFrom (51 - n) n))
-unfolding squaresFrom put
-hub-done t b n e = rw e
+pub hub-turn : {w o a c : List ℕ} {h i j : ℕ} (b : Board) (n x : ℕ) → n ≤ 50 → x ≡ hubChar b n
+    → Leaves w o h (squaresLeft b n) a i → Adds (x ∷ []) a i c j → Leaves w o h (squaresLeft b (n + 1)) c j
+hub-turn b n x l q g y =
+    record { rest = λ new end z. g .rest new end (adds-as (left-next b n x l q) (adds-then y z)) }
+
+left-none : (b : Board) (n : ℕ) → n ≡ 51 → [] ≡ squaresLeft b n
+unfolding squaresFrom
+left-none b n e = rw e
+
+pub hub-done : {w o a : List ℕ} {h i : ℕ} (b : Board) (n : ℕ) → n ≡ 51 → Leaves w o h (squaresLeft b n) a i → Adds w o h a i
+hub-done {a = a} {i = i} b n e g = g .rest a i (adds-as (left-none b n e) (adds-none a i))
+
+pub hub-parts : (b : Board) (x : ℕ) → x ≡ colorChar (b .side) → (x ∷ []) ++ squaresLeft b 1 ≡ hubText b
+unfolding hubText
+hub-parts b x q = ap (λ (y : ℕ). y ∷ squaresLeft b 1) q
