@@ -24,6 +24,8 @@ use Rattle.texts.specs.Parts.{added, withSquares, begun}
 use Rattle.texts.specs.Hub.{squaresFrom, standingChar, hubChar, hubText, hubByteOf, hubFrom, hubParts}
 use Rattle.texts.specs.declared.parts.Parts.{Parts}
 use Rattle.texts.specs.declared.parts.Reading.the-variants as reading
+use Rattle.texts.specs.Lent.{Adds}
+use Rattle.texts.proofs.Pieces.{Starts, starts}
 use Rattle.texts.proofs.ListLaws.{each}
 use Rattle.texts.proofs.Marks.{elem, marks, has-marks, marks-lt}
 use Rattle.texts.proofs.FenTrip.{partsOf, parts-are}
@@ -31,6 +33,9 @@ use Rattle.texts.proofs.FenTrip.{partsOf, parts-are}
 pub hub-length : (b : Board) → length (hubText b) ≡ 51
 unfolding hubText squaresFrom
 hub-length b = refl
+
+pub hub-starts : (b : Board) {o new : List ℕ} {n : ℕ} → length o ≡ 51 → Adds (hubText b) o 0 new n → Starts (hubText b) new n
+hub-starts b e a = starts (omega (arith, hub-length b, e)) a
 
 -- who stands on bit i, by the letter
 isWhite : Board → ℕ → Bool

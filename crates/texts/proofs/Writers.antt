@@ -1,12 +1,12 @@
--- A text that grows, by value or in lent bytes: what was put on, and the loops over squares.
+-- A text that grows in lent bytes: numbers, items, and the loops over squares.
 use Prim.Native.Nat.{ℕ, suc, _+_, _-_, _*_, _≤_, _<_, _^_, _/_, _%_}
-use mathlib.Core.Path.{_≡_, refl, ap, ap₂, sym, _∙_, subst}
-use mathlib.Core.List.{List, [], _∷_, _++_, map, append-assoc, append-nil}
+use mathlib.Core.Path.{_≡_, refl, ap, sym, _∙_}
+use mathlib.Core.List.{List, [], _∷_, _++_, map, append-nil}
 use mathlib.Core.Bool.{Bool, true, false, cond}
 use native.Mathlib.Omega.{arith}
 use native.Mathlib.Numerals.{add-one}
-use lib.ListN.{length, take, drop, getD, set, length-append, length-set, length-replicate}
-use lib.Seq.{drop-cons, take-suc, take-suc-set, set-at, length-take-le, append-snoc, take-length}
+use lib.ListN.{length, take, drop, getD, set, length-append}
+use lib.Seq.{drop-cons, take-suc, set-at, length-take-le, append-snoc, take-length}
 use lib.Bits.{bitAnd}
 use lib.Dec.{ltb}
 use borrow.Author.Tests.{lt-ltb, le-ltb}
@@ -19,8 +19,7 @@ use Rattle.positions.specs.Boards.{Board}
 use Rattle.texts.specs.Bytes.{joined, digits}
 use Rattle.texts.specs.Fen.{itemText, listText, separator, fieldText, fenText}
 use Rattle.texts.specs.Hub.{squaresFrom, hubChar, hubText}
-use Rattle.texts.specs.declared.bytes.Text.{Text}
-use Rattle.texts.specs.Lent.{Adds, content, noTextOf, pushOf, put}
+use Rattle.texts.specs.Lent.{Adds}
 use Rattle.texts.proofs.Pieces.{adds-none, adds-then, adds-as}
 
 -- one byte more of s over o
@@ -32,73 +31,6 @@ write-step s o i h l =
 
 pub write-done : (s o : List ℕ) (i : ℕ) → i ≡ length s → take i s ++ drop i o ≡ s ++ drop (length s) o
 write-done s o i e = rw (e, take-length)
-
--- ---- a text that grows by value
-
--- bytes put on in two steps
-pub put-two : (t : Text) (xs ys : List ℕ) → put (put t xs) ys ≡ put t (xs ++ ys)
-unfolding put
-put-two t [] ys = refl
-put-two t (b ∷ xs) ys = put-two (pushOf t b) xs ys
-
-pub put-one : (t : Text) (b : ℕ) → pushOf t b ≡ put t (b ∷ [])
-unfolding put
-put-one t b = refl
-
-pub put-none : (t : Text) → t ≡ put t []
-unfolding put
-put-none t = refl
-
--- put on a text that has the room
-record Room (t : Text) (xs : List ℕ) : Type 0 where
-  size : length (t .bytes) ≡ 200
-  room : t .len + length xs ≤ 200
-
-push-is : (t : Text) (b : ℕ) → t .len < 200 → pushOf t b ≡ record { bytes = set (t .bytes) (t .len) b; len = t .len + 1 }
-unfolding pushOf
-push-is t b h = rw (lt-ltb (t .len) 200 h)
-
-push-room : (t : Text) (b : ℕ) (xs : List ℕ) → Room t (b ∷ xs) → Room (pushOf t b) xs
-push-room t b xs o =
-    rw (push-is t b (omega (arith, o .room)))
-    (record { size = length-set (t .bytes) (t .len) b ∙ o .size; room = omega (arith, o .room) })
-
-push-content : (t : Text) (b : ℕ) (xs : List ℕ) → Room t (b ∷ xs) → content (pushOf t b) ≡ content t ++ (b ∷ [])
-unfolding content
-push-content t b xs o =
-    ap (λ (u : Text). take (u .len) (u .bytes)) (push-is t b (omega (arith, o .room)))
-    ∙ rw add-one (take-suc-set (t .bytes) (t .len) b (omega (arith, o .room, o .size)))
-
-put-content : (t : Text) (xs : List ℕ) → Room t xs → content (put t xs) ≡ content t ++ xs
-unfolding put
-put-content t [] o = sym (append-nil (content t))
-put-content t (b ∷ xs) o =
-    put-content (pushOf t b) xs (push-room t b xs o) ∙ ap (λ (s : List ℕ). s ++ xs) (push-content t b xs o) ∙ append-assoc (content t) (b ∷ []) xs
-
-put-room : (t : Text) (xs : List ℕ) → Room t xs → Room (put t xs) []
-unfolding put
-put-room t [] o = o
-put-room t (b ∷ xs) o = put-room (pushOf t b) xs (push-room t b xs o)
-
-room-all : (s : List ℕ) → length s ≤ 200 → Room noTextOf s
-unfolding noTextOf
-room-all s h = record { size = length-replicate {A = ℕ} 200 0; room = omega arith }
-
-no-content : (s : List ℕ) → content noTextOf ++ s ≡ s
-unfolding noTextOf content
-no-content s = refl
-
--- what a writer has to know of the text that it built of s
-pub record Filled (t : Text) (s : List ℕ) : Type 0 where
-  pub text : content t ≡ s
-  pub fits : t .len ≤ 200
-  pub size : length (t .bytes) ≡ 200
-
-pub filled : {t : Text} (s : List ℕ) → length s ≤ 200 → t ≡ put noTextOf s → Filled t s
-filled {t} s h e =
-    let o = room-all s h in
-    subst (λ (u : Text). Filled u s) (sym e)
-    (record { text = put-content noTextOf s o ∙ no-content s; fits = omega (arith, put-room noTextOf s o .room); size = put-room noTextOf s o .size })
 
 -- ---- numbers and items
 pub digits-small : (n : ℕ) → n < 10 → digits n ≡ (48 + n) ∷ []
@@ -123,13 +55,6 @@ unfolding joined
 joined-short c n [] = omega (arith, digits-short n)
 joined-short c n (k ∷ l) =
     omega (arith, digits-short n, joined-short c k l, length-append (digits n) (c ∷ joined c (map digits (k ∷ l))))
-
-pub put-small : (t : Text) (n : ℕ) → n < 10 → pushOf t (48 + n) ≡ put t (digits n)
-put-small t n h = put-one t (48 + n) ∙ ap (put t) (sym (digits-small n h))
-
-pub put-large : (t : Text) (n : ℕ) → 10 ≤ n → pushOf (pushOf t (48 + n / 10)) (48 + n % 10) ≡ put t (digits n)
-unfolding put
-put-large t n h = ap (put t) (sym (digits-large n h))
 
 pub item-king : (kings n : ℕ) (k : Bool) → k ≡ containsOf kings n → k ≡ true → (75 ∷ []) ++ digits n ≡ itemText kings n
 unfolding itemText
@@ -212,18 +137,32 @@ unfolding fenText joined fieldText
 fen-parts b x e = rw e
 
 -- ---- Hub, square by square
-pub hub-start : (e t : Text) (b : Board) (x : ℕ) → e ≡ noTextOf → x ≡ colorChar (b .side) → t ≡ pushOf e x
-    → put t (map (hubChar b) (squaresFrom 50 1)) ≡ put noTextOf (hubText b)
-unfolding hubText put
-hub-start e t b x n q a = ap (λ (y : Text). put y (map (hubChar b) (squaresFrom 50 1))) (a ∙ ap₂ pushOf n q)
 
-pub hub-turn : (t u : Text) (b : Board) (n x : ℕ) → n ≤ 50 → x ≡ hubChar b n → u ≡ pushOf t x
-    → put u (map (hubChar b) (squaresFrom (51 - (n + 1)) (n + 1))) ≡ put t (map (hubChar b) (squaresFrom (51 - n) n))
-unfolding squaresFrom put
-hub-turn t u b n x h q a =
+-- what remains from square n on
+abbrev pub squaresLeft : Board → ℕ → List ℕ
+squaresLeft b n = map (hubChar b) (squaresFrom (51 - n) n)
+
+pub hub-start : (b : Board) (out : List ℕ) (at : ℕ) → Leaves (squaresLeft b 1) out at (squaresLeft b 1) out at
+hub-start b out at = record { rest = λ new end x. x }
+
+left-next : (b : Board) (n x : ℕ) → n ≤ 50 → x ≡ hubChar b n → (x ∷ []) ++ squaresLeft b (n + 1) ≡ squaresLeft b n
+unfolding squaresFrom
+left-next b n x h q =
     let k : 51 - n ≡ suc (51 - (n + 1)) = omega arith in
-    rw k (ap (λ (y : Text). put y (map (hubChar b) (squaresFrom (51 - (n + 1)) (n + 1)))) (a ∙ ap (pushOf t) q))
+    rw k (ap (λ (y : ℕ). y ∷ squaresLeft b (n + 1)) q)
 
-pub hub-done : (t : Text) (b : Board) (n : ℕ) → n ≡ 51 → t ≡ put t (map (hubChar b) (squaresFrom (51 - n) n))
-unfolding squaresFrom put
-hub-done t b n e = rw e
+pub hub-turn : {w o a c : List ℕ} {h i j : ℕ} (b : Board) (n x : ℕ) → n ≤ 50 → x ≡ hubChar b n
+    → Leaves w o h (squaresLeft b n) a i → Adds (x ∷ []) a i c j → Leaves w o h (squaresLeft b (n + 1)) c j
+hub-turn b n x l q g y =
+    record { rest = λ new end z. g .rest new end (adds-as (left-next b n x l q) (adds-then y z)) }
+
+left-none : (b : Board) (n : ℕ) → n ≡ 51 → [] ≡ squaresLeft b n
+unfolding squaresFrom
+left-none b n e = rw e
+
+pub hub-done : {w o a : List ℕ} {h i : ℕ} (b : Board) (n : ℕ) → n ≡ 51 → Leaves w o h (squaresLeft b n) a i → Adds w o h a i
+hub-done {a = a} {i = i} b n e g = g .rest a i (adds-as (left-none b n e) (adds-none a i))
+
+pub hub-parts : (b : Board) (x : ℕ) → x ≡ colorChar (b .side) → (x ∷ []) ++ squaresLeft b 1 ≡ hubText b
+unfolding hubText
+hub-parts b x q = ap (λ (y : ℕ). y ∷ squaresLeft b 1) q

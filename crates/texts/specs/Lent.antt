@@ -1,12 +1,11 @@
 -- Writing into lent space (document 01: bytes after a written text stay; refused, every byte stays).
-use Prim.Native.Nat.{ℕ, _+_, min}
+use Prim.Native.Nat.{ℕ, min}
 use mathlib.Core.Path.{_≡_}
-use mathlib.Core.List.{List, [], _∷_, _++_}
+use mathlib.Core.List.{List, _++_}
 use mathlib.Core.Bool.{cond}
-use lib.ListN.{length, take, drop, set, replicate}
-use lib.Dec.{leb, ltb}
+use lib.ListN.{length, take, drop}
+use lib.Dec.{leb}
 use Rattle.squares.specs.declared.refusal.Refusal.the-variants.{SpaceTooShort}
-use Rattle.texts.specs.declared.bytes.Text.{Text}
 use Rattle.texts.specs.declared.bytes.Wrote.{Wrote}
 use Rattle.texts.specs.declared.bytes.Wrote.the-variants as wrote
 
@@ -32,19 +31,3 @@ pub record Holds (o t out : List ℕ) (at : ℕ) : Type 0 where
 -- the piece s went behind whatever had been written
 pub record Adds (s out : List ℕ) (at : ℕ) (new : List ℕ) (end : ℕ) : Type 0 where
   pub held : (o t : List ℕ) → Holds o t out at → Holds o (t ++ s) new end
-
--- ---- a text that the code builds by value: 200 bytes, of which the first count
-unfoldable pub content : Text → List ℕ
-content t = take (t .len) (t .bytes)
-
-unfoldable pub noTextOf : Text
-noTextOf = record { bytes = replicate 200 0; len = 0 }
-
--- t with b behind it; a full text stays as it is
-unfoldable pub pushOf : Text → ℕ → Text
-pushOf t b = cond (ltb (t .len) 200) (record { bytes = set (t .bytes) (t .len) b; len = t .len + 1 }) t
-
--- t with the bytes of s behind it, as far as there is room
-unfoldable pub put : Text → List ℕ → Text
-put t [] = t
-put t (b ∷ s) = put (pushOf t b) s

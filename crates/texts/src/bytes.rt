@@ -5,18 +5,12 @@ ghost use mathlib.Core.List.{_∷_, []};
 ghost use Prim.Native.Nat.{_≤_};
 ghost use lib.ListN.{length};
 ghost use Rattle.texts.specs.Bytes.{ascii, readable, blank, is, trimStart, trimEnd, trim, upTo, behind, strip, digits, cuts, indexOf};
-ghost use Rattle.texts.specs.Lent.{emitOf, emitted, Adds, noTextOf, pushOf, put};
+ghost use Rattle.texts.specs.Lent.{emitOf, emitted, Adds};
 
 // The length of a written text, or the refusal.
 pub enum Wrote {
     Length(usize),
     Refused(Refusal),
-}
-
-// A text by value: the first len of its bytes.
-pub struct Text {
-    pub bytes: [u8; 200],
-    pub len: usize,
 }
 
 fn is_ascii(s: &[u8]) -> bool
@@ -182,37 +176,4 @@ pub(crate) fn put_digits(out: &mut [u8], at: usize, n: u8) -> usize
     }
     let k = put_byte(out, at, b'0' + n / 10);
     put_byte(out, k, b'0' + n % 10)
-}
-
-pub fn no_text() -> Text
-    ensures { λ r. ⌜ r ≡ noTextOf ⌝ }
-{
-    Text {
-        bytes: [0u8; 200],
-        len: 0,
-    }
-}
-
-// One byte more, where there is room. A full text stays as it is.
-pub fn push(mut t: Text, b: u8) -> Text
-    ensures { λ r. ⌜ r ≡ pushOf t b ⌝ }
-{
-    let at = t.len;
-    if at < 200 {
-        t.bytes[at] = b;
-        t.len = at + 1;
-    }
-    t
-}
-
-// A number below 100 in decimal, as far as there is room.
-pub fn push_number(t: Text, n: u8) -> Text
-    ensures { λ r. ⌜ r ≡ put t (digits n) ⌝ }
-{
-    if n < 10 {
-        push(t, b'0' + n)
-    } else {
-        let u = push(t, b'0' + n / 10);
-        push(u, b'0' + n % 10)
-    }
 }

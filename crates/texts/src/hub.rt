@@ -1,6 +1,5 @@
 // Hub, after position.rs: W or B, then 50 of `w b W B e`.
 use crate::bytes;
-use crate::bytes::Text;
 use crate::bytes::Wrote;
 use crate::parts;
 use crate::parts::Parts;
@@ -21,7 +20,7 @@ ghost use Prim.Native.Nat.{_≤_, _<_};
 ghost use lib.ListN.{length, drop};
 ghost use Rattle.positions.specs.Boards.{boardOf};
 ghost use Rattle.texts.specs.Parts.{begun};
-ghost use Rattle.texts.specs.Lent.{noTextOf, put};
+ghost use Rattle.texts.specs.Lent.{Adds};
 ghost use Rattle.texts.specs.Hub.{isKing, hubByteOf, hubFrom, hubParts, fromHubOf, hubChar, hubText, hubOf, hubLent};
 
 fn is_king(kind: PieceKind) -> bool
@@ -113,17 +112,17 @@ fn hub_char(p: Position, square: Square) -> u8
     }
 }
 
-fn hub_text(p: Position) -> Text
-    ensures { λ r. ⌜ r ≡ put noTextOf (hubText (boardOf p)) ⌝ }
+fn put_hub(out: &mut [u8], p: Position) -> usize
+    ensures { λ r. ⌜ Adds (hubText (boardOf p)) (now (out .entry)) 0 (now (out .exit)) r ⌝ }
 {
     let side = p.side;
-    let mut t = bytes::push(bytes::no_text(), side.to_char());
+    let mut k = bytes::put_byte(out, 0, side.to_char());
     let mut n: u32 = 1;
     while n <= 50 {
-        t = bytes::push(t, hub_char(p, n));
+        k = bytes::put_byte(out, k, hub_char(p, n));
         n += 1;
     }
-    t
+    k
 }
 
 // The Hub text of a position: 12, 19.
@@ -132,9 +131,8 @@ pub fn hub(p: Position, out: &mut [u8]) -> Wrote
     ensures { λ r. ⌜ now (out .exit) ≡ hubLent p (now (out .entry)) ⌝ }
 {
     if p.sound() {
-        let t = hub_text(p);
-        let text = t.bytes;
-        let n = t.len;
+        let mut text = [0u8; 51];
+        let n = put_hub(&mut text, p);
         return bytes::emit(&text[..n], out);
     }
     Wrote::Refused(Refusal::BadPosition)

@@ -1,34 +1,30 @@
 -- 12, then the lent space decides.
-use mathlib.Core.Path.{ap, sym, _∙_}
+use mathlib.Core.Path.{refl, ap, sym, _∙_}
 use mathlib.Core.List.{List}
-use Prim.Native.Nat.{ℕ, _-_}
-use lib.ListN.{length-take}
+use Prim.Native.Nat.{ℕ}
+use lib.Seq.{length-take-le}
 use denote.Ref.{now}
-use Rattle.texts.specs.Lent.{emitOf, emitted, content}
+use Rattle.texts.specs.Lent.{emitOf, emitted}
 use Rattle.texts.specs.Hub.{hubOf, hubLent}
-use Rattle.positions.specs.Boards.{boardOf}
-use Rattle.texts.proofs.Writers.{filled}
-use Rattle.texts.proofs.HubTrip.{hub-length}
+use Rattle.texts.proofs.HubTrip.{hub-starts}
 use borrow.Author.Needs.{needs}
-use native.Mathlib.Omega.{arith}
 use Rattle.texts.proofs.hub.hub.Statement.{statement}
 use Rattle.texts.proofs.hub.hub.Tie as tie
 
 sound-requires : tie.Need-sound-requires
 sound-requires c κs = search needs
 
-hub-text-requires : tie.Need-hub-text-requires
-hub-text-requires c κs = search needs
+slice-aggregate-put-hub : tie.Need-slice-aggregate-put-hub
+slice-aggregate-put-hub c = search needs
+
+put-hub-requires : tie.Need-put-hub-requires
+put-hub-requires c κs = search needs
 
 array-share-prefix-text : tie.Need-array-share-prefix-text
-array-share-prefix-text c =
-    let f = (filled _ (omega (arith, hub-length (boardOf (c .before .before .before .before .before .args .p)))) (c .before .hub-text .ensures)) in
-    omega (arith, f .fits, f .size)
+array-share-prefix-text c = hub-starts _ refl (c .before .put-hub .ensures) .fits
 
 slice-aggregate-emit : tie.Need-slice-aggregate-emit
-slice-aggregate-emit c =
-    let f = (filled _ (omega (arith, hub-length (boardOf (c .before .before .before .before .before .before .args .p)))) (c .before .before .hub-text .ensures)) in
-    simp length-take (omega (arith, f .fits, f .size))
+slice-aggregate-emit c = sym (length-take-le _ _ (hub-starts _ refl (c .before .before .put-hub .ensures) .fits))
 
 emit-requires : tie.Need-emit-requires
 emit-requires c κs = search needs
@@ -37,12 +33,12 @@ same-length : tie.Need-same-length
 same-length c = search needs
 
 returns : tie.Need-returns
-unfolding hubOf hubLent content
+unfolding hubOf hubLent
 returns c =
-    let p = c .before .before .before .before .before .before .before .before .before .before .args .p in
-    let s = sym (c .before .before .before .before .before .before .before .before .sound .ensures) ∙ c .before .before .before .before .before .before .before .if1 .taken in
-    let f = filled _ (omega (arith, hub-length (boardOf p))) (c .before .before .before .before .before .before .hub-text .ensures) in
-    (rw s (c .before .before .emit .ensures .0 ∙ ap (λ (t : List ℕ). emitOf t (now (c .before .before .before .before .before .before .before .before .before .before .args .out))) (f .text)), rw s (c .before .before .emit .ensures .1 ∙ ap (λ (t : List ℕ). emitted t (now (c .before .before .before .before .before .before .before .before .before .before .args .out))) (f .text)))
+    let o = now (c .before .before .before .before .before .before .before .before .before .before .before .args .out) in
+    let s = sym (c .before .before .before .before .before .before .before .before .before .sound .ensures) ∙ c .before .before .before .before .before .before .before .before .if1 .taken in
+    let t = hub-starts _ refl (c .before .before .before .before .before .before .put-hub .ensures) .text in
+    (rw s (c .before .before .emit .ensures .0 ∙ ap (λ (x : List ℕ). emitOf x o) t), rw s (c .before .before .emit .ensures .1 ∙ ap (λ (x : List ℕ). emitted x o) t))
 
 returns-2 : tie.Need-returns-2
 unfolding hubOf hubLent
@@ -53,7 +49,8 @@ hub-spec =
     tie.close
     (tie.spec
     sound-requires
-    hub-text-requires
+    slice-aggregate-put-hub
+    put-hub-requires
     array-share-prefix-text
     slice-aggregate-emit
     emit-requires
