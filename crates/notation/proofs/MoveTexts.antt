@@ -1,6 +1,6 @@
 -- A move's text as the code builds it, and how long it is at most.
-use Prim.Native.Nat.{ℕ, _+_, _-_, _≤_, _<_, _^_}
-use mathlib.Core.Path.{_≡_, refl, sym, ap, ap₂, _∙_}
+use Prim.Native.Nat.{ℕ, _-_, _≤_, _<_, _^_}
+use mathlib.Core.Path.{_≡_, refl, sym, ap, _∙_}
 use mathlib.Core.List.{List, [], _∷_, _++_, map, append-assoc, append-nil}
 use mathlib.Core.Bool.{Bool, true, false, cond, not}
 use native.Mathlib.Omega.{arith}
@@ -17,21 +17,15 @@ use Rattle.positions.specs.Moves.{isCapture, squaresOf}
 use Rattle.positions.specs.declared.moves.Move.{Move}
 use Rattle.positions.proofs.Records.{OnBoard, on-board}
 use Rattle.texts.specs.Bytes.{joined, digits}
-use Rattle.texts.specs.Lent.{noTextOf, pushOf, put}
-use Rattle.texts.specs.declared.bytes.Text.{Text}
-use Rattle.texts.proofs.Writers.{put-two, put-one, put-none, joined-short}
+use Rattle.texts.specs.Lent.{Adds}
+use Rattle.texts.proofs.Pieces.{Starts, starts, adds-none, adds-then, adds-as}
+use Rattle.texts.proofs.Writers.{Leaves, joined-short}
 use Rattle.notation.specs.MoveText.{separatorOf, named, moveText, shortText, takenText}
 
 -- ---- the parts of the text
-pub put-short : (e t u r : Text) (m : Move) (x : ℕ) → e ≡ noTextOf → t ≡ put e (digits (m .from)) → x ≡ separatorOf m → u ≡ pushOf t x
-    → r ≡ put u (digits (m .to)) → r ≡ put noTextOf (shortText m)
+pub short-parts : (m : Move) (x : ℕ) → x ≡ separatorOf m → digits (m .from) ++ ((x ∷ []) ++ digits (m .to)) ≡ shortText m
 unfolding shortText joined
-put-short e t u r m x n a q b c =
-    c ∙ ap (λ (y : Text). put y (digits (m .to)))
-    (b ∙ ap₂ pushOf (a ∙ ap (λ (y : Text). put y (digits (m .from))) n) q ∙ put-one (put noTextOf (digits (m .from))) (separatorOf m)
-    ∙ put-two noTextOf (digits (m .from)) (separatorOf m ∷ []))
-    ∙ put-two noTextOf (digits (m .from) ++ (separatorOf m ∷ [])) (digits (m .to))
-    ∙ ap (put noTextOf) (append-assoc (digits (m .from)) (separatorOf m ∷ []) (digits (m .to)))
+short-parts m x e = rw e
 
 joined-taken : (f : List ℕ) (l : List ℕ) → joined 120 (f ∷ map digits (map squareAtBit l)) ≡ f ++ takenText l
 unfolding joined takenText
@@ -62,23 +56,26 @@ move-parts m =
     ap (λ (x : List ℕ). digits (m .from) ++ separatorOf m ∷ x) (second-on m (isCapture m) refl)
     ∙ sym (append-assoc (digits (m .from)) (separatorOf m ∷ digits (m .to)) (takenText (members (m .captured))))
 
-pub put-move : (t r : Text) (m : Move) → t ≡ put noTextOf (shortText m) → r ≡ put t (takenText (members (m .captured))) → r ≡ put noTextOf (moveText m)
-put-move t r m a b =
-    b ∙ ap (λ (x : Text). put x (takenText (members (m .captured)))) a ∙ put-two noTextOf (shortText m) (takenText (members (m .captured)))
-    ∙ ap (put noTextOf) (sym (move-parts m))
-
 -- ---- the loop over the taken squares
-pub taken-turn : (t u v : Text) (s n : ℕ) → 0 < s → s < 2 ^ 64 → n ≡ squareAtBit (lowest s) → u ≡ pushOf t 120 → v ≡ put u (digits n)
-    → put v (takenText (members (bitAnd s (s - 1)))) ≡ put t (takenText (members s))
-unfolding takenText put
-taken-turn t u v s n p h q a b =
-    let r = takenText (members (bitAnd s (s - 1))) in
-    ap (λ (x : Text). put x r) (b ∙ ap₂ (λ (x : Text) (k : ℕ). put x (digits k)) a q)
-    ∙ put-two (pushOf t 120) (digits (squareAtBit (lowest s))) r
-    ∙ ap (λ (l : List ℕ). put t (takenText l)) (sym (members-cons s p h))
+taken-next : (s n : ℕ) → 0 < s → s < 2 ^ 64 → n ≡ squareAtBit (lowest s)
+    → takenText (members s) ≡ ((120 ∷ []) ++ digits n) ++ takenText (members (bitAnd s (s - 1)))
+unfolding takenText
+taken-next s n p h e =
+    ap takenText (members-cons s p h)
+    ∙ ap (λ (k : ℕ). ((120 ∷ []) ++ digits k) ++ takenText (members (bitAnd s (s - 1)))) (sym e)
 
-pub taken-done : (t : Text) (s : ℕ) → s ≡ 0 → t ≡ put t (takenText (members s))
-taken-done t s e = put-none t ∙ ap (put t) (sym (taken-none s e))
+pub taken-start : (s : ℕ) (out : List ℕ) (at : ℕ) → Leaves (takenText (members s)) out at (takenText (members s)) out at
+taken-start s out at = record { rest = λ new end x. x }
+
+-- one turn of the loop
+pub taken-turn : {w a b c d : List ℕ} {h i j k : ℕ} (s n : ℕ) → 0 < s → s < 2 ^ 64 → n ≡ squareAtBit (lowest s)
+    → Leaves w a h (takenText (members s)) b i → Adds (120 ∷ []) b i c j → Adds (digits n) c j d k
+    → Leaves w a h (takenText (members (bitAnd s (s - 1)))) d k
+taken-turn s n p l q g x y =
+    record { rest = λ new end z. g .rest new end (adds-as (sym (taken-next s n p l q)) (adds-then (adds-then x y) z)) }
+
+pub taken-done : {w a b : List ℕ} {h i : ℕ} (s : ℕ) → s ≡ 0 → Leaves w a h (takenText (members s)) b i → Adds w a h b i
+taken-done {b = b} {i = i} s e g = g .rest b i (adds-as (sym (taken-none s e)) (adds-none b i))
 
 -- ---- lengths
 named-short : (m : Move) → OnBoard m → length (map squareAtBit (members (m .captured))) ≤ 50
@@ -93,3 +90,10 @@ move-short m e =
 pub short-short : (m : Move) → length (shortText m) ≤ 5
 unfolding shortText
 short-short m = omega (arith, joined-short (separatorOf m) (m .from) (m .to ∷ []))
+
+-- so that 200 bytes hold both texts
+pub move-starts : {o new : List ℕ} {end : ℕ} (m : Move) → squaresOf m ≡ true → length o ≡ 200 → Adds (moveText m) o 0 new end → Starts (moveText m) new end
+move-starts m e h a = starts (omega (arith, move-short m e)) a
+
+pub short-starts : {o new : List ℕ} {end : ℕ} (m : Move) → length o ≡ 200 → Adds (shortText m) o 0 new end → Starts (shortText m) new end
+short-starts m h a = starts (omega (arith, short-short m)) a

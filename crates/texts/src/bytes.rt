@@ -168,7 +168,7 @@ pub fn put_byte(out: &mut [u8], at: usize, b: u8) -> usize
 }
 
 // A number below 100 in decimal.
-pub(crate) fn put_digits(out: &mut [u8], at: usize, n: u8) -> usize
+pub fn put_digits(out: &mut [u8], at: usize, n: u8) -> usize
     ensures { λ r. ⌜ Adds (digits n) (now (out .entry)) at (now (out .exit)) r ⌝ }
 {
     if n < 10 {
