@@ -1,6 +1,6 @@
 -- Pieces of an answer: one byte more, one piece behind another, whatever room there is.
 use Prim.Native.Nat.{ℕ, suc, _+_, _≤_, _<_, min}
-use mathlib.Core.Path.{_≡_, ap, sym, _∙_, subst}
+use mathlib.Core.Path.{_≡_, refl, ap, sym, _∙_, subst}
 use mathlib.Core.List.{List, [], _∷_, _++_, append-assoc, append-nil}
 use native.Mathlib.Omega.{arith}
 use native.Mathlib.Numerals.{add-one}
@@ -33,7 +33,7 @@ holds-byte o t out at b h g =
     }
 
 pub byte-fits : (out : List ℕ) (at b : ℕ) → at < length out → Adds (b ∷ []) out at (set out at b) (at + 1)
-byte-fits out at b h = record { held = λ o t g. holds-byte o t out at b h g }
+byte-fits out at b h = record { held = λ o t g. holds-byte o t out at b h g; beyond = λ k. absurd (omega arith) }
 
 -- a byte that has none
 same-written : (o t : List ℕ) (b : ℕ) → length o ≤ length t → written t o ≡ written (t ++ (b ∷ [])) o
@@ -43,7 +43,7 @@ same-written o t b h =
     rw (take-append-le (length o) t (b ∷ []) h, drop-of-length-le o h, drop-of-length-le o n)
 
 pub byte-out : (out : List ℕ) (at b : ℕ) → length out ≤ at → Adds (b ∷ []) out at out at
-byte-out out at b h = record { held = λ o t g. kept o t g }
+byte-out out at b h = record { held = λ o t g. kept o t g; beyond = λ _. (refl, refl) }
   where
     kept : (o t : List ℕ) → Holds o t out at → Holds o (t ++ (b ∷ [])) out at
     kept o t g =
@@ -76,11 +76,20 @@ starts {s} {o} h a =
 
 -- ---- pieces
 pub adds-none : (out : List ℕ) (at : ℕ) → Adds [] out at out at
-adds-none out at = record { held = λ o t g. subst (λ (x : List ℕ). Holds o x out at) (sym (append-nil t)) g }
+adds-none out at = record { held = λ o t g. subst (λ (x : List ℕ). Holds o x out at) (sym (append-nil t)) g; beyond = λ _. (refl, refl) }
 
 pub adds-then : {s u a b c : List ℕ} {i j k : ℕ} → Adds s a i b j → Adds u b j c k → Adds (s ++ u) a i c k
 adds-then {s} {u} {a} {b} {c} {i} {j} {k} x y =
-    record { held = λ o t g. subst (λ (z : List ℕ). Holds o z c k) (append-assoc t s u) (y .held o (t ++ s) (x .held o t g)) }
+    record {
+      held = λ o t g. subst (λ (z : List ℕ). Holds o z c k) (append-assoc t s u) (y .held o (t ++ s) (x .held o t g));
+      beyond = λ h. nowhere h;
+    }
+  where
+    nowhere : length a < i → (c ≡ a) × (k ≡ i)
+    nowhere h =
+        let p = x .beyond h in
+        let q = y .beyond (omega (arith, ap length (p .0), p .1)) in
+        (q .0 ∙ p .0, q .1 ∙ p .1)
 
 pub adds-as : {s u a b : List ℕ} {i j : ℕ} → s ≡ u → Adds s a i b j → Adds u a i b j
 adds-as {s} {u} {a} {b} {i} {j} e x = subst (λ (z : List ℕ). Adds z a i b j) e x

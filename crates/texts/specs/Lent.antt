@@ -1,5 +1,5 @@
 -- Writing into lent space (document 01: bytes after a written text stay; refused, every byte stays).
-use Prim.Native.Nat.{ℕ, min}
+use Prim.Native.Nat.{ℕ, _<_, min}
 use mathlib.Core.Path.{_≡_}
 use mathlib.Core.List.{List, _++_}
 use mathlib.Core.Bool.{cond}
@@ -31,3 +31,5 @@ pub record Holds (o t out : List ℕ) (at : ℕ) : Type 0 where
 -- the piece s went behind whatever had been written
 pub record Adds (s out : List ℕ) (at : ℕ) (new : List ℕ) (end : ℕ) : Type 0 where
   pub held : (o t : List ℕ) → Holds o t out at → Holds o (t ++ s) new end
+  -- from a place behind the lent bytes nothing is written
+  pub beyond : length out < at → (new ≡ out) × (end ≡ at)
