@@ -15,6 +15,11 @@ pub and-both : (x y : Bool) → x ≡ true → y ≡ true → (x && y) ≡ true
 and-both true y h l = l
 and-both false y h l = h
 
+-- ---- disjunctions
+pub or-none : (x y : Bool) → (x || y) ≡ false → (x ≡ false) × (y ≡ false)
+or-none true y h = absurd (true≢false h)
+or-none false y h = (refl, h)
+
 -- ---- x implies y
 unfoldable pub imp : Bool → Bool → Bool
 imp x y = not x || y

@@ -269,19 +269,6 @@ pub sum-same : (f g : ℕ → ℕ) (s : ℕ) → ((i : ℕ) → i < 64 → has s
 sum-same = over-same _+_ 0 add-assoc add-comm zero-add
 
 -- ---- a bound on each term bounds the fold
-fold-xor-lt : (k n : ℕ) (f : ℕ → ℕ) → ((i : ℕ) → i < n → f i < 2 ^ k) → foldTo bitXor 0 f n < 2 ^ k
-unfolding foldTo
-fold-xor-lt k zero f h = lib.Pow.pow-pos k
-fold-xor-lt k (suc n) f h = xor-lt k _ _ (fold-xor-lt k n f (λ i l. h i (omega arith))) (h n (omega arith))
-
-pub xor-over-lt : (k : ℕ) (f : ℕ → ℕ) (s : ℕ) → ((i : ℕ) → i < 64 → f i < 2 ^ k) → xorOver f s < 2 ^ k
-unfolding over
-xor-over-lt k f s h = fold-xor-lt k 64 (λ i. cond (has s i) (f i) 0) (λ i l. go (has s i) (f i) (h i l))
-  where
-    go : (t : Bool) (x : ℕ) → x < 2 ^ k → cond t x 0 < 2 ^ k
-    go true x l = l
-    go false x l = lib.Pow.pow-pos k
-
 fold-sum-le : (c n : ℕ) (f g : ℕ → ℕ) → ((i : ℕ) → i < n → f i ≤ c * g i) → foldTo _+_ 0 f n ≤ c * foldTo _+_ 0 g n
 unfolding foldTo
 fold-sum-le c zero f g h = omega arith

@@ -1,6 +1,6 @@
 -- Square numbers and bits: each law of the 50 squares, or of the 64 bits, is one computed test.
 use mathlib.Core.Path.{_≡_, refl, sym, ap, _∙_}
-use Prim.Native.Nat.{ℕ, zero, _+_, _-_, _*_, _/_, _%_, _^_, _≤_, _<_}
+use Prim.Native.Nat.{ℕ, _+_, _-_, _*_, _/_, _%_, _^_, _≤_, _<_}
 use native.Mathlib.Omega.{arith}
 use mathlib.Core.Bool.{Bool, true, false, not, _&&_, cond, and-false}
 use lib.Dec.{eqb, leb, ltb, lit<}
@@ -10,7 +10,6 @@ use lib.Pow.{pow-lt}
 use Rattle.squares.specs.Sets.{has, without}
 use Rattle.squares.specs.Squares.{isSquare, bitOf, all, promotion, onBoard, squareAtBit, rowOf, fileOf, single, containsOf}
 use Rattle.squares.specs.Computed.{computed}
-use Rattle.squares.specs.declared.piece.Color.{Color}
 use Rattle.squares.specs.declared.piece.Color.the-variants.{White, Black}
 use Rattle.squares.proofs.Bools.{imp, imp-elim, iff, iff-eq, and-left, and-right, and-both, tested}
 use Rattle.squares.proofs.Below.{below, below-at}
@@ -37,11 +36,6 @@ pub all-lt64 : all < 2 ^ 64
 unfolding computed
 all-lt64 = lit< tt
 
-pub promotion-lt : (c : Color) → promotion c < 2 ^ 54
-unfolding computed
-promotion-lt White = lit< tt
-promotion-lt Black = lit< tt
-
 -- what lies outside the board, and what of the board lies outside a set, as the code writes it
 pub and-not-all : (s : ℕ) → s < 2 ^ 64 → bitAnd s (2 ^ 64 - 1 - 0x003F_F7FE_FFDF_FBFF) ≡ without s all
 and-not-all s h = ap (λ (m : ℕ). bitAnd s (2 ^ 64 - 1 - m)) (sym all-is) ∙ and-not s all h all-lt64
@@ -50,7 +44,7 @@ pub all-and-not : (s : ℕ) → s < 2 ^ 64 → bitAnd (2 ^ 64 - 1 - s) 0x003F_F7
 all-and-not s h =
     and-comm (2 ^ 64 - 1 - s) 0x003F_F7FE_FFDF_FBFF ∙ ap (λ (m : ℕ). bitAnd m (2 ^ 64 - 1 - s)) (sym all-is) ∙ and-not all s all-lt64 h
 
--- ---- the bits of the board, of the promotion rows
+-- ---- the bits of the board
 pub on-lt : (i : ℕ) → onBoard i ≡ true → i < 54
 unfolding onBoard
 on-lt i e = ltb-true i 54 (and-left _ _ e)
@@ -70,22 +64,6 @@ agrees s p h f e i = go (ltb i 54) refl
 pub has-all : (i : ℕ) → has all i ≡ onBoard i
 unfolding computed below tested
 has-all = agrees all onBoard all-lt off-past refl
-
-abbrev onRow : ℕ → ℕ → Bool
-onRow r i = onBoard i && eqb (rowOf i) r
-
-row-past : (r i : ℕ) → 54 ≤ i → onRow r i ≡ false
-row-past r i h = ap (λ (t : Bool). t && eqb (rowOf i) r) (off-past i h)
-
--- White promotes on row 0, Black on row 9
-abbrev pub promotionRow : Color → ℕ
-promotionRow White = 0
-promotionRow Black = 9
-
-pub has-promotion : (c : Color) (i : ℕ) → has (promotion c) i ≡ (onBoard i && eqb (rowOf i) (promotionRow c))
-unfolding computed below tested
-has-promotion White = agrees (promotion White) (onRow 0) (promotion-lt White) (row-past 0) refl
-has-promotion Black = agrees (promotion Black) (onRow 9) (promotion-lt Black) (row-past 9) refl
 
 -- ---- numbers and bits are one another's inverse
 pub square-range : (n : ℕ) → isSquare n ≡ true → (0 < n) × (n ≤ 50)
@@ -144,10 +122,6 @@ bit-square i e = and-left _ _ (bit-facts i e)
 
 pub bit-back : (i : ℕ) → onBoard i ≡ true → bitOf (squareAtBit i) ≡ i
 bit-back i e = eqb-true _ _ (and-right (isSquare (squareAtBit i)) _ (bit-facts i e))
-
--- two squares at one bit are one square
-pub bit-inj : (m n : ℕ) → isSquare m ≡ true → isSquare n ≡ true → bitOf m ≡ bitOf n → m ≡ n
-bit-inj m n p q e = sym (square-back m p) ∙ ap squareAtBit e ∙ square-back n q
 
 pub square-inj : (i j : ℕ) → onBoard i ≡ true → onBoard j ≡ true → squareAtBit i ≡ squareAtBit j → i ≡ j
 square-inj i j p q e = sym (bit-back i p) ∙ ap bitOf e ∙ bit-back j q

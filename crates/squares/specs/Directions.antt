@@ -1,5 +1,5 @@
--- The four diagonal directions (document 01: neighbours lie at bit -6, -5, 5, 6).
-use Prim.Native.Nat.{ℕ, zero, suc, _+_, _*_, _/_, _%_, _^_}
+-- The four diagonal directions (document 01, "bitboard.rs, square.rs, piece.rs": neighbours lie at bit -6, -5, 5, 6).
+use Prim.Native.Nat.{ℕ, zero, suc, _+_, _-_, _*_, _/_, _%_, _^_}
 
 pub data Direction : Type 0 where
   upLeft : Direction
@@ -9,8 +9,8 @@ pub data Direction : Type 0 where
 
 -- -6, -5, 5, 6 places, modulo the 64 bits
 abbrev pub places : Direction → ℕ
-places upLeft = 58
-places upRight = 59
+places upLeft = 64 - 6
+places upRight = 64 - 5
 places downLeft = 5
 places downRight = 6
 

@@ -70,6 +70,10 @@ firstOf s = squareAtBit (lowest (bitAnd s all))
 unfoldable pub restOf : ℕ → ℕ
 restOf s = without (bitAnd s all) (2 ^ lowest (bitAnd s all))
 
+-- every bit of the set is a square
+unfoldable pub squaresOnly : ℕ → Bool
+squaresOnly s = eqb (without s all) 0
+
 -- the set of these bits; refusal 11 where one of them is no square
 unfoldable pub fromBitsOf : ℕ → Gathered
-fromBitsOf s = cond (eqb (without s all) 0) (gathered.Set s) (gathered.Refused NoSuchSquare)
+fromBitsOf s = cond (squaresOnly s) (gathered.Set s) (gathered.Refused NoSuchSquare)
