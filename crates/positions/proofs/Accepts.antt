@@ -8,16 +8,16 @@ use lib.Dec.{eqb}
 use lib.Bits.{bitAnd, bitOr, or-lt, and-le-r}
 use borrow.Author.Tests.{eqb-true, eq-eqb}
 use Rattle.squares.specs.Sets.{has, without}
-use Rattle.squares.specs.Squares.{all, promotion, firstOf}
+use Rattle.squares.specs.Squares.{all, promotion, firstOf, squaresOnly}
 use Rattle.squares.specs.declared.piece.Color.{Color}
 use Rattle.squares.specs.declared.piece.Color.the-variants.{White, Black}
 use Rattle.squares.specs.declared.refusal.Refusal.the-variants.{NoSuchSquare, Overlap, ManOnPromotionRow}
-use Rattle.squares.proofs.Bools.{and-left, and-right, and-both}
+use Rattle.squares.proofs.Bools.{and-left, and-right, and-both, or-none}
 use Rattle.squares.proofs.Pointwise.{has-zero, has-and, has-or, has-without, none-zero, none-within, within-none, within-le, and-lt, without-lt}
 use Rattle.squares.proofs.Numbers.{all-lt, all-lt64, has-all}
 use Rattle.positions.specs.Boards.{Board, board, boardOf, start}
 use Rattle.positions.specs.Hash.{positionOf, initialOf}
-use Rattle.positions.specs.Acceptance.{squaresOnly, misplaced, acceptedSets, accepted, sound, Accepted, Sound, placeOf, fromPartsOf}
+use Rattle.positions.specs.Acceptance.{misplaced, acceptedSets, accepted, sound, Accepted, Sound, placeOf, fromPartsOf}
 use Rattle.positions.specs.Computed.{computed}
 use Rattle.positions.specs.declared.position.Position.{Position}
 use Rattle.positions.specs.declared.position.Placed.the-variants as placed
@@ -42,10 +42,6 @@ say-squares s q = eq-eqb _ 0 (none-within s all (omega (arith, q .fits)) all-lt6
 -- nothing in s
 none-has : (s i : ℕ) → s ≡ 0 → has s i ≡ false
 none-has s i e = ap (λ (x : ℕ). has x i) e ∙ has-zero i
-
-or-none : (x y : Bool) → (x || y) ≡ false → (x ≡ false) × (y ≡ false)
-or-none true y h = absurd (true≢false h)
-or-none false y h = (refl, h)
 
 module _ (w b k : ℕ) (hw : w < 2 ^ 64) (hb : b < 2 ^ 64) (hk : k < 2 ^ 64) where
   has-misplaced : (i : ℕ) → i < 64
@@ -140,7 +136,7 @@ pub initial-sound : Sound initialOf
 unfolding computed
 initial-sound = position-sound start (accepted-says start refl)
 
-of-position : {p q : Position} → placed.Position p ≡ placed.Position q → p ≡ q
+pub of-position : {p q : Position} → placed.Position p ≡ placed.Position q → p ≡ q
 of-position e = cc
 
 place-sound : (w b k : ℕ) (s : Color) (p : Position) → squaresOnly w ≡ true → squaresOnly b ≡ true → eqb (without k (bitOr w b)) 0 ≡ true

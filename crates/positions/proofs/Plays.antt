@@ -16,7 +16,6 @@ use Rattle.positions.specs.Boards.{Board, board, own, enemy}
 use Rattle.positions.specs.Acceptance.{Accepted}
 use Rattle.positions.specs.Successor.{promotes, endsAsKing, ownAfter, enemyAfter, kingsAfter, turned, successor, Playable}
 use Rattle.positions.specs.declared.moves.Move.{Move}
-use Rattle.positions.proofs.Turns as turns
 use Rattle.positions.proofs.Turns.{Turn, ownNow, kingNow, kingsNow}
 
 -- ---- the conditions on sets

@@ -7,12 +7,11 @@ use mathlib.Core.Bool.{true, false, not, _&&_, and-false, false≢true}
 use lib.Dec.{eqb}
 use borrow.Author.Tests.{eqb-true, eq-eqb}
 use Rattle.squares.specs.Sets.{has, without}
-use Rattle.squares.specs.Squares.{all, isSquare, onBoard, containsOf, promotion}
+use Rattle.squares.specs.Squares.{all, isSquare, squaresOnly, onBoard, containsOf, promotion}
 use Rattle.squares.specs.declared.piece.Color.{Color}
 use Rattle.squares.specs.declared.piece.Color.the-variants.{White, Black}
 use Rattle.squares.proofs.Bools.{and-left, and-right, and-both}
 use Rattle.squares.proofs.Numbers.{square-range}
-use Rattle.positions.specs.Acceptance.{squaresOnly}
 use Rattle.positions.specs.Boards.{Board, board, sameColor, sameBoard}
 use Rattle.positions.specs.Moves.{move, isCapture, squaresOf}
 use Rattle.positions.specs.Successor.{promotes}
@@ -30,7 +29,7 @@ promotes-when b m = refl
 
 -- ---- the test of refusal 11
 pub on-board-is : (m : Move) → squaresOf m ≡ (isSquare (m .from) && (isSquare (m .to) && eqb (without (m .captured) all) 0))
-unfolding squaresOf
+unfolding squaresOf squaresOnly
 on-board-is m = refl
 
 -- a record with a number that is no square
@@ -48,7 +47,7 @@ pub record OnBoard (m : Move) : Type 0 where
   pub taken : (i : ℕ) → has (m .captured) i ≡ true → onBoard i ≡ true
 
 pub on-board : (m : Move) → squaresOf m ≡ true → OnBoard m
-unfolding squaresOf squaresOnly
+unfolding squaresOf
 on-board m e =
     let r = and-right (isSquare (m .from)) _ e in
     let s = squares-say (m .captured) (and-right (isSquare (m .to)) _ r) in

@@ -1,6 +1,6 @@
 -- A set turned round: square n at 51 - n, which is bit i at 53 - i.
 use mathlib.Core.Path.{_≡_, refl, sym, ap, ap₂, _∙_}
-use Prim.Native.Nat.{ℕ, zero, suc, _+_, _-_, _^_, _<_}
+use Prim.Native.Nat.{ℕ, suc, _+_, _-_, _^_, _<_}
 use native.Mathlib.Nat.{add-assoc, add-comm, zero-add}
 use native.Mathlib.Omega.{arith}
 use mathlib.Core.Bool.{Bool, true, false, _&&_, cond, false≢true}
@@ -73,9 +73,6 @@ has-rotated s j = bool-ext _ _ (λ e. back (of-union (λ i. single (51 - squareA
 pub record Squares (s : ℕ) : Type 0 where
   pub fits : s < 2 ^ 54
   pub on : (i : ℕ) → has s i ≡ true → onBoard i ≡ true
-
-pub rotated-squares : (s : ℕ) → Squares (rotated s)
-rotated-squares s = record { fits = rotated-lt s; on = λ i e. and-left _ _ (sym (has-rotated s i) ∙ e) }
 
 -- the board turned twice is the board
 pub rotated-twice : (s : ℕ) → Squares s → rotated (rotated s) ≡ s

@@ -6,7 +6,8 @@ use mathlib.Core.Bool.{Bool, true, false, cond, _&&_, _||_}
 use lib.Dec.{eqb}
 use lib.Bits.{bitAnd, bitOr}
 use Rattle.squares.specs.Sets.{has, without}
-use Rattle.squares.specs.Squares.{all, promotion, firstOf, onBoard}
+use Rattle.squares.specs.Squares.{promotion, firstOf, onBoard}
+pub use Rattle.squares.specs.Squares.{squaresOnly}
 use Rattle.squares.specs.declared.piece.Color.{Color}
 use Rattle.squares.specs.declared.piece.Color.the-variants.{White, Black}
 use Rattle.squares.specs.declared.refusal.Refusal.the-variants.{NoSuchSquare, Overlap, ManOnPromotionRow}
@@ -15,10 +16,6 @@ use Rattle.positions.specs.Hash.{hashOf, positionOf}
 use Rattle.positions.specs.declared.position.Position.{Position}
 use Rattle.positions.specs.declared.position.Placed.{Placed}
 use Rattle.positions.specs.declared.position.Placed.the-variants as placed
-
--- every bit of the set is a square
-unfoldable pub squaresOnly : ℕ → Bool
-squaresOnly s = eqb (without s all) 0
 
 -- the men on their promotion row
 unfoldable pub misplaced : ℕ → ℕ → ℕ → ℕ

@@ -1,4 +1,4 @@
--- Boards: the pieces of each colour, the kings of both, the side to move.
+-- Boards (document 01, "position.rs"): the pieces of each colour, the kings of both, the side to move.
 use Prim.Native.Nat.{ℕ}
 use mathlib.Core.Bool.{Bool, true, false, cond, _&&_}
 use lib.Dec.{eqb}

@@ -1,4 +1,4 @@
--- The board seen from the other side (document 01): square n goes to 51 - n, the colours and the side are exchanged.
+-- The board seen from the other side (document 01, "position.rs, playing"): square n goes to 51 - n, the colours and the side are exchanged.
 use Prim.Native.Nat.{ℕ, _-_}
 use mathlib.Core.Bool.{cond}
 use Rattle.squares.specs.Squares.{squareAtBit, single}

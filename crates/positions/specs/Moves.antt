@@ -2,8 +2,7 @@
 use Prim.Native.Nat.{ℕ}
 use mathlib.Core.Bool.{Bool, not, _&&_}
 use lib.Dec.{eqb}
-use Rattle.squares.specs.Sets.{without}
-use Rattle.squares.specs.Squares.{isSquare, all}
+use Rattle.squares.specs.Squares.{isSquare, squaresOnly}
 use Rattle.positions.specs.declared.moves.Move.{Move}
 
 -- the record of a move
@@ -15,7 +14,7 @@ isCapture m = not (eqb (m .captured) 0)
 
 -- what refusal 11 asks: both squares 1 to 50, and no bit of the set that is no square
 unfoldable pub squaresOf : Move → Bool
-squaresOf m = isSquare (m .from) && (isSquare (m .to) && eqb (without (m .captured) all) 0)
+squaresOf m = isSquare (m .from) && (isSquare (m .to) && squaresOnly (m .captured))
 
 -- two routes equal in these three are one move
 unfoldable pub same : Move → Move → Bool

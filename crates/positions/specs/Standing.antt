@@ -1,4 +1,5 @@
--- What a move counts for a colour: its promotion, and its men and kings taken, each as it stood before the move.
+-- What a move counts for a colour (document 01, "The book of demand 3"): its promotion, and its men and kings taken, each as it
+-- stood before the move.
 use Prim.Native.Nat.{ℕ}
 use mathlib.Core.Bool.{cond, _&&_}
 use lib.Bits.{bitAnd}

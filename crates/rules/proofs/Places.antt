@@ -115,5 +115,4 @@ module _ (b : Board) (fair : Fair b) where
   unfolding squaresOf
   goes-squares {w} g =
       and-both _ _ (bit-square (w .from) (from-on g)) (and-both _ _ (bit-square (w .to) (to-on g))
-      (eq-eqb (without (w .taken) all) 0
-      (none-within (w .taken) all (wide (w .taken) (g .stands .fits)) all-lt64 (λ i l h. has-all i ∙ enemy-on b fair i (g .stands .enemies i h)))))
+      (say-squares (w .taken) (record { fits = g .stands .fits; on = λ i h. enemy-on b fair i (g .stands .enemies i h) })))

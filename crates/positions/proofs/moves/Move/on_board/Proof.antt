@@ -1,12 +1,8 @@
--- Each test is the definition's; `ALL` is the board.
-use Rattle.squares.proofs.Numbers.{all-is}
+-- Each test is the definition's.
 use Rattle.positions.specs.Moves.{squaresOf}
 use borrow.Author.Needs.{needs}
 use Rattle.positions.proofs.moves.Move.on_board.Statement.{statement}
 use Rattle.positions.proofs.moves.Move.on_board.Tie as tie
-
-difference-requires : tie.Need-difference-requires
-difference-requires c κs = search needs
 
 is-square-requires : tie.Need-is-square-requires
 is-square-requires c κs = search needs
@@ -14,10 +10,13 @@ is-square-requires c κs = search needs
 is-square-requires-2 : tie.Need-is-square-requires-2
 is-square-requires-2 c κs = search needs
 
+squares-only-requires : tie.Need-squares-only-requires
+squares-only-requires c κs = search needs
+
 returns : tie.Need-returns
 unfolding squaresOf
-returns c = cc all-is
+returns c = cc
 
 pub on-board-spec : {M : Type 1} → statement M
 on-board-spec =
-    tie.close (tie.spec difference-requires is-square-requires is-square-requires-2 returns)
+    tie.close (tie.spec is-square-requires is-square-requires-2 squares-only-requires returns)
