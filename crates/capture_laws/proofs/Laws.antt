@@ -45,10 +45,6 @@ module _ (b : Board) (fair : Fair b) where
     holds .overflow ∙ ap (λ (x : Found). x .overflow) ends-with,
   )
 
-  -- the number that they take
-  pub captures-best : searchOf b .best ≡ best count (captures b)
-  captures-best = holds .best ∙ ap (λ (x : Found). x .most) ends-with
-
   longest-legal : (c : BitMove) (cs : List BitMove) → captures b ≡ c ∷ cs → map numbered (longest sameBits count (captures b)) ≡ legal b
   unfolding legal
   longest-legal c cs e = ap (map numbered) (sym (bits-some b c cs e))

@@ -95,7 +95,8 @@ fold-holds (e ∷ es) s x h =
 abbrev pub bound : Found → Bounded Move
 bound x = bounded (x .most) (x .moves) (x .overflow)
 
-listed-is : (l : List Move) (m : Move) → listed l m ≡ contains same l m
+-- the code's search in a list is that of the rules
+pub listed-is : (l : List Move) (m : Move) → listed l m ≡ contains same l m
 unfolding listed contains
 listed-is [] m = refl
 listed-is (x ∷ l) m = ap (λ (c : Bool). same x m || c) (listed-is l m)

@@ -4,7 +4,7 @@ use Prim.Native.Nat.{ℕ, _^_, _<_}
 use native.Mathlib.Omega.{arith}
 use mathlib.Core.Bool.{true, false}
 use mathlib.Core.List.{List, [], _∷_, map, map-append, foldl, foldl-append, List·Memᴰ as Member, List·Memᴰ·head as head, List·Memᴰ·tail as tail}
-use lib.ListN.{length, take, length-map}
+use lib.ListN.{length, take}
 use lib.Dec.{ltb}
 use Rattle.squares.specs.declared.piece.PieceKind.{PieceKind}
 use Rattle.squares.specs.declared.piece.PieceKind.the-variants.{Man, King}
@@ -130,8 +130,4 @@ module _ (b : Board) (fair : Fair b) where
       foldl (noteIn limit) (found 0 [] false) (map numbered (allTried b)) ≡ found (best count (captures b)) (take limit (map numbered l)) (ltb limit (length l))
   found-law limit =
       ap (λ (y : Bounded Move). found (y .most) (y .list) (y .over))
-      (fold-bound limit (map numbered (allTried b)) (found 0 [] false) ∙ searched-is b fair limit longests refl)
-      ∙ ap (λ (n : ℕ). found (best count (captures b)) (take limit (map numbered longests)) (ltb limit n)) (length-map longests numbered)
-    where
-      longests : List BitMove
-      longests = longest sameBits count (captures b)
+      (fold-bound limit (map numbered (allTried b)) (found 0 [] false) ∙ searched-is b fair limit)

@@ -27,7 +27,8 @@ module _ {A : Type 0} (x : A) where
   take-replicate (suc n) zero h = absurd (omega arith)
   take-replicate (suc n) (suc k) h = ap (λ (l : List A). x ∷ l) (take-replicate n k (omega arith))
 
-  store : (n k : ℕ) (xs : List A) (m : A) → length xs < n → n ≤ k
+  -- a store to the entry behind the last
+  pub store : (n k : ℕ) (xs : List A) (m : A) → length xs < n → n ≤ k
       → set (take n (xs ++ replicate k x)) (length xs) m ≡ take n ((xs ++ (m ∷ [])) ++ replicate k x)
   store zero k xs m h q = absurd (omega arith)
   store (suc n) zero [] m h q = absurd (omega arith)

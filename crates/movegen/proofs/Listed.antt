@@ -3,7 +3,7 @@ use mathlib.Core.Path.{_≡_, refl, sym, ap, ap₂, _∙_}
 use Prim.Native.Nat.{ℕ, _≤_}
 use native.Mathlib.Omega.{arith}
 use mathlib.Core.Bool.{Bool, true, false, cond, _||_}
-use mathlib.Core.List.{List, [], _∷_}
+use mathlib.Core.List.{List, []}
 use lib.ListN.{length}
 use lib.Dec.{leb, ltb}
 use borrow.Author.Tests.{ltb-true, ltb-false, lt-leb, le-leb}
@@ -12,17 +12,17 @@ use Rattle.squares.specs.declared.refusal.Answer.the-variants as answer
 use Rattle.positions.specs.Acceptance.{sound, Sound}
 use Rattle.positions.specs.Boards.{boardOf, menOf, kingsOf, enemy, ofKind, pieces, empty}
 use Rattle.positions.specs.Hash.{positionOf}
-use Rattle.positions.specs.Moves.{same, squaresOf}
+use Rattle.positions.specs.Moves.{squaresOf}
 use Rattle.positions.specs.Successor.{successor, Playable, playOf}
 use Rattle.positions.specs.declared.moves.Move.{Move}
 use Rattle.positions.specs.declared.position.Position.{Position}
 use Rattle.positions.specs.declared.position.Placed.the-variants as placed
-use Rattle.positions.proofs.Accepts.{sound-says, position-sound}
+use Rattle.positions.proofs.Accepts.{sound-says, position-sound, of-position}
 use Rattle.positions.proofs.Hashes.{play-is}
 use Rattle.positions.proofs.Kept.{successor-accepted}
 use Rattle.captures.specs.Lists as codes
 use Rattle.captures.specs.Lists.{listOf, entries}
-use Rattle.rules.specs.Lists.{contains, some}
+use Rattle.rules.specs.Lists.{some}
 use Rattle.rules.specs.Ordered.{captures, quiets, legal, listed}
 use Rattle.rules.specs.Rules.{Fair}
 use Rattle.rules.proofs.Laws.{fair-of-accepted, listed-legal, legal-playable}
@@ -31,6 +31,7 @@ use Rattle.quiets.specs.declared.quiets.Listing.{Listing}
 use Rattle.movegen.specs.Lists.{refusedList, listedOf, withinOf, hasCapturesOf, hasQuietMovesOf, playedOf, afterOf}
 use Rattle.movegen.specs.declared.movegen.Listed.{Listed}
 use Rattle.movegen.specs.declared.movegen.Tested.the-variants as tested
+use Rattle.capture_laws.proofs.Recorded.{listed-is}
 use Rattle.capture_laws.proofs.Stored.{few-len, few-entries}
 use Rattle.quiet_laws.proofs.Filled.{filled}
 use Rattle.quiet_laws.proofs.Laws.{has-quiet-law, has-capture-law}
@@ -62,12 +63,8 @@ within-law xs limit h = go (ltb 256 (length xs)) refl
         ap₂ (λ (t : Bool) (n : ℕ). told (t || ltb limit n)) e (few-len xs (ltb-false 256 (length xs) e)) ∙ short (ltb limit (length xs)) refl
 
 -- ---- the search
-listed-is : (xs : List Move) (m : Move) → codes.listed xs m ≡ listed xs m
-unfolding codes.listed listed contains
-listed-is [] m = refl
-listed-is (x ∷ xs) m = ap (λ (t : Bool). same x m || t) (listed-is xs m)
-
 pub found-law : (l : Listing) (xs : List Move) (m : Move) → l ≡ filled xs → l .overflow ≡ false → codes.listed (entries (l .list)) m ≡ listed xs m
+unfolding listed
 found-law l xs m e o =
     ap (λ (l : Listing). codes.listed (entries (l .list)) m) e
     ∙ ap (λ (ys : List Move). codes.listed ys m) (few-entries xs (ltb-false 256 (length xs) (sym (ap (λ (l : Listing). l .overflow) e) ∙ o)))
@@ -92,9 +89,6 @@ unfolding playedOf
 played-one p m s e o =
     ap placed.Position (play-is p m (sound-says p s) (listed-playable p m s o))
     ∙ sym (ap₂ (λ (s t : Bool). cond s (placed.Refused TooManyMoves) (cond t (placed.Position (positionOf (successor (boardOf p) m))) (placed.Refused NoMoveFits))) e o)
-
-of-position : {p q : Position} → placed.Position p ≡ placed.Position q → p ≡ q
-of-position e = cc
 
 -- past 12 and 11
 pub after-at : (p : Position) (m : Move) → sound p ≡ true → squaresOf m ≡ true → playedOf p m ≡ afterOf p m

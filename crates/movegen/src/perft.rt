@@ -1,6 +1,7 @@
 // Depth counts, after perft.rs. They carry no hash.
 use crate::movegen;
 use crate::movegen::View;
+use crate::moves::MAX_MOVES;
 use crate::moves::MoveList;
 use positions::moves::Move;
 use positions::playing;
@@ -8,7 +9,6 @@ use positions::position::Position;
 use quiets::quiets::Listing;
 use squares::bitboard;
 use squares::bitboard::Bitboard;
-use squares::piece::Color;
 use squares::refusal::Answer;
 use squares::refusal::Refusal;
 use squares::square;
@@ -63,7 +63,7 @@ fn next(v: View, mv: Move) -> View
 fn limited(moves: u32) -> Counted
     ensures { λ r. ⌜ r ≡ limitedCount moves ⌝ }
 {
-    if 256 < moves {
+    if MAX_MOVES < moves as usize {
         Counted::Refused(Refusal::TooManyMoves)
     } else {
         Counted::Count(moves as u64)

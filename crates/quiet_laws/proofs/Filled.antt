@@ -1,7 +1,7 @@
 -- Moves added one by one fill the list: it holds as many as there is room for, then blanks, and the mark says that there
 -- were more.
 use mathlib.Core.Path.{_≡_, refl, sym, ap, ap₂, _∙_}
-use Prim.Native.Nat.{ℕ, zero, suc, _+_, _≤_, _<_, min}
+use Prim.Native.Nat.{ℕ, _+_, min}
 use native.Mathlib.Omega.{arith}
 use mathlib.Core.Bool.{Bool, true, false, cond, _||_, or-true}
 use mathlib.Core.List.{List, [], _∷_, _++_, foldl, append-assoc, append-nil}
@@ -13,6 +13,7 @@ use Rattle.positions.specs.declared.moves.Move.{Move}
 use Rattle.captures.specs.Lists.{blank, noMoves, pushOf, listOf}
 use Rattle.quiets.specs.declared.quiets.Listing.{Listing}
 use Rattle.quiets.specs.Quiets.{listing, addOf}
+use Rattle.capture_laws.proofs.Stored.{store}
 
 -- these moves, and whether there are more than 256
 abbrev pub filled : List Move → Listing
@@ -23,19 +24,6 @@ unfolding listOf
 filled-none = refl
 
 -- ---- one more
-blanks : (n k : ℕ) → n ≤ k → take n (replicate k blank) ≡ take n (replicate (suc k) blank)
-blanks zero k h = refl
-blanks (suc n) zero h = absurd (omega arith)
-blanks (suc n) (suc k) h = ap (λ (l : List Move). blank ∷ l) (blanks n k (omega arith))
-
--- a store to the entry after the last move
-stored : (n k : ℕ) (xs : List Move) (m : Move) → length xs < n → n ≤ k
-    → set (take n (xs ++ replicate k blank)) (length xs) m ≡ take n ((xs ++ (m ∷ [])) ++ replicate k blank)
-stored zero k xs m h l = absurd (omega arith)
-stored (suc n) zero [] m h l = absurd (omega arith)
-stored (suc n) (suc k) [] m h l = ap (λ (l : List Move). m ∷ l) (blanks n k (omega arith))
-stored (suc n) k (x ∷ xs) m h l = ap (λ (l : List Move). x ∷ l) (stored n k xs m (omega arith) (omega arith))
-
 long : (xs : List Move) (m : Move) → length (xs ++ (m ∷ [])) ≡ length xs + 1
 long xs m = length-append xs (m ∷ [])
 
@@ -59,7 +47,7 @@ add-filled xs m = go (ltb (length xs) 256) refl
         ∙ ap₂ (λ (c o : Bool). listing (cond c (record { moves = set ms (length xs) m; len = length xs + 1 }) (record { moves = ms; len = length xs })) o)
         e (lt-leb 256 (length xs) h ∙ sym (le-ltb 256 (length (xs ++ (m ∷ []))) (omega (arith, long xs m))))
         ∙ ap₂ (λ (l : List Move) (n : ℕ). listing (record { moves = l; len = n }) (ltb 256 (length (xs ++ (m ∷ [])))))
-        (stored 256 256 xs m h (omega arith)) k
+        (store blank 256 256 xs m h (omega arith)) k
     go false e =
         let h = ltb-false (length xs) 256 e in
         let n : min 256 (length xs) ≡ 256 = omega arith in

@@ -1,9 +1,9 @@
 -- The laws that crates above cite: on a fair board the quiet list and the tests by sets are those of the rules.
-use mathlib.Core.Path.{_≡_, sym, ap, ap₂, _∙_}
-use mathlib.Core.Bool.{Bool, true, false, _||_, false≢true}
+use mathlib.Core.Path.{_≡_, sym, ap, _∙_}
+use mathlib.Core.Bool.{true, false, false≢true}
 use mathlib.Core.List.{_++_, map}
 use mathlib.Core.Logic.{_↔_}
-use lib.ListN.{length, length-map}
+use lib.ListN.{length}
 use lib.Dec.{ltb}
 use Rattle.squares.specs.declared.piece.PieceKind.the-variants.{Man, King}
 use Rattle.squares.proofs.Bools.{not-so}
@@ -17,7 +17,6 @@ use Rattle.quiets.specs.Tests.{hasQuietOf, hasCaptureOf}
 use Rattle.rules.specs.Lists.{some}
 use Rattle.quiet_laws.proofs.Filled.{filled, fill-law}
 use Rattle.quiet_laws.proofs.HasCapture.{open-tested, capture-test}
-use Rattle.quiet_laws.proofs.HasMove.{some-legal}
 use Rattle.quiet_laws.proofs.HasQuiet.{quiet-test}
 use Rattle.quiet_laws.proofs.Lists.{lists-law}
 
@@ -26,13 +25,6 @@ module _ (b : Board) (fair : Fair b) where
   -- the moves, men's and kings', in the order of the rules' list
   pub quiet-moves : menQuiets (pieces b Man) (empty b) (b .side) ++ kingQuiets (pieces b King) (empty b) ≡ map numbered (quiets b)
   quiet-moves = lists-law b fair
-
-  -- all 256 entries and the mark: as many moves as there is room for, then blanks; whether there are more
-  pub quiets-filled : quietMovesOf (pieces b Man) (pieces b King) (empty b) (b .side) ≡ listing (listOf (map numbered (quiets b))) (ltb 256 (length (quiets b)))
-  unfolding quietMovesOf allQuiets
-  quiets-filled =
-      fill-law (menQuiets (pieces b Man) (empty b) (b .side) ++ kingQuiets (pieces b King) (empty b)) ∙ ap filled quiet-moves
-      ∙ ap (λ n. listing (listOf (map numbered (quiets b))) (ltb 256 n)) (length-map (quiets b) numbered)
 
   -- ---- the tests
   pub has-quiet-law : hasQuietOf (pieces b Man) (pieces b King) (empty b) (b .side) ≡ some (quiets b)
@@ -64,7 +56,3 @@ module _ (b : Board) (fair : Fair b) where
       → length (allQuiets (pieces b Man) (pieces b King) (empty b) (b .side)) ≡ length (legal b)
   unfolding allQuiets
   legal-number e = ap length (quiet-moves ∙ sym (quiets-legal e))
-
-  -- ---- whether a move is legal
-  pub has-move-law : (hasCaptureOf (pieces b Man) (pieces b King) (enemy b) (empty b) || hasQuietOf (pieces b Man) (pieces b King) (empty b) (b .side)) ≡ some (legal b)
-  has-move-law = ap₂ (λ (x y : Bool). x || y) has-capture-law has-quiet-law ∙ sym (some-legal b)

@@ -3,7 +3,7 @@ use mathlib.Core.Path.{_≡_, refl}
 use Prim.Native.Nat.{_≤_}
 use native.Mathlib.Omega.{arith}
 use mathlib.Core.List.{List, [], _∷_, List·Memᴰ as Member, List·Memᴰ·not-nil as not-nil}
-use mathlib.Core.Logic.{inl, inr, _↔_}
+use mathlib.Core.Logic.{inl, inr}
 use Rattle.positions.specs.Boards.{Board}
 use Rattle.rules.specs.Lists.{longest}
 use Rattle.rules.specs.Ordered.{count, captures, quiets, sameBits, bitLegal}
@@ -50,6 +50,3 @@ module _ (b : Board) (fair : Fair b) where
           rw (bits-some b x xs e) (in-longest sameBits bits-refl bits-true count (captures b) m
           (record { among = in-list r; most = λ y k. most y (of-captures b fair y k) }))
   bits-complete m (quiet none q) = rw (bits-none b (shut-law b fair .1 none)) (in-quiets b fair q)
-
-  pub bits-law : (m : BitMove) → Member m (bitLegal b) ↔ BitLegal b m
-  bits-law m = (bits-sound m, bits-complete m)

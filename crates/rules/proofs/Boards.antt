@@ -1,9 +1,9 @@
 -- What a fair board gives: bounds of its sets, colours apart, where the empty squares and the pieces of a kind are.
-use mathlib.Core.Path.{_≡_, refl, sym, ap, _∙_}
+use mathlib.Core.Path.{_≡_, sym, ap, _∙_}
 use Prim.Native.Nat.{ℕ, _^_, _<_}
 use native.Mathlib.Nat.{sub-le, lt-of-le-of-lt}
 use native.Mathlib.Omega.{arith}
-use mathlib.Core.Bool.{Bool, true, false, _||_, true≢false, false≢true}
+use mathlib.Core.Bool.{true, false, false≢true}
 use mathlib.Core.List.{List·Memᴰ as Member}
 use mathlib.Core.Logic.{_⊎_, inl, inr}
 use lib.Bits.{bitAnd, bitOr, or-lt}
@@ -15,7 +15,7 @@ use Rattle.squares.specs.declared.piece.PieceKind.the-variants.{Man, King}
 use Rattle.squares.specs.Pieces.{other}
 use Rattle.squares.specs.Sets.{has, without, members}
 use Rattle.squares.specs.Squares.{all, onBoard}
-use Rattle.squares.proofs.Bools.{and-left, and-right, not-so}
+use Rattle.squares.proofs.Bools.{and-left, and-right, or-none, not-so}
 use Rattle.squares.proofs.Members.{in-members}
 use Rattle.squares.proofs.Numbers.{all-lt, all-lt64, on-lt, has-all}
 use Rattle.squares.proofs.Pointwise.{has-and, has-or}
@@ -29,10 +29,6 @@ wide s h = omega arith
 pub empty-lt : (b : Board) → empty b < 2 ^ 54
 unfolding empty without
 empty-lt b = lt-of-le-of-lt (sub-le all (bitAnd all (bitOr (b .white) (b .black)))) all-lt
-
-or-no : (x y : Bool) → (x || y) ≡ false → (x ≡ false) × (y ≡ false)
-or-no true y e = absurd (true≢false e)
-or-no false y e = (refl, e)
 
 module _ (b : Board) (fair : Fair b) where
   colored-lt : (c : Color) → colored c b < 2 ^ 54
@@ -75,7 +71,7 @@ module _ (b : Board) (fair : Fair b) where
 
   -- no piece stands there
   pub empty-free : (i : ℕ) → has (empty b) i ≡ true → (has (b .white) i ≡ false) × (has (b .black) i ≡ false)
-  empty-free i h = or-no (has (b .white) i) (has (b .black) i) (sym (has-or (b .white) (b .black) i) ∙ of-empty i h .1)
+  empty-free i h = or-none (has (b .white) i) (has (b .black) i) (sym (has-or (b .white) (b .black) i) ∙ of-empty i h .1)
 
   colored-free : (c : Color) (i : ℕ) → has (empty b) i ≡ true → has (colored c b) i ≡ false
   colored-free White i h = empty-free i h .0

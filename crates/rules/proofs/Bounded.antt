@@ -8,8 +8,8 @@ use lib.ListN.{length, take, drop, length-take, length-append, take-append-drop}
 use lib.Seq.{take-append-le, take-all}
 use lib.Dec.{eqb, ltb, leb}
 use borrow.Author.Tests.{eq-eqb, ne-eqb, ltb-true, ltb-false, lt-ltb, le-ltb, le-leb, lt-leb}
-use Rattle.rules.specs.Lists.{keep, contains, add, best, longest}
-use Rattle.rules.proofs.Fold.{Found, found, takes, note, note-zero, note-less, note-more, note-same, Case, none, less, more, equal, case, fold-law}
+use Rattle.rules.specs.Lists.{contains, add}
+use Rattle.rules.proofs.Fold.{Found, found, note, note-zero, note-less, note-more, note-same, Case, none, less, more, equal, case}
 use Rattle.rules.proofs.Held.{contains-member, member-contains, Adds, there, new, adds}
 
 pub record Bounded (A : Type 0) : Type 0 where
@@ -135,11 +135,3 @@ module _ {A : Type 0} (same : A → A → Bool) (size : A → ℕ) (room : ℕ) 
     pub fold-seen : (xs : List A) (s : Found A) → foldl noteIn (view room s) xs ≡ view room (foldl (note same size) s xs)
     fold-seen [] s = refl
     fold-seen (x ∷ xs) s = ap (λ (t : Bounded A). foldl noteIn t xs) (sym (seen s x)) ∙ fold-seen xs (note same size s x)
-
-    -- the bounded fold over all that is found
-    pub bounded-law : (xs : List A) → let l = longest same size (keep (takes size) xs) in
-        foldl noteIn (bounded 0 [] false) xs ≡ bounded (best size (keep (takes size) xs)) (take room l) (ltb room (length l))
-    bounded-law xs =
-        ap₂ (λ (r : List A) (o : Bool). foldl noteIn (bounded 0 r o) xs) (sym (take-all {A = A} room [] (omega arith)))
-        (sym (le-ltb room 0 (omega arith)))
-        ∙ fold-seen xs (found 0 []) ∙ ap (view room) (fold-law same size xs)

@@ -35,10 +35,6 @@ open-of {b} w c = go (c .sequence) (c .piece)
     go {k} {f} (first {o = o} {l = l} j) p = record { kind = k; from = f; over = o; land = l; piece = p; jump = j }
     go (then s j) p = go s p
 
--- no jump is open exactly where there is no legal jump sequence
-pub no-capture : {b : Board} → NoJump b ↔ ((w : BitMove) → Capture b w → ⊥)
-no-capture = ((λ n w c. n (open-of w c)), (λ n o. n (opened o) (of-open o)))
-
 -- ---- all sequences
 -- z is found, or a longer one is
 abbrev pub Reached : BitMove → List BitMove → Type 0

@@ -237,8 +237,3 @@ module _ {A : Type 0} (same : A → A → Bool) (same-refl : (x : A) → same x 
     absorb [] s h = refl
     absorb (y ∷ ys) s h =
         ap (λ (t : Found A). foldl (note same size) t ys) (held-note s y (h y (head refl))) ∙ absorb ys s (λ x m. h x (tail m))
-
-    -- what was folded in once changes nothing
-    pub absorbed : (xs ys : List A) (s : Found A) → ((x : A) → Member x ys → Member x xs)
-        → foldl (note same size) (foldl (note same size) s xs) ys ≡ foldl (note same size) s xs
-    absorbed xs ys s h = absorb ys (foldl (note same size) s xs) (λ x m. fold-held xs s x (h x m))

@@ -2,11 +2,9 @@
 use mathlib.Core.Path.{_≡_, refl, sym, ap, _∙_, subst}
 use Prim.Native.Nat.{ℕ, _+_, _≤_}
 use native.Mathlib.Omega.{arith}
-use mathlib.Core.Bool.{Bool, true, false, not, true≢false, false≢true}
-use mathlib.Core.List.{List, [], _∷_, map, foldl, List·Memᴰ as Member, List·Memᴰ·head as head, List·Memᴰ·not-nil as not-nil}
+use mathlib.Core.Bool.{true, false, not, true≢false, false≢true}
+use mathlib.Core.List.{[], map, foldl}
 use mathlib.Core.Logic.{_↔_}
-use lib.ListN.{length, take}
-use lib.Dec.{ltb}
 use borrow.Author.Tests.{eq-eqb, ne-eqb}
 use Rattle.squares.specs.declared.piece.PieceKind.{PieceKind}
 use Rattle.squares.specs.declared.piece.PieceKind.the-variants.{King}
@@ -20,21 +18,18 @@ use Rattle.positions.specs.Boards.{Board, pieces}
 use Rattle.positions.specs.Measure.{rowsBefore}
 use Rattle.positions.specs.Moves.{isCapture, squaresOf, same}
 use Rattle.positions.specs.Successor.{Playable}
-use Rattle.rules.specs.Lists.{keep, times, best, longest}
+use Rattle.rules.specs.Lists.{times}
 use Rattle.rules.specs.Ordered.{sequences, count, captures, quiets, sameBits, legal, listed}
-use Rattle.rules.specs.Rules.{BitMove, bitMove, numbered, Sequence, Capture, AtMost, Open, NoJump, Quiet, BitLegal, capture, quiet, Legal, Fair}
+use Rattle.rules.specs.Rules.{BitMove, bitMove, numbered, Sequence, Capture, AtMost, NoJump, Quiet, BitLegal, capture, quiet, Legal, Fair}
 use Rattle.rules.proofs.Agreement.{bits-none}
-use Rattle.rules.proofs.Bounded.{bounded, noteIn, bounded-law}
 use Rattle.rules.proofs.Captures.{open-of, shut-law}
-use Rattle.rules.proofs.Fold.{Found, found, takes, note, fold-law}
+use Rattle.rules.proofs.Fold.{Found, note}
 use Rattle.rules.proofs.Forward.{quiet-row}
-use Rattle.rules.proofs.Held.{absorbed}
 use Rattle.rules.proofs.Numbered.{legal-distinct, member-sound, member-complete}
 use Rattle.rules.proofs.Paths.{capture-some}
 use Rattle.rules.proofs.Places.{Goes, legal-goes, from-on, to-on, goes-playable, goes-squares}
 use Rattle.rules.proofs.Quiets.{quiet-none}
 use Rattle.rules.proofs.Same.{same-refl, same-true, listed-member}
-use Rattle.rules.proofs.Search.{searched, searched-open, searched-shut}
 use Rattle.rules.proofs.Shortcut.{kingTried, king-law}
 use Rattle.rules.proofs.Times.{times-most, times-some}
 
@@ -140,14 +135,6 @@ module _ (b : Board) (fair : Fair b) where
       to : bitOf (m .to) ≡ h .by .to
       to = ap (λ (u : Move). bitOf (u .to)) (h .is) ∙ bit-back (h .by .to) (to-on b fair goes)
 
-  -- ---- where no move is legal
-  pub none-legal : (legal b ≡ []) ↔ ((m : Move) → Legal b m → ⊥)
-  none-legal = ((λ e m h. not-nil (rw e at (member-complete b fair m h))), (λ n. go (legal b) refl n))
-    where
-      go : (l : List Move) → legal b ≡ l → ((m : Move) → Legal b m → ⊥) → legal b ≡ []
-      go [] e n = e
-      go (x ∷ xs) e n = absurd (n x (member-sound b fair x (rw e (head refl))))
-
   -- no jump is open exactly where the list of captures is empty
   pub no-jump : (captures b ≡ []) ↔ NoJump b
   no-jump = shut-law b fair
@@ -157,38 +144,7 @@ module _ (b : Board) (fair : Fair b) where
       → foldl (note sameBits count) s (kingTried b i) ≡ foldl (note sameBits count) s (sequences b King i)
   king-shortcut = king-law b fair
 
-  -- where a jump is open the search ends with the list, as far as the room goes, and a mark where there is more
-  pub search-open : (room : ℕ) → Open b
-      → searched b room ≡ bounded (best count (captures b)) (take room (legal b)) (ltb room (length (legal b)))
-  search-open room o = go (captures b) refl
-    where
-      go : (l : List BitMove) → captures b ≡ l
-          → searched b room ≡ bounded (best count (captures b)) (take room (legal b)) (ltb room (length (legal b)))
-      go [] e = absurd (shut-law b fair .0 e o)
-      go (c ∷ cs) e = searched-open b fair room c cs e
-
-  -- where none is open it ends with nothing, and the list is of the quiet moves
-  pub search-shut : (room : ℕ) → NoJump b → searched b room ≡ bounded 0 [] false
-  search-shut room n = searched-shut b fair room (shut-law b fair .1 n)
-
+  -- where no jump is open the list is of the quiet moves
   pub quiet-list : NoJump b → legal b ≡ map numbered (quiets b)
   unfolding legal
   quiet-list n = ap (map numbered) (bits-none b (shut-law b fair .1 n))
-
--- ---- folds over any type
-module _ {A : Type 0} (same : A → A → Bool) (number : A → ℕ) where
-  -- a running best ends with the longest, each once
-  pub running-best : (xs : List A)
-      → foldl (note same number) (found 0 []) xs ≡ found (best number (keep (takes number) xs)) (longest same number (keep (takes number) xs))
-  running-best = fold-law same number
-
-  module _ (same-refl : (x : A) → same x x ≡ true) (same-true : (x y : A) → same x y ≡ true → x ≡ y) where
-    -- what was folded in once changes nothing
-    pub absorption : (xs ys : List A) (s : Found A) → ((x : A) → Member x ys → Member x xs)
-        → foldl (note same number) (foldl (note same number) s xs) ys ≡ foldl (note same number) s xs
-    absorption = absorbed same same-refl same-true number
-
-    -- with room for that many, and a mark where there are more: only the final list counts
-    pub room-and-mark : (room : ℕ) → (xs : List A) → let l = longest same number (keep (takes number) xs) in
-        foldl (noteIn same number room) (bounded 0 [] false) xs ≡ bounded (best number (keep (takes number) xs)) (take room l) (ltb room (length l))
-    room-and-mark room = bounded-law same number room same-refl same-true

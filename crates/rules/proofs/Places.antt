@@ -10,14 +10,15 @@ use borrow.Author.Tests.{eq-eqb}
 use Rattle.squares.specs.declared.piece.PieceKind.{PieceKind}
 use Rattle.squares.specs.declared.piece.PieceKind.the-variants.{Man, King}
 use Rattle.squares.specs.Directions.{Direction, next}
-use Rattle.squares.specs.Sets.{has, without}
-use Rattle.squares.specs.Squares.{bitOf, all, onBoard, squareAtBit}
+use Rattle.squares.specs.Sets.{has}
+use Rattle.squares.specs.Squares.{bitOf, onBoard, squareAtBit}
 use Rattle.squares.proofs.Bools.{and-both}
-use Rattle.squares.proofs.Numbers.{all-lt64, has-all, bit-square, bit-back}
-use Rattle.squares.proofs.Pointwise.{has-zero, member-lt, none-within}
+use Rattle.squares.proofs.Numbers.{bit-square, bit-back}
+use Rattle.squares.proofs.Pointwise.{has-zero, member-lt}
 use Rattle.positions.specs.Boards.{Board, own, enemy, empty}
 use Rattle.positions.specs.Moves.{squaresOf}
 use Rattle.positions.specs.Successor.{Playable}
+use Rattle.positions.proofs.Accepts.{say-squares}
 use Rattle.rules.specs.Rules.{BitMove, numbered, space, Glide, rest, step, Flight, Jump, manJump, kingJump, Capture, Quiet, manStep, kingFlight, BitLegal, capture, quiet, Fair}
 use Rattle.rules.proofs.Boards.{wide, enemy-lt, own-on, enemy-on, empty-on, empty-free, of-space, piece-own}
 use Rattle.rules.proofs.Jumps.{jump-target}

@@ -2,8 +2,8 @@
 use mathlib.Core.Path.{_≡_, refl, sym, subst}
 use Prim.Native.Nat.{ℕ}
 use mathlib.Core.Bool.{true}
-use mathlib.Core.List.{List, [], _∷_, map, List·Memᴰ as Member, List·Memᴰ·head as head, List·Memᴰ·not-nil as not-nil, Memᴰ·append-left as in-left, Memᴰ·append-right as in-right, List·Memᴰ·append-cases as in-cases}
-use mathlib.Core.Logic.{_⊎_, inl, inr, _↔_}
+use mathlib.Core.List.{[], map, List·Memᴰ as Member, Memᴰ·append-left as in-left, Memᴰ·append-right as in-right, List·Memᴰ·append-cases as in-cases}
+use mathlib.Core.Logic.{_⊎_, inl, inr}
 use Rattle.squares.specs.declared.piece.PieceKind.the-variants.{Man, King}
 use Rattle.squares.specs.Directions.{Direction, next}
 use Rattle.squares.specs.Sets.{has, members}
@@ -57,11 +57,3 @@ module _ (b : Board) (fair : Fair b) where
       (in-concatMap (kingFlights b) (piece-member b fair King i p)
       (in-concatMap (λ d. map (λ (j : ℕ). bitMove i j 0) (ray (empty b) d i)) (all-directions d)
       (in-map (λ (j : ℕ). bitMove i j 0) (in-ray (empty b) d (empty-lt b) i j f))))
-
-  -- the list of quiet moves is empty exactly where there is none
-  pub no-quiet : (quiets b ≡ []) ↔ ((w : BitMove) → Quiet b w → ⊥)
-  no-quiet = ((λ e w q. not-nil (rw e at (in-quiets q))), (λ n. go (quiets b) refl n))
-    where
-      go : (l : List BitMove) → quiets b ≡ l → ((w : BitMove) → Quiet b w → ⊥) → quiets b ≡ []
-      go [] e n = e
-      go (x ∷ xs) e n = absurd (n x (of-quiets x (rw e (head refl))))

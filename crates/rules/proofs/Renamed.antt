@@ -1,9 +1,9 @@
 -- A fold over renamed things is the renamed fold: entries by bits here, by square numbers there.
 use mathlib.Core.Path.{_≡_, refl, sym, ap, ap₂, _∙_, subst}
-use Prim.Native.Nat.{ℕ, suc}
+use Prim.Native.Nat.{ℕ}
 use mathlib.Core.Bool.{Bool, true, false, _||_, cond}
-use mathlib.Core.List.{List, [], _∷_, _++_, map, foldl, List·Memᴰ as Member, List·Memᴰ·head as head, List·Memᴰ·tail as tail, List·Memᴰ·not-nil as not-nil}
-use lib.ListN.{length}
+use mathlib.Core.List.{List, [], _∷_, _++_, map, map-append, foldl, List·Memᴰ as Member, List·Memᴰ·head as head, List·Memᴰ·tail as tail, List·Memᴰ·not-nil as not-nil}
+use lib.ListN.{length, length-map}
 use lib.Dec.{eqb, ltb, leb}
 use Rattle.rules.specs.Lists.{contains}
 use Rattle.rules.proofs.Bounded.{Bounded, bounded, push, noteIn}
@@ -16,24 +16,16 @@ module _ {A B : Type 0} (φ : A → B) (sameA : A → A → Bool) (sizeA : A →
   abbrev pub AllOk : List A → Type 0
   AllOk l = (x : A) → Member x l → Ok x
 
-  length-map : (l : List A) → length (map φ l) ≡ length l
-  length-map [] = refl
-  length-map (x ∷ l) = ap suc (length-map l)
-
-  map-snoc : (l : List A) (x : A) → map φ (l ++ (x ∷ [])) ≡ map φ l ++ (φ x ∷ [])
-  map-snoc [] x = refl
-  map-snoc (y ∷ l) x = ap (λ (r : List B). φ y ∷ r) (map-snoc l x)
-
   contains-map : (l : List A) (x : A) → AllOk l → Ok x → contains sameB (map φ l) (φ x) ≡ contains sameA l x
   unfolding contains
   contains-map [] x h k = refl
   contains-map (y ∷ l) x h k = ap₂ (λ (p q : Bool). p || q) (agree y x (h y (head refl)) k) (contains-map l x (λ z m. h z (tail m)) k)
 
   push-map : (l : List A) (x : A) → push sameB sizeB room (map φ l) (φ x) ≡ map φ (push sameA sizeA room l x)
-  push-map l x = ap (λ (n : ℕ). cond (ltb n room) (map φ l ++ (φ x ∷ [])) (map φ l)) (length-map l) ∙ go (ltb (length l) room)
+  push-map l x = ap (λ (n : ℕ). cond (ltb n room) (map φ l ++ (φ x ∷ [])) (map φ l)) (length-map l φ) ∙ go (ltb (length l) room)
     where
       go : (t : Bool) → cond t (map φ l ++ (φ x ∷ [])) (map φ l) ≡ map φ (cond t (l ++ (x ∷ [])) l)
-      go true = sym (map-snoc l x)
+      go true = sym (map-append φ l (x ∷ []))
       go false = refl
 
   note-map : (s : Bounded A) (x : A) → AllOk (s .list) → Ok x → noteIn sameB sizeB room (renamed φ s) (φ x) ≡ renamed φ (noteIn sameA sizeA room s x)
@@ -55,7 +47,7 @@ module _ {A B : Type 0} (φ : A → B) (sameA : A → A → Bool) (sizeA : A →
       go false false true t = ap (λ (l : List B). bounded (sizeA x) l (leb room 0)) (push-map [] x)
       go false false false true = refl
       go false false false false = ap₂ (λ (l : List B) (n : ℕ). bounded (s .most) l (s .over || leb room n)) (push-map (s .list) x)
-          (length-map (s .list))
+          (length-map (s .list) φ)
 
   note-ok : (s : Bounded A) (x : A) → AllOk (s .list) → Ok x → AllOk (noteIn sameA sizeA room s x .list)
   unfolding noteIn

@@ -13,9 +13,6 @@ use Rattle.rules.specs.Rules.{Sequence, first, then, route, Fair}
 use Rattle.rules.proofs.Jumps.{jump-target}
 use Rattle.rules.proofs.Paths.{over-lt}
 
-length-snoc : (l : List ℕ) (x : ℕ) → length (l ++ (x ∷ [])) ≡ length l + 1
-length-snoc l x = length-append l (x ∷ [])
-
 last-snoc : (i : ℕ) (l : List ℕ) (x : ℕ) → last i (l ++ (x ∷ [])) ≡ x
 unfolding last
 last-snoc i [] x = refl
@@ -31,4 +28,4 @@ module _ (b : Board) (fair : Fair b) where
   unfolding route
   route-number (first {o = o} h) = sym (size-bit o (over-lt b fair h))
   route-number (then {taken = t} {o = o} {l = l} s h) =
-      length-snoc (route s) (squareAtBit l) ∙ ap (λ (n : ℕ). n + 1) (route-number s) ∙ sym (size-add t o (over-lt b fair h) (jump-target h .untaken))
+      length-append (route s) (squareAtBit l ∷ []) ∙ ap (λ (n : ℕ). n + 1) (route-number s) ∙ sym (size-add t o (over-lt b fair h) (jump-target h .untaken))

@@ -1,14 +1,11 @@
 -- What a search of the code ends with, by square numbers: everything tried, folded with room and mark, is the list.
-use mathlib.Core.Path.{_≡_, refl, sym, ap, ap₂, _∙_, subst}
+use mathlib.Core.Path.{_≡_, refl, sym, ap, _∙_, subst}
 use Prim.Native.Nat.{ℕ, zero, suc}
-use native.Mathlib.Omega.{arith}
 use mathlib.Core.Bool.{true, false}
 use mathlib.Core.List.{List, [], _∷_, map, foldl, List·Memᴰ as Member, List·Memᴰ·not-nil as not-nil, List·Memᴰ·append-cases as in-cases}
 use mathlib.Core.Logic.{_⊎_, inl, inr}
 use lib.ListN.{length, take}
-use lib.Seq.{take-all}
 use lib.Dec.{ltb}
-use borrow.Author.Tests.{le-ltb}
 use Rattle.squares.specs.declared.piece.PieceKind.{PieceKind}
 use Rattle.squares.specs.declared.piece.PieceKind.the-variants.{Man, King}
 use Rattle.positions.specs.declared.moves.Move.{Move}
@@ -18,10 +15,9 @@ use Rattle.rules.proofs.Tree.{pruned-sound}
 use Rattle.positions.specs.Boards.{Board, own, pieces}
 use Rattle.positions.specs.Moves.{same}
 use Rattle.rules.proofs.Boards.{piece-own}
-use Rattle.rules.specs.Lists.{concatMap, keep, distinct, best, longest}
-use Rattle.rules.specs.Ordered.{directions, jumpsAlong, jumps, enough, sequences, count, captures, sameBits, bitLegal, legal}
+use Rattle.rules.specs.Lists.{concatMap, best, longest}
+use Rattle.rules.specs.Ordered.{directions, jumpsAlong, jumps, enough, sequences, count, captures, sameBits}
 use Rattle.rules.specs.Rules.{BitMove, bitMove, numbered, Fair}
-use Rattle.rules.proofs.Agreement.{bits-some}
 use Rattle.rules.proofs.Bounded.{Bounded, bounded, noteIn}
 use Rattle.rules.proofs.Captures.{of-sequences}
 use Rattle.rules.proofs.Lists.{of-concatMap}
@@ -43,10 +39,6 @@ map-take : {A B : Type 0} (f : A → B) (n : ℕ) (l : List A) → map f (take n
 map-take f zero l = refl
 map-take f (suc n) [] = refl
 map-take f (suc n) (x ∷ l) = ap (λ r. f x ∷ r) (map-take f n l)
-
-map-length : {A B : Type 0} (f : A → B) (l : List A) → length (map f l) ≡ length l
-map-length f [] = refl
-map-length f (x ∷ l) = ap suc (map-length f l)
 
 module _ (b : Board) (fair : Fair b) where
   pub path-on : (k : PieceKind) (i : ℕ) (w : BitMove) → has (pieces b k) i ≡ true → (w .from ≡ i) × Path b k i (w .to) (w .taken) → OnBoard w
@@ -76,26 +68,12 @@ module _ (b : Board) (fair : Fair b) where
           let r = of-concatMap (kingTried b) (members (pieces b King)) m in
           path-on King (r .0) w (of-members (pieces b King) (r .0) (r .1)) (of-kingTried (r .0) w (r .2))
 
-  -- what it ends with, for the list l of the longest captures
-  pub searched-is : (room : ℕ) → (l : List BitMove) → longest sameBits count (captures b) ≡ l
-      → searched b room ≡ bounded (best count (captures b)) (take room (map numbered l)) (ltb room (length (map numbered l)))
-  searched-is room l e =
+  -- what it ends with: the longest captures as far as the room goes, and a mark where there are more
+  pub searched-is : (room : ℕ) → let l = longest sameBits count (captures b) in
+      searched b room ≡ bounded (best count (captures b)) (take room (map numbered l)) (ltb room (length l))
+  searched-is room =
       fold-map numbered sameBits count same taking room OnBoard (λ v w p q. same-numbered v w p q) (λ w p. refl) (allTried b) (bounded 0 [] false)
       (λ w m. absurd (not-nil m)) tried-on
       ∙ ap (renamed numbered) (search-law b fair room)
-      ∙ ap (λ (r : List BitMove). bounded (best count (captures b)) (map numbered (take room r)) (ltb room (length r))) e
-      ∙ ap₂ (λ (r : List Move) (n : ℕ). bounded (best count (captures b)) r (ltb room n)) (map-take numbered room l) (sym (map-length numbered l))
-
-  -- where a jump is open: the list of legal moves, and a mark where there are more than the room holds
-  pub searched-open : (room : ℕ) → (c : BitMove) (cs : List BitMove) → captures b ≡ c ∷ cs
-      → searched b room ≡ bounded (best count (captures b)) (take room (legal b)) (ltb room (length (legal b)))
-  unfolding legal
-  searched-open room c cs e = searched-is room (bitLegal b) (sym (bits-some b c cs e))
-
-  -- where none is open: nothing
-  pub searched-shut : (room : ℕ) → captures b ≡ [] → searched b room ≡ bounded 0 [] false
-  unfolding best longest distinct keep
-  searched-shut room e =
-      searched-is room [] (ap (longest sameBits count) e)
-      ∙ ap₂ (λ (k : ℕ) (l : List Move). bounded k l (ltb room 0)) (ap (best count) e) (take-all room [] (omega arith))
-      ∙ ap (bounded 0 []) (le-ltb room 0 (omega arith))
+      ∙ ap (λ (r : List Move). bounded (best count (captures b)) r (ltb room (length (longest sameBits count (captures b)))))
+      (map-take numbered room (longest sameBits count (captures b)))
