@@ -1,4 +1,5 @@
-// Quiet moves, and the tests by shifted sets, after movegen.rs. The lists are stored to in place.
+// Quiet moves, and the tests by shifted sets, after movegen.rs. A loop stores each move into its own list: handed through a call
+// for each, the list of 4 KB would be copied in and out.
 use captures::movegen;
 use captures::moves::MAX_MOVES;
 use captures::moves::MoveList;
