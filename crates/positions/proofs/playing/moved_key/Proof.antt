@@ -1,5 +1,10 @@
 -- The kind is looked up among the kings that were not taken.
-use Rattle.positions.specs.Successor.{movedKey}
+use mathlib.Core.Path.{ap, ap₂, _∙_}
+use mathlib.Core.Bool.{Bool, _||_}
+use Prim.Native.Nat.{ℕ}
+use lib.Bits.{bitXor}
+use Rattle.squares.specs.Squares.{containsOf}
+use Rattle.positions.specs.Successor.{moverKey, movedKey}
 use borrow.Author.Needs.{needs}
 use Rattle.positions.proofs.playing.moved_key.Statement.{statement}
 use Rattle.positions.proofs.playing.moved_key.Tie as tie
@@ -21,7 +26,14 @@ mover-key-requires-2 c κs = search needs
 
 returns : tie.Need-returns
 unfolding movedKey
-returns c = cc
+returns c =
+    let row = c .before .before .before in
+    let a = row .before .before .args in
+    let was = row .before .contains .ensures in
+    ap₂ bitXor (c .before .mover-key .ensures ∙ ap (λ (w : Bool). moverKey (a .color) w (a .from)) was)
+    (c .mover-key2 .ensures
+    ∙ ap₂ (λ (w e : Bool). moverKey (a .color) (w || e) (a .to)) was
+    (c .before .before .contains2 .ensures ∙ ap (λ (s : ℕ). containsOf s (a .to)) (row .promotion-row .ensures)))
 
 pub moved-key-spec : {M : Type 1} → statement M
 moved-key-spec =

@@ -45,10 +45,10 @@ turn {table} {from} {left} {key} {whole} e p h =
     }
 
 -- at the end nothing is left, and the table is what SplitMix64 fills
-ended : (table : List ℕ) → table ≡ keys → (c : Color) (k : PieceKind) (from s left key : ℕ) → from ≡ block c k → left ≡ 0
-    → Left table (64 * from) left key (keyed table (64 * from) (bitAnd s 0x003F_F7FE_FFDF_FBFF)) → key ≡ setKeyOf c k s
+ended : (c : Color) (k : PieceKind) (from s left key : ℕ) (table : List ℕ) → from ≡ block c k → left ≡ 0
+    → Left table (64 * from) left key (keyed table (64 * from) (bitAnd s 0x003F_F7FE_FFDF_FBFF)) → table ≡ keys → key ≡ setKeyOf c k s
 unfolding keyed
-ended table t c k from s left key f z e =
+ended c k from s left key table f z e t =
     sym (xor-zero-r key) ∙ ap (bitXor key) (sym (ap (keyed table (64 * from)) z ∙ xor-none (λ i. getD table (64 * from + i) 0))) ∙ e .sum
     ∙ ap₂ (λ (l : List ℕ) (n : ℕ). keyed l (64 * n) (bitAnd s 0x003F_F7FE_FFDF_FBFF)) t f
     ∙ ap (λ (m : ℕ). keyed keys (64 * block c k) (bitAnd s m)) (sym all-is) ∙ table-key c k s
@@ -109,7 +109,7 @@ loop-again c =
 
 returns : tie.Need-returns Inv-loop μ-loop
 unfolding keys outputs output advance scramble
-returns c = ended _ refl _ _ _ _ _ _ (c .before .before .index .ensures) (omega arith) (c .before .loop .inv .0)
+returns c = ended _ _ _ _ _ _ _ (c .before .before .index .ensures) (omega arith) (c .before .loop .inv .0) refl
 
 pub set-key-spec : {M : Type 1} → statement M
 set-key-spec =

@@ -1,4 +1,6 @@
 -- Each test is the definition's.
+use mathlib.Core.Path.{ap₂}
+use mathlib.Core.Bool.{_&&_}
 use Rattle.positions.specs.Moves.{squaresOf}
 use borrow.Author.Needs.{needs}
 use Rattle.positions.proofs.moves.Move.on_board.Statement.{statement}
@@ -15,7 +17,7 @@ squares-only-requires c κs = search needs
 
 returns : tie.Need-returns
 unfolding squaresOf
-returns c = cc
+returns c = ap₂ _&&_ (c .before .before .is-square .ensures) (ap₂ _&&_ (c .before .is-square2 .ensures) (c .squares-only .ensures))
 
 pub on-board-spec : {M : Type 1} → statement M
 on-board-spec =

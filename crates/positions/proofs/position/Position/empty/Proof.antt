@@ -1,4 +1,7 @@
 -- The board without the two colours.
+use mathlib.Core.Path.{ap, _∙_}
+use Rattle.squares.specs.Sets.{without}
+use Rattle.squares.specs.Squares.{all}
 use Rattle.positions.specs.Boards.{empty}
 use borrow.Author.Needs.{needs}
 use Rattle.positions.proofs.position.Position.empty.Statement.{statement}
@@ -12,7 +15,7 @@ not-requires c κs = search needs
 
 returns : tie.Need-returns
 unfolding empty
-returns c = cc
+returns c = c .not .ensures ∙ ap (without all) (c .before .occupied .ensures)
 
 pub empty-spec : {M : Type 1} → statement M
 empty-spec = tie.close (tie.spec occupied-requires not-requires returns)

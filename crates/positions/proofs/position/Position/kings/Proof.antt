@@ -1,4 +1,7 @@
 -- The colour's pieces that are marked.
+use mathlib.Core.Path.{ap}
+use Prim.Native.Nat.{ℕ}
+use lib.Bits.{bitAnd}
 use borrow.Author.Needs.{needs}
 use Rattle.positions.proofs.position.Position.kings.Statement.{statement}
 use Rattle.positions.proofs.position.Position.kings.Tie as tie
@@ -7,7 +10,7 @@ pieces-requires : tie.Need-pieces-requires
 pieces-requires c κs = search needs
 
 returns : tie.Need-returns
-returns c = cc
+returns c = ap (λ (s : ℕ). bitAnd s (c .before .before .args .self .kings)) (c .before .pieces .ensures)
 
 pub kings-spec : {M : Type 1} → statement M
 kings-spec = tie.close (tie.spec pieces-requires returns)
