@@ -1,5 +1,11 @@
 -- The two loops one after the other, from nothing found.
-use Rattle.movegen.specs.Generate.{captureMovesOf}
+use mathlib.Core.Path.{ap, _∙_}
+use Rattle.captures.specs.Kings.{kingsCapturesOf}
+use Rattle.captures.specs.Men.{menCapturesOf}
+use Rattle.captures.specs.declared.movegen.Captures.{Captures}
+use Rattle.captures.specs.declared.moves.MoveList.{MoveList}
+use Rattle.quiets.specs.Quiets.{listing}
+use Rattle.movegen.specs.Generate.{listingOf, captureMovesOf}
 use borrow.Author.Needs.{needs}
 use Rattle.movegen.proofs.movegen.capture_moves.Statement.{statement}
 use Rattle.movegen.proofs.movegen.capture_moves.Tie as tie
@@ -18,7 +24,15 @@ list-requires c κs = search needs
 
 returns : tie.Need-returns
 unfolding captureMovesOf
-returns c = cc
+returns c =
+    let k = c .before in
+    let m = k .before in
+    let a = m .before .before .args in
+    ap (λ (l : MoveList). listing l (k .kings-captures .result .overflow)) (c .list .ensures)
+    ∙ ap listingOf
+    (k .kings-captures .ensures
+    ∙ ap (λ (s : Captures). kingsCapturesOf s (a .kings) (a .empty))
+    (m .men-captures .ensures ∙ ap (λ (s : Captures). menCapturesOf s (a .men) (a .empty)) (m .before .new .ensures)))
 
 pub capture-moves-spec : {M : Type 1} → statement M
 capture-moves-spec =
