@@ -1,4 +1,6 @@
 -- Each test is the definition's.
+use mathlib.Core.Path.{ap₂}
+use mathlib.Core.Bool.{_||_}
 use Rattle.captures.specs.Walks.{anyUpTo}
 use Rattle.quiets.specs.Tests.{hasCaptureOf}
 use borrow.Author.Needs.{needs}
@@ -22,7 +24,11 @@ kings-open-requires c κs = search needs
 
 returns : tie.Need-returns
 unfolding hasCaptureOf anyUpTo
-returns c = cc
+returns c =
+    let d = c .before .before in
+    let m = d .before in
+    ap₂ _||_ (ap₂ _||_ (ap₂ _||_ (ap₂ _||_ (m .before .men-jump .ensures) (m .men-jump2 .ensures)) (d .men-jump3 .ensures)) (c .before .men-jump4 .ensures))
+    (c .kings-open .ensures)
 
 pub has-capture-spec : {M : Type 1} → statement M
 has-capture-spec =

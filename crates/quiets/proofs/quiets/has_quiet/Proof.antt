@@ -1,7 +1,10 @@
 -- Each test is the definition's; a man's directions are the first two from `forward` on.
+use mathlib.Core.Path.{sym, ap, ap₂, _∙_}
+use mathlib.Core.Bool.{_||_}
+use Prim.Native.Nat.{ℕ, _+_}
 use native.Mathlib.Omega.{arith}
 use Rattle.captures.specs.Walks.{anyUpTo}
-use Rattle.quiets.specs.Tests.{hasQuietOf}
+use Rattle.quiets.specs.Tests.{stepsOpen, hasQuietOf}
 use Rattle.quiets.proofs.Forward.{forward-le, plus-zero}
 use borrow.Author.Needs.{needs}
 use Rattle.quiets.proofs.quiets.has_quiet.Statement.{statement}
@@ -33,7 +36,15 @@ steps-requires-6 c κs = search needs
 
 returns : tie.Need-returns
 unfolding hasQuietOf anyUpTo
-returns c = cc (plus-zero (c .before .before .before .before .before .before .before .args .side))
+returns c =
+    let k = c .before .before .before in
+    let s = k .before .before in
+    let a = s .before .before .args in
+    let first = s .before .forward .ensures in
+    ap₂ _||_
+    (ap₂ _||_ (s .steps .ensures ∙ ap (stepsOpen (a .men) (a .empty)) (first ∙ sym (plus-zero (a .side))))
+    (k .before .steps2 .ensures ∙ ap (λ (d : ℕ). stepsOpen (a .men) (a .empty) (d + 1)) first))
+    (ap₂ _||_ (ap₂ _||_ (ap₂ _||_ (k .steps3 .ensures) (c .before .before .steps4 .ensures)) (c .before .steps5 .ensures)) (c .steps6 .ensures))
 
 pub has-quiet-spec : {M : Type 1} → statement M
 has-quiet-spec =
