@@ -54,10 +54,6 @@ module _ {A : Type 0} (jumps : A → List A) where
       (good : (x y : A) → Good x → Member y (jumps x) → Good y)
       (grows : (x y : A) → Good x → Member y (jumps x) → size y ≡ suc (size x))
       (falls : (x y : A) → Good x → Member y (jumps x) → left y < left x) where
-    pub from-good : {x z : A} → From x z → Good x → Good z
-    from-good stop g = g
-    from-good (jump {x = x} {y = y} m r) g = from-good r (good x y g m)
-
     pub from-size : {x z : A} → From x z → Good x → size x ≤ size z
     from-size stop g = omega arith
     from-size (jump {x = x} {y = y} m r) g = omega (arith, grows x y g m, from-size r (good x y g m))
