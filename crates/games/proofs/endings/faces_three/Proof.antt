@@ -18,7 +18,10 @@ count-requires c κs = search needs
 
 returns : tie.Need-returns
 unfolding facesThree
-returns c = cc
+returns c =
+    let p = c .before in
+    let n = p .before in
+    rw (n .before .lone-king .ensures, c .count .ensures, p .pieces .ensures, n .not .ensures)
 
 pub faces-three-spec : {M : Type 1} → statement M
 faces-three-spec =

@@ -21,7 +21,11 @@ kings-requires-2 c κs = search needs
 
 returns : tie.Need-returns
 unfolding loneKing
-returns c = cc
+returns c =
+    let n = c .before in
+    let k = n .before in
+    let s = k .before in
+    rw (s .count .ensures, s .before .pieces .ensures, k .kings .ensures, c .kings2 .ensures, n .not .ensures)
 
 pub lone-king-spec : {M : Type 1} → statement M
 lone-king-spec =
