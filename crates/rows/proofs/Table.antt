@@ -31,6 +31,7 @@ use Rattle.texts.proofs.Rows.{bytes}
 use Rattle.games.specs.Computed as games
 use Rattle.games.specs.Games.{won}
 use Rattle.games.specs.Play.{outcomeOf}
+use Rattle.games.specs.declared.game.Begun.{Begun}
 use Rattle.games.specs.declared.game.Judged.{Judged}
 use Rattle.gametexts.specs.Texts.{gameFromFenOf}
 use Rattle.notation.specs.Choice.{parseMoveOf}
@@ -54,7 +55,7 @@ pub data Row : Type 0 where
   after : String → Move → Placed → Row
   -- the score with the usual weights
   score : String → Scored → Row
-  -- the outcome of the game begun from it
+  -- the game that it begins, without refusal, has this outcome
   ends : String → Judged → Row
 
 -- the number and the square of a refusal; 0 and 0 where there is none
@@ -67,6 +68,10 @@ abbrev of : Placed → (Position → Type 0) → Type 0
 of (placed.Position p) P = P p
 of (placed.Refused e) P = ⊥
 
+-- begun without refusal, and of that outcome: a refused new game is the empty board's, which has an outcome too
+abbrev begins : Begun → Judged → Type 0
+begins b a = (b .answer ≡ answer.Done) × (outcomeOf (b .game) ≡ a)
+
 abbrev read : String → Placed
 read t = fromFenOf (bytes t)
 
@@ -78,7 +83,7 @@ Holds (paths t depth a) = of (read t) (λ p. perftOf p depth ≡ a)
 Holds (means t m a) = of (read t) (λ p. parseMoveOf p (bytes m) ≡ a)
 Holds (after t m a) = of (read t) (λ p. afterOf p m ≡ a)
 Holds (score t a) = of (read t) (λ p. evaluateOf default p ≡ a)
-Holds (ends t a) = outcomeOf (gameFromFenOf (bytes t) .game) ≡ a
+Holds (ends t a) = begins (gameFromFenOf (bytes t)) a
 
 abbrev pub All : List Row → Type 0
 All [] = Unit
@@ -144,7 +149,7 @@ pub table : All p1 × All p2-p5 × All p6-p9 × All p10-p11 × All p12
 unfolding scores.computed notation.computed games.computed gameFromFenOf
 table = (
   (refl, (refl, (refl, tt))),
-  (refl, (refl, (refl, (refl, (refl, (refl, (refl, tt))))))),
+  (refl, ((refl, refl), (refl, (refl, (refl, (refl, (refl, tt))))))),
   (refl, (refl, (refl, (refl, (refl, (refl, tt)))))),
   (refl, (refl, (refl, (refl, tt)))),
   (refl, tt),
