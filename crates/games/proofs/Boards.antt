@@ -5,7 +5,7 @@ use native.Mathlib.Omega.{arith}
 use mathlib.Core.Bool.{Bool, true, false, cond}
 use mathlib.Core.List.{List, [], _∷_, _++_, map}
 use Rattle.positions.specs.Boards.{Board, boardOf, sameBoard}
-use Rattle.positions.specs.Measure.{Smaller, fewer, nearer, Level}
+use Rattle.positions.specs.Measure.{Smaller}
 use Rattle.positions.specs.declared.position.Position.{Position}
 use Rattle.positions.proofs.Measures.{not-smaller}
 use Rattle.positions.proofs.Records.{same-board}
@@ -44,21 +44,6 @@ module _ (claim : Board → Type 0) where
   unfolding Each
   each-from other f [] a = tt
   each-from other f (p ∷ l) a = (f p (a .0), each-from other f l (a .1))
-
--- ---- measures
-pub level-refl : (b : Board) → Level b b
-level-refl b = record { pieces = refl; rows = refl }
-
-pub level-trans : {a b c : Board} → Level a b → Level b c → Level a c
-level-trans v w = record { pieces = v .pieces ∙ w .pieces; rows = v .rows ∙ w .rows }
-
-pub smaller-level : {a b c : Board} → Smaller a b → Level b c → Smaller a c
-smaller-level (fewer h) v = fewer (omega (arith, v .pieces))
-smaller-level (nearer e h) v = nearer (e ∙ v .pieces) (omega (arith, v .rows))
-
-pub level-smaller : {a b c : Board} → Level a b → Smaller b c → Smaller a c
-level-smaller v (fewer h) = fewer (omega (arith, v .pieces))
-level-smaller v (nearer e h) = nearer (v .pieces ∙ e) (omega (arith, v .rows))
 
 -- ---- how often a board stands
 pub times-append : (p : Board) (xs ys : List Board) → timesIn p (xs ++ ys) ≡ timesIn p xs + timesIn p ys

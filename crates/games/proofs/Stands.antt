@@ -20,7 +20,7 @@ use Rattle.positions.specs.Successor.{Playable}
 use Rattle.positions.specs.declared.moves.Move.{Move}
 use Rattle.positions.specs.declared.position.Position.{Position}
 use Rattle.positions.proofs.Accepts.{sound-says}
-use Rattle.positions.proofs.Measures.{smaller-trans}
+use Rattle.positions.proofs.Measures.{level-refl, level-trans, smaller-level, level-smaller, smaller-trans}
 use Rattle.rules.specs.Rules.{Legal}
 use Rattle.rules.proofs.Laws.{fair-of-accepted, legal-playable}
 use Rattle.games.specs.Book.{Tally, Book, tallyOf, lastIn, standing, begunBook, timesIn, firstToHold, testsAt, bookOutcome, takes, isPromotion, tallied, reached, bookPlayed}
@@ -29,7 +29,7 @@ use Rattle.games.specs.Games.{windowOf, lastOf, valid, stood, irreversib
 use Rattle.games.specs.declared.game.Termination.the-variants.{Repetition, TwentyFiveMoves}
 use Rattle.games.specs.Play.{aloneOf, freshOf, appendedOf, movedOf}
 use Rattle.games.specs.declared.game.Game.{Game}
-use Rattle.games.proofs.Boards.{last-snoc, Each, each-none, each-one, each-append, each-from, level-refl, level-trans, smaller-level, level-smaller, times-append, times-none, times-boards}
+use Rattle.games.proofs.Boards.{last-snoc, Each, each-none, each-one, each-append, each-from, times-append, times-none, times-boards}
 use Rattle.games.proofs.Moves.{man-agrees, promotion-agrees, taking-agrees, men-add, kings-add, Measured, falls, stays, measured}
 use Rattle.games.proofs.Tests.{outcome-agrees}
 use Rattle.games.proofs.Valid.{valid-says, material-fits, alone-window, alone-last, alone-long, alone-first, alone-second, alone-valid, more-window, more-last, more-long, more-first, more-second, more-valid}

@@ -5,21 +5,16 @@ use native.Mathlib.Omega.{arith}
 use native.Mathlib.Numerals.{add-one}
 use mathlib.Core.Bool.{Bool, true, false, cond, false≢true}
 use mathlib.Core.List.{List, [], _∷_, _++_}
-use lib.Dec.{leb}
 use lib.ListN.{length, take, getD, set, replicate}
 use lib.Seq.{append-snoc, set-at, take-suc, length-take-le}
-use borrow.Author.Tests.{leb-false}
-use Rattle.squares.specs.Pieces.{other}
 use Rattle.squares.proofs.Bools.{and-left, and-right, not-so}
 use Rattle.positions.specs.Acceptance.{sound}
-use Rattle.positions.specs.Boards.{Board}
 use Rattle.positions.specs.declared.position.Position.{Position}
 use Rattle.rules.specs.Lists.{times}
 use Rattle.rules.proofs.Times.{times-append, times-one}
-use Rattle.games.specs.Games.{blankPosition, windowOf, lastOf, allSound, samePosition, canMove, won, drawn, kingEnding, judge, ended}
+use Rattle.games.specs.Games.{blankPosition, windowOf, lastOf, allSound, samePosition}
 use Rattle.games.specs.declared.game.Game.{Game}
 use Rattle.games.proofs.Valid.{Valid, sound-append, sound-one}
-use Rattle.games.specs.declared.game.Termination.the-variants.{Repetition, TwentyFiveMoves}
 
 -- ---- the kept positions are sound
 
@@ -85,16 +80,3 @@ fill-last b v n l e h =
     let m : n ≤ length l = omega arith in
     let k : 51 - (n + 1) ≡ 50 - n = omega arith in
     fill-step b v 51 n (take n l) (length-take-le n l m) (omega arith) ∙ rw k
-
--- ---- a game that goes on has room for one more position
-
-pub going-below : (b : Board) (n reversible material : ℕ) → ended (judge b n reversible material) ≡ false → reversible < 50
-unfolding judge
-going-below b n reversible material h = leb-false _ _ (go (canMove b) (leb 3 n) (leb 50 reversible) h)
-  where
-    go : (c t r : Bool)
-        → ended (cond c (cond t (drawn Repetition) (cond r (drawn TwentyFiveMoves) (kingEnding b material))) (won (other (b .side)))) ≡ false → r ≡ false
-    go true false true e = e
-    go true false false e = refl
-    go true true r e = absurd (false≢true (sym e))
-    go false t r e = absurd (false≢true (sym e))

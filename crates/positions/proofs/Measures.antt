@@ -82,6 +82,32 @@ module _ (b : Board) (m : Move) (a : Accepted b) (y : Playable b m) where
   pub king-stays : m .captured ≡ 0 → has (b .kings) (bitOf (m .from)) ≡ true → Level (successor b m) b
   king-stays e q = record { pieces = stay e; rows = rw (successor-is b m y) (king-at (b .white) (b .black) (b .kings) (b .side) m a y e q) }
 
+-- ---- boards by their measure
+pub level-refl : (b : Board) → Level b b
+level-refl b = record { pieces = refl; rows = refl }
+
+pub level-trans : {a b c : Board} → Level a b → Level b c → Level a c
+level-trans v w = record { pieces = v .pieces ∙ w .pieces; rows = v .rows ∙ w .rows }
+
+pub smaller-level : {a b c : Board} → Smaller a b → Level b c → Smaller a c
+smaller-level (fewer h) v = fewer (omega (arith, v .pieces))
+smaller-level (nearer e h) v = nearer (e ∙ v .pieces) (omega (arith, v .rows))
+
+pub level-smaller : {a b c : Board} → Level a b → Smaller b c → Smaller a c
+level-smaller v (fewer h) = fewer (omega (arith, v .pieces))
+level-smaller v (nearer e h) = nearer (v .pieces ∙ e) (omega (arith, v .rows))
+
+pub smaller-trans : {a b c : Board} → Smaller a b → Smaller b c → Smaller a c
+smaller-trans (fewer h) (fewer l) = fewer (omega arith)
+smaller-trans (fewer h) (nearer e l) = fewer (omega arith)
+smaller-trans (nearer e h) (fewer l) = fewer (omega arith)
+smaller-trans (nearer e h) (nearer d l) = nearer (e ∙ d) (omega arith)
+
+-- equal boards have equal measures
+pub not-smaller : {a b : Board} → a ≡ b → Smaller a b → ⊥
+not-smaller e (fewer h) = omega (arith, ap piecesOn e)
+not-smaller e (nearer d h) = omega (arith, ap rowsAhead e)
+
 -- ---- a number of moves
 pub data Line : Board → Board → Type 0 where
   done : {b : Board} → Line b b
@@ -97,25 +123,6 @@ unfoldable pub Reversible : {b e : Board} → Line b e → Type 0
 Reversible done = Unit {0}
 Reversible (then m y p l) = Quiet p × Reversible l
 
-smaller-level : {a b c : Board} → Smaller a b → Level b c → Smaller a c
-smaller-level (fewer h) v = fewer (omega (arith, v .pieces))
-smaller-level (nearer e h) v = nearer (e ∙ v .pieces) (omega (arith, v .rows))
-
-level-smaller : {a b c : Board} → Level a b → Smaller b c → Smaller a c
-level-smaller v (fewer h) = fewer (omega (arith, v .pieces))
-level-smaller v (nearer e h) = nearer (v .pieces ∙ e) (omega (arith, v .rows))
-
-pub smaller-trans : {a b c : Board} → Smaller a b → Smaller b c → Smaller a c
-smaller-trans (fewer h) (fewer l) = fewer (omega arith)
-smaller-trans (fewer h) (nearer e l) = fewer (omega arith)
-smaller-trans (nearer e h) (fewer l) = fewer (omega arith)
-smaller-trans (nearer e h) (nearer d l) = nearer (e ∙ d) (omega arith)
-
--- equal boards have equal measures
-pub not-smaller : {a b : Board} → a ≡ b → Smaller a b → ⊥
-not-smaller e (fewer h) = omega (arith, ap piecesOn e)
-not-smaller e (nearer d h) = omega (arith, ap rowsAhead e)
-
 -- the measure after a ply: level at a quiet king move, else smaller
 pub ply-measure : (b : Board) (m : Move) → Accepted b → Playable b m → Ply b m → Smaller (successor b m) b ⊎ Level (successor b m) b
 ply-measure b m a y (capture h) = inl (fewer (capture-falls b m a y h))
@@ -125,7 +132,7 @@ ply-measure b m a y (king e q) = inr (king-stays b m a y e q)
 -- nothing but reversible plies, or the measure has fallen
 fallen : {b e : Board} → Accepted b → (l : Line b e) → (Reversible l × Level e b) ⊎ Smaller e b
 unfolding Reversible Quiet
-fallen a done = inl (tt, record { pieces = refl; rows = refl })
+fallen {b} a done = inl (tt, level-refl b)
 fallen {b} {e} a (then m y p l) = step p (fallen (successor-accepted b m a y) l)
   where
     step : (p : Ply b m) → (Reversible l × Level e (successor b m)) ⊎ Smaller e (successor b m) → ((Quiet p × Reversible l) × Level e b) ⊎ Smaller e b
@@ -133,9 +140,7 @@ fallen {b} {e} a (then m y p l) = step p (fallen (successor-accepted b m a y) l)
     step (capture h) (inr s) = inr (smaller-trans s (fewer (capture-falls b m a y h)))
     step (man c q h) (inl r) = let f = man-falls b m a y c q h in inr (level-smaller (r .1) (nearer (f .0) (f .1)))
     step (man c q h) (inr s) = let f = man-falls b m a y c q h in inr (smaller-trans s (nearer (f .0) (f .1)))
-    step (king c q) (inl r) =
-        let v = king-stays b m a y c q in
-        inl ((tt, r .0), record { pieces = r .1 .pieces ∙ v .pieces; rows = r .1 .rows ∙ v .rows })
+    step (king c q) (inl r) = inl ((tt, r .0), level-trans (r .1) (king-stays b m a y c q))
     step (king c q) (inr s) = inr (smaller-level s (king-stays b m a y c q))
 
 -- a board that comes back had only reversible plies between

@@ -4,9 +4,11 @@ use Prim.Native.String.{String}
 use mathlib.Core.Path.{_≡_, refl}
 use mathlib.Core.List.{List, [], _∷_}
 use lib.IntN.{pos}
+use lib.ListN.{replicate}
 use Rattle.squares.specs.Refusals.{numberOf, squareOf}
 use Rattle.squares.specs.Squares.{single}
 use Rattle.squares.specs.declared.piece.Color.the-variants.{White, Black}
+use Rattle.squares.specs.declared.refusal.Refusal.{Refusal}
 use Rattle.squares.specs.declared.refusal.Refusal.the-variants.{SeveralFit, TooManyMoves}
 use Rattle.squares.specs.declared.refusal.Answer.the-variants as answer
 use Rattle.positions.specs.Boards.{Board, board}
@@ -26,13 +28,15 @@ use Rattle.movegen.specs.declared.movegen.Listed.{Listed}
 use Rattle.movegen.specs.declared.perft.Counted.{Counted}
 use Rattle.movegen.specs.declared.perft.Counted.the-variants.{Count}
 use Rattle.scores.specs.Computed as scores
+use Rattle.texts.specs.Bytes.{bytes}
 use Rattle.texts.specs.Fen.{fromFenOf}
-use Rattle.texts.proofs.Rows.{bytes}
 use Rattle.games.specs.Computed as games
-use Rattle.games.specs.Games.{won}
-use Rattle.games.specs.Play.{outcomeOf}
+use Rattle.games.specs.Games.{blankPosition, won}
+use Rattle.games.specs.Play.{notBegun, newOf, outcomeOf}
 use Rattle.games.specs.declared.game.Begun.{Begun}
+use Rattle.games.specs.declared.game.Game.{Game}
 use Rattle.games.specs.declared.game.Judged.{Judged}
+use Rattle.games.specs.declared.game.Judged.the-variants.{Going}
 use Rattle.gametexts.specs.Texts.{gameFromFenOf}
 use Rattle.notation.specs.Choice.{parseMoveOf}
 use Rattle.notation.specs.Computed as notation
@@ -111,7 +115,8 @@ abbrev pub p1 : List Row
 p1 =
     reads "W:W31-50:B1-20" (placed.Position initialOf)
     ∷ moves "W:W31-50:B1-20" 256 (these (goes 31 26 ∷ goes 32 27 ∷ goes 33 28 ∷ goes 34 29 ∷ goes 35 30 ∷ goes 31 27 ∷ goes 32 28 ∷ goes 33 29 ∷ goes 34 30 ∷ []))
-    ∷ paths "W:W31-50:B1-20" 2 (Count 81) ∷ []
+    ∷ paths "W:W31-50:B1-20" 2 (Count 81)
+    ∷ ends "W:W31-50:B1-20" Going ∷ []
 
 abbrev pub p2-p5 : List Row
 p2-p5 =
@@ -148,9 +153,17 @@ p12 = score "W:WK28,K32,33:BK1" (scored.Score (pos 50)) ∷ []
 pub table : All p1 × All p2-p5 × All p6-p9 × All p10-p11 × All p12
 unfolding scores.computed notation.computed games.computed gameFromFenOf
 table = (
-  (refl, (refl, (refl, tt))),
+  (refl, (refl, (refl, ((refl, refl), tt)))),
   (refl, ((refl, refl), (refl, (refl, (refl, (refl, (refl, tt))))))),
   (refl, (refl, (refl, (refl, (refl, (refl, tt)))))),
   (refl, (refl, (refl, (refl, tt)))),
   (refl, tt),
 )
+
+-- P2's board is also what a refused new game is begun from: 51 blank positions, number 1, counters 0
+abbrev blankGame : Game
+blankGame = record { kept = replicate 51 blankPosition; len = 1; reversible = 0; material = 0 }
+
+pub not-begun : (e : Refusal) → (newOf (positionOf (board 0 0 0 White)) .game ≡ blankGame) × (notBegun e .game ≡ blankGame)
+unfolding games.computed
+not-begun e = (refl, refl)

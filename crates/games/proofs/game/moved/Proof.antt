@@ -18,8 +18,8 @@ next-requires c κs = search needs
 enum-known-e : tie.Need-enum-known-e
 enum-known-e c = search needs
 
-refused-requires : tie.Need-refused-requires
-refused-requires c κs = search needs
+not-played-requires : tie.Need-not-played-requires
+not-played-requires c κs = search needs
 
 returns : tie.Need-returns
 returns c =
@@ -29,7 +29,7 @@ returns c =
 returns-2 : tie.Need-returns-2
 returns-2 c =
     let a = c .before .before .before .before in
-    rw (← a .before .last .ensures, ← a .after .ensures, c .before .before .e .given .1) (c .refused .ensures)
+    rw (← a .before .last .ensures, ← a .after .ensures, c .before .before .e .given .1) (c .not-played .ensures)
 
 pub moved-spec : {M : Type 1} → statement M
 moved-spec =
@@ -40,6 +40,6 @@ moved-spec =
     enum-known-q
     next-requires
     enum-known-e
-    refused-requires
+    not-played-requires
     returns
     returns-2)

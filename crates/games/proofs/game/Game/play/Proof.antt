@@ -3,7 +3,7 @@ use mathlib.Core.Path.{sym, _∙_}
 use Rattle.positions.specs.Boards.{boardOf}
 use Rattle.games.specs.Games.{lastOf, stood, judgedOf}
 use Rattle.games.specs.Play.{playOf}
-use Rattle.games.proofs.Window.{going-below}
+use Rattle.games.proofs.Stands.{room}
 use borrow.Author.Needs.{needs}
 use Rattle.games.proofs.game.Game.play.Statement.{statement}
 use Rattle.games.proofs.game.Game.play.Tie as tie
@@ -19,8 +19,8 @@ has-ended-requires c κs =
     let v = c .before .before in
     sym (v .before .valid .ensures) ∙ v .if1 .taken
 
-refused-requires : tie.Need-refused-requires
-refused-requires c κs = search needs
+not-played-requires : tie.Need-not-played-requires
+not-played-requires c κs = search needs
 
 returns : tie.Need-returns
 unfolding playOf
@@ -29,7 +29,7 @@ returns c =
     let b = h .before in
     let v = b .before .before in
     rw (sym (v .before .valid .ensures) ∙ v .if1 .taken, sym (b .before .on-board .ensures) ∙ b .if2 .taken, sym (h .has-ended .ensures) ∙ c .before .if3 .taken)
-    (c .refused .ensures)
+    (c .not-played .ensures)
 
 moved-requires : tie.Need-moved-requires
 unfolding judgedOf
@@ -38,7 +38,7 @@ moved-requires c κs =
     let v = h .before .before .before in
     let g = v .before .before .args .self in (
       sym (v .before .valid .ensures) ∙ v .if1 .taken,
-      going-below (boardOf (lastOf g)) (stood g) (g .reversible) (g .material) (sym (h .has-ended .ensures) ∙ c .if3 .left),
+      room (boardOf (lastOf g)) (stood g) (g .reversible) (g .material) (sym (h .has-ended .ensures) ∙ c .if3 .left),
     )
 
 returns-2 : tie.Need-returns-2
@@ -50,22 +50,22 @@ returns-2 c =
     rw (sym (v .before .valid .ensures) ∙ v .if1 .taken, sym (b .before .on-board .ensures) ∙ b .if2 .taken, sym (h .has-ended .ensures) ∙ c .before .if3 .left)
     (c .moved .ensures)
 
-refused-requires-2 : tie.Need-refused-requires-2
-refused-requires-2 c κs = search needs
+not-played-requires-2 : tie.Need-not-played-requires-2
+not-played-requires-2 c κs = search needs
 
 returns-3 : tie.Need-returns-3
 unfolding playOf
 returns-3 c =
     let b = c .before .before in
     let v = b .before in
-    rw (sym (v .before .valid .ensures) ∙ v .if1 .taken, sym (b .on-board .ensures) ∙ c .before .if2 .left) (c .refused2 .ensures)
+    rw (sym (v .before .valid .ensures) ∙ v .if1 .taken, sym (b .on-board .ensures) ∙ c .before .if2 .left) (c .not-played2 .ensures)
 
-refused-requires-3 : tie.Need-refused-requires-3
-refused-requires-3 c κs = search needs
+not-played-requires-3 : tie.Need-not-played-requires-3
+not-played-requires-3 c κs = search needs
 
 returns-4 : tie.Need-returns-4
 unfolding playOf
-returns-4 c = rw (sym (c .before .before .valid .ensures) ∙ c .before .if1 .left) (c .refused3 .ensures)
+returns-4 c = rw (sym (c .before .before .valid .ensures) ∙ c .before .if1 .left) (c .not-played3 .ensures)
 
 pub play-spec : {M : Type 1} → statement M
 play-spec =
@@ -74,11 +74,11 @@ play-spec =
     valid-requires
     on-board-requires
     has-ended-requires
-    refused-requires
+    not-played-requires
     returns
     moved-requires
     returns-2
-    refused-requires-2
+    not-played-requires-2
     returns-3
-    refused-requires-3
+    not-played-requires-3
     returns-4)
