@@ -89,8 +89,10 @@ def begun(oracle, line):
 
 
 def played(oracle, line):
-    """The answer to a `play` whose texts have no bad escape; those that are well-formed are of plain squares."""
+    """The answer to a `play` whose position is accepted."""
     game, words = begun(oracle, line)
+    if None in map(rule.undone, words):
+        return BAD
     out = b"ok"
     for word in words:
         said = oracle.one(b"parse W:W32 " + word)

@@ -233,10 +233,22 @@ def after(oracle, fen, move):
     return told + b" " + oracle.one(b"hash " + told[3:])[3:]
 
 
-def fitting(moves, text):
-    """The listed moves that a well-formed text of plain squares means (document 01, notation.rs)."""
+ESCAPE = rb"\\(?:([\\strn])|x([+0-9A-Fa-f][0-9A-Fa-f]))"
+
+
+def undone(word):
+    """The text of a word with its escapes undone, or None where one of them is none; a sign is read as Rust reads it."""
+    if b"\\" in re.sub(ESCAPE, b"", word):
+        return None
+    plain = {b"\\": b"\\", b"s": b" ", b"t": b"\t", b"r": b"\r", b"n": b"\n"}
+    return re.sub(ESCAPE, lambda m: plain[m[1]] if m[1] else bytes([int(m[2], 16)]), word)
+
+
+def fitting(moves, word):
+    """The listed moves that the word of a well-formed text means (document 01, notation.rs)."""
+    text = undone(word).strip(b"\t\n\x0b\x0c\r ")
     capture = b"x" in text
-    squares = [int(n) for n in re.split(rb"[-x]", text.replace(b"\\s", b""))]
+    squares = [int(n) for n in re.split(rb"[-x]", text)]
     moves = [m for m in moves if m[0] == squares[0] and (m[2] != 0) == capture]
     if len(squares) > 2:
         taken = 0

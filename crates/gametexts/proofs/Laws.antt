@@ -15,7 +15,6 @@ use Rattle.positions.specs.Hash.{positionOf}
 use Rattle.positions.specs.Moves.{squaresOf}
 use Rattle.positions.specs.Successor.{successor}
 use Rattle.positions.specs.declared.moves.Move.{Move}
-use Rattle.positions.specs.declared.position.Placed.the-variants as placed
 use Rattle.positions.specs.declared.position.Position.{Position}
 use Rattle.positions.proofs.Accepts.{says-sound}
 use Rattle.rules.specs.Ordered.{legal, listed}

@@ -1,6 +1,7 @@
 // What a line asks. Its first byte says of what: a of a position, b of a number, c of lent space, d of a move text, e of a
-// game, g of a list of records. Then come the entry's number and a number for it (d: the text; g: how many answers, how
-// many numbers, and these), and behind a semicolon what the answer begins with.
+// game, g of a list of records, h of a move text on a game, j of a FEN that begins a game. Then come the entry's number and a
+// number for it (d, h and j: the text; g: how many answers, how many numbers, and these), and behind a semicolon what the
+// answer begins with.
 use crate::given;
 use crate::show;
 use crate::show_games;
@@ -132,6 +133,8 @@ fn answer(s: &[u8], p: Position, m: Move, w: Classical, g: Game) {
         b'c' => of_space(entry, n, p, m),
         b'd' => show::found(notation::notation::parse_move(p, words::word(s, 1))),
         b'e' => of_game(entry, n, g, m),
+        b'h' => show_games::played(g, gametexts::game::play_str(g, words::word(s, 1))),
+        b'j' => show_games::begun(gametexts::game::from_fen(words::word(s, 1))),
         _ => of_list(s, p, entry, n),
     }
 }

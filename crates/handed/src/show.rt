@@ -186,7 +186,7 @@ fn blank(m: Move) -> bool {
 }
 
 // How many of the 256 entries are blank.
-fn blanks(list: MoveList) -> u64 {
+fn blank_moves(list: MoveList) -> u64 {
     let mut n: u64 = 0;
     let mut i: usize = 0;
     while i < 256 {
@@ -210,7 +210,7 @@ fn list(l: MoveList) {
     write(b", ");
     number(l.len as u64);
     write(b" moves, ");
-    number(blanks(l));
+    number(blank_moves(l));
     write(b" blank");
 }
 

@@ -34,7 +34,7 @@ fn equal(p: Position, q: Position) -> bool {
     p.same(q) & (p.hash == q.hash)
 }
 
-fn blanks(g: Game) -> u64 {
+fn blank_positions(g: Game) -> u64 {
     let mut n: u64 = 0;
     let mut i: usize = 0;
     while i < 51 {
@@ -65,7 +65,7 @@ fn same(g: Game, h: Game) -> bool {
 fn game(g: Game) {
     write_numbers(g.len, g.reversible, g.material);
     show::write(b", ");
-    show::number(blanks(g));
+    show::number(blank_positions(g));
     show::write(b" blank");
 }
 

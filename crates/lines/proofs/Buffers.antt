@@ -13,7 +13,7 @@ use borrow.Rule.Slice.PartMut.{putMid, postOf, same-len-mid}
 use Rattle.texts.proofs.Cuts.{rest}
 use Rattle.texts.specs.Lent.{written}
 use Rattle.texts.proofs.Pieces.{written-length}
-use Rattle.requests.specs.Requests.{answerOf}
+use Rattle.requests.specs.Requests.{longest, answerOf}
 use Rattle.lines.specs.Lines.{wholeOf, openLine, carriedOf, lastAnswer}
 
 -- ---- a text t and a line feed at the place at of out, in the part of it that was lent
@@ -74,7 +74,7 @@ take-min n l = go (leb n (length l)) refl
         let h = leb-false n (length l) q in
         take-all (min n (length l)) l (omega arith) ∙ sym (take-all n l (omega arith))
 
-module _ (buf new : List ℕ) (used full r : ℕ) (in-buf : full ≤ length buf) (e : used ≡ wholeOf (take full buf)) (low : used ≤ full) (k : r ≡ min 65537 (full - used)) where
+module _ (buf new : List ℕ) (used full r : ℕ) (in-buf : full ≤ length buf) (e : used ≡ wholeOf (take full buf)) (low : used ≤ full) (k : r ≡ min (longest + 1) (full - used)) where
   kept-length : length (drop used (take full buf)) ≡ full - used
   kept-length = length-drop used (take full buf) ∙ ap (λ (n : ℕ). n - used) (length-take-le full buf in-buf)
 
@@ -88,8 +88,8 @@ module _ (buf new : List ℕ) (used full r : ℕ) (in-buf : full ≤ length buf)
   carried m =
       let z : used + r - used ≡ r = omega arith in
       let d = drop used (take full buf) in
-      let j : r ≡ min 65537 (length d) = omega (arith, kept-length) in
+      let j : r ≡ min (longest + 1) (length d) = omega (arith, kept-length) in
       ap (λ (n : ℕ). take n new) (sym z) ∙ m ∙ ap (λ (n : ℕ). take n (drop used buf)) z
       ∙ ap (take r) kept-part ∙ take-append-le r d (drop full buf) (omega (arith, kept-length))
-      ∙ ap (λ (n : ℕ). take n d) j ∙ take-min 65537 d
-      ∙ ap (λ (n : ℕ). take 65537 (drop n (take full buf))) e
+      ∙ ap (λ (n : ℕ). take n d) j ∙ take-min (longest + 1) d
+      ∙ ap (λ (n : ℕ). take (longest + 1) (drop n (take full buf))) e

@@ -1,5 +1,5 @@
 -- Whole lines and the line behind them, one after the other; what their answers are.
-use Prim.Native.Nat.{ℕ, zero, suc, _+_, _-_, _≤_, _<_}
+use Prim.Native.Nat.{ℕ, zero, suc, _+_, _≤_, _<_}
 use mathlib.Core.Path.{_≡_, refl, ap, sym, _∙_}
 use mathlib.Core.List.{List, [], _∷_, _++_, append-assoc}
 use mathlib.Core.Bool.{Bool, true, false, cond}
@@ -8,9 +8,9 @@ use lib.ListN.{length, take, drop, length-append}
 use lib.Seq.{take-all, length-take-le}
 use lib.Dec.{eqb, ltb, leb}
 use borrow.Author.Tests.{lt-ltb, leb-true, leb-false}
-use Rattle.texts.specs.Bytes.{is, indexOf, consHead}
+use Rattle.texts.specs.Bytes.{is, indexOf, consHead, partsAt}
 use Rattle.wording.specs.Output.{bad}
-use Rattle.requests.specs.Requests.{answerOf}
+use Rattle.requests.specs.Requests.{longest, answerOf}
 use Rattle.lines.specs.Lines.{linesOf, answersTo, outputOf, wholeOf}
 
 -- ---- how many bytes whole lines take
@@ -133,11 +133,11 @@ first-whole (b ∷ s) h = go (eqb b 10) refl h (first-whole s)
     go false e l i = let q = i (omega arith) in whole-cons b (take (suc (indexOf (is 10) s)) s) (omega (arith, q)) ∙ ap suc q
 
 lines-cons : (b : ℕ) (s : List ℕ) → linesOf (b ∷ s) ≡ cond (eqb b 10) ([] ∷ linesOf s) (consHead b (linesOf s))
-unfolding linesOf
+unfolding partsAt
 lines-cons b s = refl
 
 alone-line : (b : ℕ) → eqb b 10 ≡ true → linesOf (b ∷ []) ≡ [] ∷ []
-unfolding linesOf
+unfolding partsAt
 alone-line b e = rw e
 
 onto-line : (b : ℕ) (l : List ℕ) → consHead b (l ∷ []) ≡ (b ∷ l) ∷ []
@@ -172,7 +172,7 @@ module _ (t : List ℕ) (n : ℕ) (e : n ≡ indexOf (is 10) t) (h : n < length 
 
 -- ---- lines behind whole lines
 some-line : (c : ℕ) (t : List ℕ) → 0 < length (linesOf (c ∷ t))
-unfolding linesOf consHead
+unfolding partsAt consHead
 some-line c t = go (eqb c 10) (linesOf t)
   where
     go : (q : Bool) (l : List (List ℕ)) → 0 < length (cond q ([] ∷ l) (consHead c l))
@@ -187,7 +187,7 @@ front true b (f ∷ l) m h = refl
 front false b (f ∷ l) m h = refl
 
 lines-append : (t x : List ℕ) → wholeOf t ≡ length t → linesOf (t ++ x) ≡ linesOf t ++ linesOf x
-unfolding linesOf
+unfolding partsAt
 lines-append [] x e = refl
 lines-append (b ∷ []) x e = rw (feed-alone b e)
 lines-append (b ∷ (c ∷ t)) x e =
@@ -201,7 +201,7 @@ answers-append (a ∷ l) m =
     ap (λ (z : List ℕ). answerOf a ++ (10 ∷ z)) (answers-append l m) ∙ sym (append-assoc (answerOf a) (10 ∷ answersTo l) (answersTo m))
 
 pub output-nil : outputOf [] ≡ []
-unfolding outputOf answersTo linesOf
+unfolding outputOf answersTo partsAt
 output-nil = refl
 
 pub output-append : (t x : List ℕ) → wholeOf t ≡ length t → outputOf (t ++ x) ≡ outputOf t ++ outputOf x
@@ -253,30 +253,30 @@ lines-open (b ∷ (c ∷ t)) x e h =
     ∙ ap (consHead b) (lines-open (c ∷ t) x (o .0) (omega arith)) ∙ head-more b (c ∷ t) (linesOf x)
 
 pub open-output : (t : List ℕ) → wholeOf t ≡ 0 → 0 < length t → outputOf (t ++ []) ≡ answerOf t ++ (10 ∷ [])
-unfolding outputOf answersTo linesOf ontoHead
+unfolding outputOf answersTo partsAt ontoHead
 open-output t e h = ap answersTo (lines-open t [] e h)
 
 -- of a line that is too long, one byte too many is as good as all
-long-bad : (l : List ℕ) → 65536 < length l → answerOf l ≡ bad
+long-bad : (l : List ℕ) → longest < length l → answerOf l ≡ bad
 unfolding answerOf
-long-bad l h = rw (lt-ltb 65536 (length l) h)
+long-bad l h = rw (lt-ltb longest (length l) h)
 
-both-bad : (t u : List ℕ) (l : List (List ℕ)) → 65536 < length t → 65536 < length u → answersTo (ontoHead t l) ≡ answersTo (ontoHead u l)
+both-bad : (t u : List ℕ) (l : List (List ℕ)) → longest < length t → longest < length u → answersTo (ontoHead t l) ≡ answersTo (ontoHead u l)
 unfolding answersTo ontoHead
 both-bad t u [] g h = ap (λ (a : List ℕ). a ++ (10 ∷ [])) (long-bad t g ∙ sym (long-bad u h))
 both-bad t u (f ∷ l) g h =
     ap (λ (a : List ℕ). a ++ (10 ∷ answersTo l))
     (long-bad (t ++ f) (omega (arith, length-append t f)) ∙ sym (long-bad (u ++ f) (omega (arith, length-append u f))))
 
-pub kept-output : (t x : List ℕ) → wholeOf t ≡ 0 → outputOf (take 65537 t ++ x) ≡ outputOf (t ++ x)
+pub kept-output : (t x : List ℕ) → wholeOf t ≡ 0 → outputOf (take (longest + 1) t ++ x) ≡ outputOf (t ++ x)
 unfolding outputOf
-kept-output t x e = go (leb (length t) 65537) refl
+kept-output t x e = go (leb (length t) (longest + 1)) refl
   where
-    go : (q : Bool) → leb (length t) 65537 ≡ q → outputOf (take 65537 t ++ x) ≡ outputOf (t ++ x)
-    go true q = ap (λ (u : List ℕ). outputOf (u ++ x)) (take-all 65537 t (leb-true (length t) 65537 q))
+    go : (q : Bool) → leb (length t) (longest + 1) ≡ q → outputOf (take (longest + 1) t ++ x) ≡ outputOf (t ++ x)
+    go true q = ap (λ (u : List ℕ). outputOf (u ++ x)) (take-all (longest + 1) t (leb-true (length t) (longest + 1) q))
     go false q =
-        let h = leb-false (length t) 65537 q in
-        let k : length (take 65537 t) ≡ 65537 = length-take-le 65537 t (omega arith) in
-        ap answersTo (lines-open (take 65537 t) x (open-take 65537 t e) (omega (arith, k)))
-        ∙ both-bad (take 65537 t) t (linesOf x) (omega (arith, k)) (omega arith)
+        let h = leb-false (length t) (longest + 1) q in
+        let k : length (take (longest + 1) t) ≡ longest + 1 = length-take-le (longest + 1) t (omega arith) in
+        ap answersTo (lines-open (take (longest + 1) t) x (open-take (longest + 1) t e) (omega (arith, k)))
+        ∙ both-bad (take (longest + 1) t) t (linesOf x) (omega (arith, k)) (omega arith)
         ∙ ap answersTo (sym (lines-open t x e (omega arith)))

@@ -2,10 +2,9 @@
 use Prim.Native.Nat.{ℕ}
 use mathlib.Core.Path.{_≡_, refl}
 use mathlib.Core.List.{List, [], _∷_, _++_}
-use Rattle.wording.specs.Output.{bytes}
 use Rattle.requests.specs.Computed.{computed}
 use Rattle.lines.specs.Lines.{linesOf, answersTo, outputOf, wholeOf, wholeLines, openLine, carriedOf, lastAnswer, turnsOutput}
-use Rattle.texts.specs.Bytes.{consHead}
+use Rattle.texts.specs.Bytes.{bytes, consHead, partsAt}
 
 -- a text and its line feed
 abbrev line : List ℕ → List ℕ
@@ -13,15 +12,15 @@ line t = t ++ (10 ∷ [])
 
 -- an empty line is a line; the last one needs no line feed; behind the last line feed there is none
 lines-row : linesOf (line (bytes "ab") ++ (line [] ++ bytes "c")) ≡ bytes "ab" ∷ [] ∷ bytes "c" ∷ []
-unfolding linesOf consHead
+unfolding partsAt consHead
 lines-row = refl
 
 fed-row : linesOf (line (bytes "ab")) ≡ bytes "ab" ∷ []
-unfolding linesOf consHead
+unfolding partsAt consHead
 fed-row = refl
 
 none-row : linesOf [] ≡ []
-unfolding linesOf
+unfolding partsAt
 none-row = refl
 
 -- what is whole, and what is carried over
@@ -35,9 +34,9 @@ carried-row = refl
 
 -- two lines in three pieces
 output-row : outputOf (line (bytes "hub") ++ bytes "square 7") ≡ line (bytes "err 2 0") ++ line (bytes "ok 7 6 1")
-unfolding computed outputOf answersTo linesOf consHead
+unfolding computed outputOf answersTo partsAt consHead
 output-row = refl
 
 turns-row : turnsOutput [] (bytes "hu" ∷ (line (bytes "b") ++ bytes "squ") ∷ bytes "are 7" ∷ []) ≡ line (bytes "err 2 0") ++ line (bytes "ok 7 6 1")
-unfolding computed turnsOutput lastAnswer carriedOf openLine wholeLines wholeOf outputOf answersTo linesOf consHead
+unfolding computed turnsOutput lastAnswer carriedOf openLine wholeLines wholeOf outputOf answersTo partsAt consHead
 turns-row = refl

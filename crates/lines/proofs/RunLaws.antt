@@ -5,6 +5,7 @@ use mathlib.Core.List.{List, [], _∷_, _++_, append-assoc}
 use native.Mathlib.Omega.{arith}
 use lib.ListN.{length, take, drop, take-append-drop, length-drop}
 use lib.Seq.{drop-drop, length-take-le, take-length, take-append-add}
+use Rattle.requests.specs.Requests.{longest}
 use Rattle.lines.specs.Lines.{outputOf, wholeOf, wholeLines, openLine, carriedOf, lastAnswer, turnsOutput, together}
 use Rattle.lines.specs.Steps.{between, Answered}
 use Rattle.lines.specs.Runs as runs
@@ -18,7 +19,7 @@ whole-length s = whole-part s ∙ sym (length-take-le (wholeOf s) s (whole-le s)
 
 carried-open : (s : List ℕ) → wholeOf (carriedOf s) ≡ 0
 unfolding carriedOf openLine
-carried-open s = open-take 65537 (drop (wholeOf s) s) (open-part s)
+carried-open s = open-take (longest + 1) (drop (wholeOf s) s) (open-part s)
 
 carried-output : (s x : List ℕ) → outputOf (carriedOf s ++ x) ≡ outputOf (openLine s ++ x)
 unfolding carriedOf openLine

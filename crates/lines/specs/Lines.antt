@@ -1,18 +1,17 @@
 -- Lines of the input and what standard output is for them.
-use Prim.Native.Nat.{ℕ, suc}
+use Prim.Native.Nat.{ℕ, suc, _+_}
 use mathlib.Core.List.{List, [], _∷_, _++_}
 use mathlib.Core.Bool.{cond}
 use lib.Dec.{eqb, ltb}
 use lib.ListN.{take, drop}
-use Rattle.texts.specs.Bytes.{consHead}
-use Rattle.requests.specs.Requests.{answerOf}
+use Rattle.texts.specs.Bytes.{partsAt}
+use Rattle.requests.specs.Requests.{longest, answerOf}
 
 -- ---- a whole input
 
 -- the lines of some bytes: a line feed (10) ends a line; the last line may lack it; behind a line feed at the end there is no line
-unfoldable pub linesOf : List ℕ → List (List ℕ)
-linesOf [] = []
-linesOf (b ∷ s) = let rest = linesOf s in cond (eqb b 10) ([] ∷ rest) (consHead b rest)
+abbrev pub linesOf : List ℕ → List (List ℕ)
+linesOf s = partsAt 10 s
 
 -- the answer to each line, in order, a line feed behind each
 unfoldable pub answersTo : List (List ℕ) → List ℕ
@@ -37,9 +36,9 @@ wholeLines s = take (wholeOf s) s
 unfoldable pub openLine : List ℕ → List ℕ
 openLine s = drop (wholeOf s) s
 
--- what is carried over to the next turn: of a line of more than 65,536 bytes, which is a bad request, one byte more than those
+-- what is carried over to the next turn: of a line that is too long, and so a bad request, one byte more than the longest has
 unfoldable pub carriedOf : List ℕ → List ℕ
-carriedOf s = take 65537 (openLine s)
+carriedOf s = take (longest + 1) (openLine s)
 
 -- at the end of the input: the answer to the line that was carried over, if there is one
 unfoldable pub lastAnswer : List ℕ → List ℕ

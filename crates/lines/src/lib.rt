@@ -13,12 +13,12 @@ ghost use mathlib.Core.Path.{_≡_};
 ghost use mathlib.Core.List.{[], _∷_, _++_};
 ghost use Prim.Native.Nat.{_≤_, _<_, _-_, _+_, min};
 ghost use lib.ListN.{length, take, drop};
-ghost use Rattle.requests.specs.Requests.{answerOf};
+ghost use Rattle.requests.specs.Requests.{longest, answerRoom, answerOf};
 ghost use Rattle.lines.specs.Lines.{wholeOf, carriedOf, lastAnswer};
 ghost use Rattle.lines.specs.Steps.{Answered};
 
 // The room that is kept for an answer and its line feed: no answer is longer (law `answer-short`).
-const ROOM: usize = 1507328;
+const ROOM: usize = 23 * asked::LONGEST;
 
 // How far some lines were answered, and how many bytes the answers take.
 struct Step {
@@ -28,7 +28,7 @@ struct Step {
 
 // The answer to a line at a place of out, with its line feed; the place behind it.
 fn answer_at(line: &[u8], out: &mut [u8], at: usize) -> usize
-    requires { ⌜ at + 1507328 ≤ length (now out) ⌝ }
+    requires { ⌜ at + answerRoom ≤ length (now out) ⌝ }
     ensures { λ r. ⌜ r ≤ length (now (out .exit)) ⌝ }
     ensures { λ r. ⌜ take r (now (out .exit)) ≡ take at (now (out .entry)) ++ (answerOf (now (line .entry)) ++ (10 ∷ [])) ⌝ }
 {
@@ -39,7 +39,7 @@ fn answer_at(line: &[u8], out: &mut [u8], at: usize) -> usize
 
 // Answers whole lines from a place on, as long as there is room for any answer.
 fn answer_lines(s: &[u8], from: usize, out: &mut [u8]) -> Step
-    requires { ⌜ (from ≤ length (now s)) × (1507328 ≤ length (now out)) ⌝ }
+    requires { ⌜ (from ≤ length (now s)) × (answerRoom ≤ length (now out)) ⌝ }
     ensures { λ r. ⌜ Answered (now (s .entry)) from (now (out .exit)) (r .at) (r .put) ⌝ }
 {
     let mut at = from;
@@ -58,7 +58,7 @@ fn answer_lines(s: &[u8], from: usize, out: &mut [u8]) -> Step
 
 // At the end of the input: the answer to the last line, which has no line feed, if there is one.
 fn last_answer(line: &[u8], out: &mut [u8]) -> usize
-    requires { ⌜ 1507328 ≤ length (now out) ⌝ }
+    requires { ⌜ answerRoom ≤ length (now out) ⌝ }
     ensures { λ r. ⌜ r ≤ length (now (out .exit)) ⌝ }
     ensures { λ r. ⌜ take r (now (out .exit)) ≡ lastAnswer (now (line .entry)) ⌝ }
 {
@@ -82,7 +82,7 @@ fn shift(buf: &mut [u8], used: usize, full: usize)
 
 // How much is kept of a line that is not whole yet: of one that is too long, enough to say so.
 fn kept(n: usize) -> usize
-    ensures { λ r. ⌜ r ≡ min 65537 n ⌝ }
+    ensures { λ r. ⌜ r ≡ min (longest + 1) n ⌝ }
 {
     if asked::LONGEST < n {
         return asked::LONGEST + 1;
@@ -94,7 +94,7 @@ fn kept(n: usize) -> usize
 fn carry(buf: &mut [u8], used: usize, full: usize) -> usize
     requires { ⌜ full ≤ length (now buf) ⌝ }
     requires { ⌜ used ≡ wholeOf (take full (now buf)) ⌝ }
-    ensures { λ r. ⌜ r ≤ 65537 ⌝ }
+    ensures { λ r. ⌜ r ≤ longest + 1 ⌝ }
     ensures { λ r. ⌜ take r (now (buf .exit)) ≡ carriedOf (take full (now (buf .entry))) ⌝ }
 {
     let n = kept(full - used);
@@ -114,7 +114,7 @@ fn read_more(buf: &mut [u8], have: usize) -> usize
 
 // Writes the answers to the whole lines; how many bytes those take.
 fn write_answers(s: &[u8], out: &mut [u8]) -> usize
-    requires { ⌜ 1507328 ≤ length (now out) ⌝ }
+    requires { ⌜ answerRoom ≤ length (now out) ⌝ }
     ensures { λ r. ⌜ (r ≤ length (now (s .entry))) × (r ≡ wholeOf (now (s .entry))) ⌝ }
 {
     let mut at = 0;
@@ -130,7 +130,7 @@ fn write_answers(s: &[u8], out: &mut [u8]) -> usize
 
 // Each turn reads once and answers what lines are whole then; a turn that reads nothing is at the end of the input.
 fn feed(buf: &mut [u8], out: &mut [u8])
-    requires { ⌜ (65537 < length (now buf)) × (1507328 ≤ length (now out)) ⌝ }
+    requires { ⌜ (longest + 1 < length (now buf)) × (answerRoom ≤ length (now out)) ⌝ }
 {
     let mut have = 0;
     let mut turns = u64::MAX;

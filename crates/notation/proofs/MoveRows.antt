@@ -7,9 +7,9 @@ use Rattle.squares.specs.Squares.{single}
 use Rattle.squares.specs.declared.refusal.Refusal.the-variants.{NoSuchSquare, SpaceTooShort}
 use Rattle.positions.specs.Moves.{move, isCapture, squaresOf}
 use Rattle.positions.specs.declared.moves.Move.{Move}
+use Rattle.texts.specs.Bytes.{bytes}
 use Rattle.texts.specs.Computed.{computed}
 use Rattle.texts.specs.declared.bytes.Wrote.the-variants as wrote
-use Rattle.texts.proofs.Rows.{bytes}
 use Rattle.notation.specs.MoveText.{separatorOf, named, moveText, shortText, toHubOf, toHubLent, displayOf, displayLent}
 
 pub record Row : Type 0 where

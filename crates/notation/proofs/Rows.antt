@@ -12,8 +12,9 @@ use Rattle.positions.specs.Moves.{move}
 use Rattle.positions.specs.declared.position.Position.{Position}
 use Rattle.positions.specs.declared.position.Placed.{Placed}
 use Rattle.positions.specs.declared.position.Placed.the-variants as placed
+use Rattle.texts.specs.Bytes.{bytes}
 use Rattle.texts.specs.Fen.{fromFenOf}
-use Rattle.texts.proofs.Rows.{bytes, repeated}
+use Rattle.texts.proofs.Rows.{repeated}
 use Rattle.notation.specs.Computed.{computed}
 use Rattle.notation.specs.Choice.{parseMoveOf}
 use Rattle.notation.specs.declared.notation.Found.{Found}

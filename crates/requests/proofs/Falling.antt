@@ -59,8 +59,8 @@ use Rattle.games.proofs.Stands.{room}
 use Rattle.games.proofs.Valid.{valid-says, material-fits, alone-last, alone-long, alone-valid, more-last, more-long, more-valid}
 use Rattle.gametexts.specs.Texts.{playFound, playSaid, playHeard, playStrOf}
 use Rattle.wording.specs.Escapes.{Plain, text, broken, plain}
-use Rattle.wording.specs.Output.{bytes, decimal}
-use Rattle.texts.specs.Bytes.{consHead}
+use Rattle.wording.specs.Output.{decimal}
+use Rattle.texts.specs.Bytes.{consHead, partsAt}
 use Rattle.requests.specs.Answers.{moveWord}
 use Rattle.requests.specs.Heard.{meantOf, meantText, listedMoveOf}
 use Rattle.requests.specs.States.{winnerWord, endingWord, judgedWord, countWord, pliesText, stateText, standWord, numberWord, lengthWord, movesWord, endText}
@@ -280,7 +280,7 @@ module _ (g : Game) (r : Good g) where
 
       by-plain : (p : Plain) → plain w ≡ p → Text g w
       by-plain (text t) p = by-heard t p (readMoveOf t) refl
-      by-plain broken p = leaves BadMoveText (ap (playPlain g) p)
+      by-plain (broken t) p = leaves BadMoveText (ap (playPlain g) p)
 
   text-refused : (w : List ℕ) (e : Refusal) (a : Played) → a ≡ refusedPlay g e → Word g (textTold g w a) (a .game)
   unfolding textTold numberWord
@@ -371,7 +371,7 @@ pieces-most g = omega (arith, size-most (boardOf (lastOf g) .white), size-most (
 
 -- there are no more words than bytes
 pub words-most : (s : List ℕ) → length (wordsOf s) ≤ length s
-unfolding wordsOf consHead
+unfolding partsAt consHead
 words-most [] = omega arith
 words-most (b ∷ s) = go (eqb b 32) (wordsOf s) (words-most s)
   where

@@ -34,7 +34,7 @@ use Rattle.texts.proofs.Writers.{joined-short}
 use Rattle.notation.proofs.MoveTexts.{move-short}
 use Rattle.movegen.specs.declared.movegen.Listed.{Listed}
 use Rattle.movegen.specs.declared.perft.Divided.{Divided}
-use Rattle.wording.specs.Output.{bytes, places, decimal, hex, hash, signed, refusal, bad}
+use Rattle.wording.specs.Output.{places, decimal, hex, hash, signed, refusal, bad}
 use Rattle.requests.specs.Answers.{fenWord, hubWord, moveWord, movesText, countsText, answering, listAnswer, dividedAnswer}
 
 -- ---- numbers

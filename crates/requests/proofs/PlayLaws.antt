@@ -1,5 +1,5 @@
 -- The words of a line one after another; records and texts; the game after a word.
-use Prim.Native.Nat.{ℕ, suc, _+_, _-_, _≤_, _<_}
+use Prim.Native.Nat.{ℕ, _+_, _-_, _≤_, _<_}
 use mathlib.Core.Path.{_≡_, refl, ap, sym, _∙_}
 use mathlib.Core.List.{List, [], _∷_, _++_}
 use mathlib.Core.Bool.{Bool, true, false, cond}
@@ -11,7 +11,7 @@ use borrow.Author.Tests.{leb-true, leb-false}
 use Rattle.squares.specs.declared.refusal.Refusal.the-variants.{TextTooLong, BadGame, BadMoveText}
 use Rattle.positions.specs.Moves.{move}
 use Rattle.positions.specs.declared.position.Position.{Position}
-use Rattle.texts.specs.Bytes.{is, indexOf, upTo, consHead, readable}
+use Rattle.texts.specs.Bytes.{bytes, is, indexOf, partsAt, upTo, behindOr, afterFirst, consHead, readable}
 use Rattle.notation.specs.Notation.{readMoveOf}
 use Rattle.games.specs.Games.{valid}
 use Rattle.games.specs.Play.{newOf, refusedPlay}
@@ -21,50 +21,39 @@ use Rattle.games.specs.declared.game.Played.{Played}
 use Rattle.gametexts.specs.Texts.{playStrOf}
 use Rattle.wording.specs.Escapes.{Plain, text, broken, plain, undoneOf, Undid}
 use Rattle.wording.specs.Numbers.{unsignedOf, setOf}
-use Rattle.wording.specs.Output.{bytes, bad}
+use Rattle.wording.specs.Output.{bad}
 use Rattle.wording.specs.Words.{firstWord, afterWord}
 use Rattle.wording.specs.declared.escapes.Undone.{Undone}
 use Rattle.wording.specs.declared.escapes.Undone.the-variants as undone
 use Rattle.wording.specs.declared.numbers.Parsed.the-variants as parsed
-use Rattle.requests.specs.Plays.{wordsOf, afterComma, recordOf, isPlain, isTextOf, readableOf, allReadable, playPlain, playTextOf, playWordOf, wordTold, gameText, playsAnswer}
+use Rattle.requests.specs.Plays.{wordsOf, recordOf, isPlain, isTextOf, readableOf, allReadable, playPlain, playTextOf, playWordOf, wordTold, gameText, playsAnswer}
 use Rattle.requests.specs.States.{endText}
 use Rattle.requests.specs.declared.plays.Given.{Given}
 use Rattle.requests.specs.declared.plays.Recorded.the-variants as recorded
+use Rattle.texts.proofs.Cuts.{after-is}
 use Rattle.requests.proofs.Told.{cut, said, said-broken, cut-part}
-
--- ---- behind the first comma
-pub comma-hit : (s : List ℕ) (n : ℕ) → n ≡ indexOf (is 44) s → drop (n + 1) s ≡ afterComma s
-unfolding afterComma
-comma-hit s n e = rw e
-
-pub comma-none : (s : List ℕ) (n : ℕ) → n ≡ indexOf (is 44) s → length s ≤ n → drop n s ≡ afterComma s
-unfolding afterComma
-comma-none s n e h =
-    let k : length s ≤ indexOf (is 44) s + 1 = omega (arith, e) in
-    rw (drop-of-length-le s h, drop-of-length-le s k)
 
 -- ---- a word and the words behind it
 after-space : (b : ℕ) (t : List ℕ) → eqb b 32 ≡ true → afterWord (b ∷ t) ≡ t
-unfolding afterWord indexOf is
+unfolding afterWord afterFirst behindOr
 after-space b t e = rw e
 
-index-other : (b : ℕ) (t : List ℕ) → eqb b 32 ≡ false → indexOf (is 32) (b ∷ t) ≡ suc (indexOf (is 32) t)
-unfolding indexOf is
-index-other b t e = rw e
-
 after-other : (b : ℕ) (t : List ℕ) → eqb b 32 ≡ false → afterWord (b ∷ t) ≡ afterWord t
+unfolding afterWord afterFirst behindOr
+after-other b t e = rw e
+
+-- the same by places
+after-at : (s : List ℕ) → afterWord s ≡ drop (indexOf (is 32) s + 1) s
 unfolding afterWord
-after-other b t e =
-    let q : suc (indexOf (is 32) t) + 1 ≡ suc (indexOf (is 32) t + 1) = omega arith in
-    ap (λ (n : ℕ). drop (n + 1) (b ∷ t)) (index-other b t e) ∙ ap (λ (n : ℕ). drop n (b ∷ t)) q
+after-at s = after-is 32 s
 
 step : (b : ℕ) (t : List ℕ) → consHead b (wordsOf t) ≡ (b ∷ firstWord t) ∷ wordsOf (afterWord t) → (q : Bool) → eqb b 32 ≡ q → wordsOf (b ∷ t) ≡ firstWord (b ∷ t) ∷ wordsOf (afterWord (b ∷ t))
-unfolding wordsOf firstWord upTo
+unfolding partsAt firstWord upTo
 step b t h true e = rw (after-space b t e, e)
 step b t h false e = rw (after-other b t e, e) h
 
 heads : (b : ℕ) (t : List ℕ) → consHead b (wordsOf t) ≡ (b ∷ firstWord t) ∷ wordsOf (afterWord t)
-unfolding consHead wordsOf firstWord upTo afterWord indexOf
+unfolding consHead partsAt firstWord upTo afterWord afterFirst behindOr
 heads b [] = refl
 heads b (c ∷ t) = ap (consHead b) (step c t (heads c t) (eqb c 32) refl)
 
@@ -73,7 +62,7 @@ words-of [] h = absurd (omega arith)
 words-of (b ∷ t) h = step b t (heads b t) (eqb b 32) refl
 
 words-none : (s : List ℕ) (i : ℕ) → length s ≤ i → wordsOf (drop i s) ≡ []
-unfolding wordsOf
+unfolding partsAt
 words-none s i h = rw (drop-of-length-le s h)
 
 -- a part at the end is found again by its length
@@ -90,14 +79,12 @@ suffix s m = go (leb m (length s)) refl
 
 module _ (s : List ℕ) (i : ℕ) where
   after-place : drop (length s - length (afterWord (drop i s))) s ≡ afterWord (drop i s)
-  unfolding afterWord
   after-place =
-      let d = drop-drop (indexOf (is 32) (drop i s) + 1) i s in
+      let d = after-at (drop i s) ∙ drop-drop (indexOf (is 32) (drop i s) + 1) i s in
       ap (λ (l : List ℕ). drop (length s - length l) s) d ∙ suffix s (i + (indexOf (is 32) (drop i s) + 1)) ∙ sym d
 
   pub after-less : i < length s → length (afterWord (drop i s)) < length s - i
-  unfolding afterWord
-  after-less h = omega (arith, length-drop (indexOf (is 32) (drop i s) + 1) (drop i s), length-drop i s)
+  after-less h = omega (arith, ap length (after-at (drop i s)), length-drop (indexOf (is 32) (drop i s) + 1) (drop i s), length-drop i s)
 
   -- the words from a place on: the first, and those from the next place on
   words-next : i < length s → wordsOf (drop i s) ≡ firstWord (drop i s) ∷ wordsOf (drop (length s - length (afterWord (drop i s))) s)
@@ -150,15 +137,15 @@ module _ (s : List ℕ) where
   unfolding recordOf
   record-first a = rw a
 
-  pub record-second : (f : ℕ) → unsignedOf (upTo 44 s) ≡ parsed.Value f → unsignedOf (upTo 44 (afterComma s)) ≡ parsed.Bad → recorded.Bad ≡ recordOf s
+  pub record-second : (f : ℕ) → unsignedOf (upTo 44 s) ≡ parsed.Value f → unsignedOf (upTo 44 (afterFirst 44 s)) ≡ parsed.Bad → recorded.Bad ≡ recordOf s
   unfolding recordOf
   record-second f a b = rw (a, b)
 
-  pub record-third : (f t : ℕ) → unsignedOf (upTo 44 s) ≡ parsed.Value f → unsignedOf (upTo 44 (afterComma s)) ≡ parsed.Value t → setOf (afterComma (afterComma s)) ≡ parsed.Bad → recorded.Bad ≡ recordOf s
+  pub record-third : (f t : ℕ) → unsignedOf (upTo 44 s) ≡ parsed.Value f → unsignedOf (upTo 44 (afterFirst 44 s)) ≡ parsed.Value t → setOf (afterFirst 44 (afterFirst 44 s)) ≡ parsed.Bad → recorded.Bad ≡ recordOf s
   unfolding recordOf
   record-third f t a b d = rw (a, b, d)
 
-  pub record-whole : (f t c : ℕ) → unsignedOf (upTo 44 s) ≡ parsed.Value f → unsignedOf (upTo 44 (afterComma s)) ≡ parsed.Value t → setOf (afterComma (afterComma s)) ≡ parsed.Value c → recorded.Move (move f t c) ≡ recordOf s
+  pub record-whole : (f t c : ℕ) → unsignedOf (upTo 44 s) ≡ parsed.Value f → unsignedOf (upTo 44 (afterFirst 44 s)) ≡ parsed.Value t → setOf (afterFirst 44 (afterFirst 44 s)) ≡ parsed.Value c → recorded.Move (move f t c) ≡ recordOf s
   unfolding recordOf
   record-whole f t c a b d = rw (a, b, d)
 
@@ -174,7 +161,7 @@ module _ (s o out : List ℕ) (r : Undone) (u : Undid s o out r) where
     where
       go : (p : Plain) → plain s ≡ p → true ≡ isPlain (plain s)
       go (text t) e = rw e
-      go broken e = absurd (let w : undone.Length n ≡ undone.Bad = sym q ∙ u .answer ∙ ap (undoneOf (length o)) e in let z : _≡_ {A = ℕ} 0 1 = cc in omega arith)
+      go (broken t) e = absurd (let w : undone.Length n ≡ undone.Bad = sym q ∙ u .answer ∙ ap (undoneOf (length o)) e in let z : _≡_ {A = ℕ} 0 1 = cc in omega arith)
 
   pub is-broken : r ≡ undone.Bad → false ≡ isTextOf s
   unfolding isTextOf
@@ -182,7 +169,7 @@ module _ (s o out : List ℕ) (r : Undone) (u : Undid s o out r) where
     where
       go : (p : Plain) → plain s ≡ p → false ≡ isPlain (plain s)
       go (text t) e = absurd (let w : undone.Bad ≡ undoneOf (length o) (text t) = sym q ∙ u .answer ∙ ap (undoneOf (length o)) e in let z : _≡_ {A = ℕ} 0 1 = cc in omega arith)
-      go broken e = rw e
+      go (broken t) e = rw e
 
 module _ (s o out : List ℕ) (r : Undone) (long : length o ≡ 4097) (u : Undid s o out r) where
   pub text-played : (g : Game) (n : ℕ) (a : Played) → r ≡ undone.Length n → a ≡ playStrOf g (take n out) → a ≡ playTextOf g s

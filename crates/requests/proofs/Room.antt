@@ -31,17 +31,17 @@ use Rattle.movegen.specs.declared.movegen.Tested.the-variants as tested
 use Rattle.movegen.specs.declared.perft.Counted.{Counted}
 use Rattle.movegen.specs.declared.perft.Counted.the-variants as counted
 use Rattle.games.specs.Play.{newOf, outcomeOf}
-use Rattle.texts.specs.Bytes.{is, indexOf}
-use Rattle.texts.proofs.Cuts.{up-to-is}
+use Rattle.texts.specs.Bytes.{bytes, is, indexOf}
+use Rattle.texts.proofs.Cuts.{up-to-is, after-is}
 use Rattle.wording.specs.Numbers.{unsignedOf, setOf}
-use Rattle.wording.specs.Output.{bytes, decimal, hex, hash, bad}
+use Rattle.wording.specs.Output.{decimal, hex, hash, bad}
 use Rattle.wording.specs.Words.{firstWord, afterWord, wordAt, blanksIn}
 use Rattle.wording.specs.declared.numbers.Parsed.{Parsed}
 use Rattle.wording.specs.declared.numbers.Parsed.the-variants as parsed
 use Rattle.requests.specs.Answers.{fenAnswer, hubAnswer, hashAnswer, setWord, bitsAnswer, placedAnswer, scoredAnswer, testedAnswer, countedAnswer, moveWord, recordWord, moveAnswer, afterAnswer, answerTo, dividedAnswer}
 use Rattle.requests.specs.Heard.{positionOf, listedMoveOf, squareOf}
 use Rattle.requests.specs.Plays.{wordsOf, allReadable, gameText, playsAnswer, freshAnswer}
-use Rattle.requests.specs.Requests.{onHeard, onMeant, onParsed, onSided, onWeights, parsedAnswer, successorAnswer, depthAnswer, splitAnswer, workAnswer, heardAnswer, restAnswer, atmostAnswer, weightsOf, evalwAnswer, numberWord, placingAnswer, squareAnswer, sideOf, setsAnswer, partsAnswer, kindOf, kindAnswer, answerOf}
+use Rattle.requests.specs.Requests.{onHeard, onMeant, onParsed, onSided, onWeights, parsedAnswer, successorAnswer, depthAnswer, splitAnswer, workAnswer, heardAnswer, restAnswer, atmostAnswer, weightsOf, evalwAnswer, numberWord, placingAnswer, squareAnswer, sideOf, setsAnswer, partsAnswer, kindOf, kindAnswer, longest, answerRoom, answerOf}
 use Rattle.requests.specs.declared.answers.Asked.{Asked}
 use Rattle.requests.specs.declared.answers.Asked.the-variants as asked
 use Rattle.requests.specs.declared.asked.Task.{Task}
@@ -159,7 +159,7 @@ on-sided (sided.Side c) k h = h c
 on-sided (sided.Refused e) k h = omega (arith, bad-length)
 
 -- ---- games
-plays-most : (h : Given) (p : Position) (s : List ℕ) → length s ≤ 65536 → length (playsAnswer h p s) ≤ 1442469
+plays-most : (h : Given) (p : Position) (s : List ℕ) → length s ≤ longest → length (playsAnswer h p s) ≤ 1442469
 unfolding playsAnswer
 plays-most h p s l = go (allReadable h (wordsOf s))
   where
@@ -172,7 +172,7 @@ unfolding freshAnswer
 fresh-most p = omega (arith, judged-most (outcomeOf (newOf p .game)))
 
 -- ---- with a position
-work-most : (t : Task) (p : Position) (s : List ℕ) → length s ≤ 65536 → length (workAnswer t p s) ≤ 1442469
+work-most : (t : Task) (p : Position) (s : List ℕ) → length s ≤ longest → length (workAnswer t p s) ≤ 1442469
 unfolding parsedAnswer successorAnswer depthAnswer splitAnswer
 work-most (task.Tell a) p s l = omega (arith, tell-most a p)
 work-most task.Parse p s l = omega (arith, on-meant (listedMoveOf p s) moveAnswer move-answer)
@@ -185,7 +185,7 @@ work-most task.Play p s l = plays-most given.Text p s l
 work-most task.Record p s l = plays-most given.Record p s l
 work-most task.Outcome p s l = omega (arith, fresh-most p)
 
-heard-most : (t : Task) (f : Form) (word s : List ℕ) → length s ≤ 65536 → length (heardAnswer t f word s) ≤ 1442469
+heard-most : (t : Task) (f : Form) (word s : List ℕ) → length s ≤ longest → length (heardAnswer t f word s) ≤ 1442469
 unfolding heardAnswer
 heard-most t f word s l = go (positionOf f word)
   where
@@ -197,7 +197,7 @@ heard-most t f word s l = go (positionOf f word)
 -- ---- the requests
 after-word : (s : List ℕ) → length (afterWord s) ≤ length s
 unfolding afterWord
-after-word s = omega (arith, length-drop (indexOf (is 32) s + 1) s)
+after-word s = omega (arith, ap length (after-is 32 s), length-drop (indexOf (is 32) s + 1) s)
 
 first-word : (s : List ℕ) → length (firstWord s) ≤ length s
 unfolding firstWord
@@ -226,7 +226,7 @@ cond-most : (t : Bool) (x : List ℕ) → length x ≤ 1442469 → length (cond 
 cond-most true x h = h
 cond-most false x h = omega (arith, bad-length)
 
-evalw-most : (arg : List ℕ) → length arg ≤ 65536 → length (evalwAnswer arg) ≤ 1442469
+evalw-most : (arg : List ℕ) → length arg ≤ longest → length (evalwAnswer arg) ≤ 1442469
 unfolding evalwAnswer
 evalw-most arg h = cond-most (eqb (blanksIn arg) 5) _ (go (weightsOf arg))
   where
@@ -240,7 +240,7 @@ sets-most arg =
     on-parsed (setOf (wordAt 0 arg)) _ 45380 (omega arith) (λ w. on-parsed (setOf (wordAt 1 arg)) _ 45380 (omega arith) (λ b. on-parsed (setOf (wordAt 2 arg)) _ 45380 (omega arith) (λ k.
     on-sided (sideOf (wordAt 3 arg)) (λ c. placedAnswer (fromPartsOf w b k c)) (λ c. placed-most (fromPartsOf w b k c)))))
 
-kind-most : (k : Kind) (arg : List ℕ) → length arg ≤ 65536 → length (kindAnswer k arg) ≤ 1442469
+kind-most : (k : Kind) (arg : List ℕ) → length arg ≤ longest → length (kindAnswer k arg) ≤ 1442469
 unfolding restAnswer atmostAnswer squareAnswer partsAnswer
 kind-most (kind.About f a) arg h = heard-most (task.Tell a) f arg arg h
 kind-most (kind.Rest t) arg h = heard-most t form.Either (firstWord arg) (afterWord arg) (omega (arith, after-word arg))
@@ -253,10 +253,10 @@ kind-most kind.Parts arg h = cond-most (eqb (blanksIn arg) 3) (setsAnswer arg) (
 kind-most kind.Outcome arg h = heard-most task.Outcome form.Either arg arg h
 kind-most kind.Unknown arg h = omega (arith, bad-length)
 
-pub answer-short : (line : List ℕ) → suc (length (answerOf line)) ≤ 1507328
+pub answer-short : (line : List ℕ) → suc (length (answerOf line)) ≤ answerRoom
 unfolding answerOf
-answer-short line = go (ltb 65536 (length line)) refl
+answer-short line = go (ltb longest (length line)) refl
   where
-    go : (t : Bool) → ltb 65536 (length line) ≡ t → suc (length (cond t bad (kindAnswer (kindOf (firstWord line)) (afterWord line)))) ≤ 1507328
+    go : (t : Bool) → ltb longest (length line) ≡ t → suc (length (cond t bad (kindAnswer (kindOf (firstWord line)) (afterWord line)))) ≤ answerRoom
     go true e = omega (arith, bad-length)
-    go false e = omega (arith, kind-most (kindOf (firstWord line)) (afterWord line) (omega (arith, after-word line, ltb-false 65536 (length line) e)))
+    go false e = omega (arith, kind-most (kindOf (firstWord line)) (afterWord line) (omega (arith, after-word line, ltb-false longest (length line) e)))

@@ -2,7 +2,7 @@
 use Prim.Native.String.{String}
 use mathlib.Core.Path.{_≡_, refl}
 use mathlib.Core.List.{List, [], _∷_}
-use Rattle.wording.specs.Output.{bytes}
+use Rattle.texts.specs.Bytes.{bytes}
 use Rattle.requests.specs.Requests.{answerOf}
 use Rattle.requests.specs.Computed.{computed}
 

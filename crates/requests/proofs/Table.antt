@@ -6,9 +6,8 @@ use mathlib.Core.Bool.{true, false, cond}
 use native.Mathlib.Omega.{arith}
 use native.Mathlib.Numerals.{add-one}
 use lib.ListN.{length, getD}
-use Rattle.wording.specs.Output.{bytes}
 use Rattle.wording.specs.Words.{sameText, wordAt, firstWord, afterWord}
-use Rattle.texts.specs.Bytes.{is, upTo, indexOf}
+use Rattle.texts.specs.Bytes.{bytes, upTo, behindOr, afterFirst}
 use Rattle.requests.specs.Requests.{Named, requests, kindOf, kindAt}
 use Rattle.requests.specs.declared.answers.Asked.the-variants as asked
 use Rattle.requests.specs.declared.heard.Form.the-variants as form
@@ -24,7 +23,7 @@ rowsOf name n zero = kind.Unknown
 rowsOf name n (suc left) = cond (sameText name (wordAt n names)) (kindAt n) (rowsOf name (suc n) left)
 
 pub whole : (name : List ℕ) → kindOf name ≡ rowsOf name 0 22
-unfolding kindOf kindAt rowsOf wordAt firstWord afterWord upTo sameText indexOf is
+unfolding kindOf kindAt rowsOf wordAt firstWord afterWord upTo afterFirst behindOr sameText
 whole name = refl
 
 -- one row

@@ -26,10 +26,11 @@ use Rattle.movegen.specs.declared.movegen.Tested.{Tested}
 use Rattle.movegen.specs.declared.movegen.Tested.the-variants as tested
 use Rattle.movegen.specs.declared.perft.Counted.{Counted}
 use Rattle.movegen.specs.declared.perft.Counted.the-variants as counted
+use Rattle.texts.specs.Bytes.{bytes}
 use Rattle.texts.specs.Fen.{fenText}
 use Rattle.texts.specs.Hub.{hubText}
 use Rattle.notation.specs.MoveText.{moveText}
-use Rattle.wording.specs.Output.{bytes, decimal, hex, hash, signed, refusal}
+use Rattle.wording.specs.Output.{decimal, hex, hash, signed, refusal}
 use Rattle.requests.specs.declared.answers.Asked.{Asked}
 use Rattle.requests.specs.declared.answers.Asked.the-variants as asked
 

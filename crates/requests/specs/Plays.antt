@@ -1,10 +1,8 @@
 -- The requests about games: play and record, which play every word in order on a new game, and outcome.
-use Prim.Native.Nat.{ℕ, _+_}
+use Prim.Native.Nat.{ℕ}
 use Prim.Native.Char.{code}
 use mathlib.Core.List.{List, [], _∷_, _++_}
 use mathlib.Core.Bool.{Bool, true, false, cond, _&&_}
-use lib.Dec.{eqb}
-use lib.ListN.{drop}
 use Rattle.squares.specs.Refusals.{answerNumberOf}
 use Rattle.squares.specs.declared.refusal.Answer.{Answer}
 use Rattle.squares.specs.declared.refusal.Answer.the-variants as answer
@@ -13,12 +11,12 @@ use Rattle.positions.specs.Moves.{move}
 use Rattle.positions.specs.declared.position.Placed.{Placed}
 use Rattle.positions.specs.declared.position.Placed.the-variants as placed
 use Rattle.positions.specs.declared.position.Position.{Position}
-use Rattle.texts.specs.Bytes.{is, upTo, indexOf, consHead}
+use Rattle.texts.specs.Bytes.{bytes, partsAt, upTo, afterFirst}
 use Rattle.games.specs.Play.{newOf, refusedPlay, playOf, outcomeOf, standsOf}
 use Rattle.games.specs.declared.game.Game.{Game}
 use Rattle.games.specs.declared.game.Played.{Played}
 use Rattle.gametexts.specs.Texts.{playStrOf}
-use Rattle.wording.specs.Output.{bytes, decimal, bad}
+use Rattle.wording.specs.Output.{decimal, bad}
 use Rattle.wording.specs.Numbers.{unsignedOf, setOf}
 use Rattle.wording.specs.Escapes.{Plain, text, broken, plain}
 use Rattle.requests.specs.Heard.{listedMoveOf}
@@ -36,13 +34,8 @@ use Rattle.requests.specs.declared.plays.Recorded.the-variants as record
 -- ---- the words
 
 -- what stands between single spaces; behind a space at the end there is no word
-unfoldable pub wordsOf : List ℕ → List (List ℕ)
-wordsOf [] = []
-wordsOf (b ∷ s) = let rest = wordsOf s in cond (eqb b (code " ")) ([] ∷ rest) (consHead b rest)
-
--- what stands behind the first comma, nothing where there is none
-unfoldable pub afterComma : List ℕ → List ℕ
-afterComma s = drop (indexOf (is (code ",")) s + 1) s
+abbrev pub wordsOf : List ℕ → List (List ℕ)
+wordsOf s = partsAt (code " ") s
 
 abbrev pub onNumber : Parsed → (ℕ → Recorded) → Recorded
 onNumber (parsed.Value n) k = k n
@@ -52,13 +45,13 @@ onNumber parsed.Bad k = recorded.Bad
 unfoldable pub recordOf : List ℕ → Recorded
 recordOf s =
     onNumber (unsignedOf (upTo (code ",") s)) (λ f.
-    onNumber (unsignedOf (upTo (code ",") (afterComma s))) (λ t.
-    onNumber (setOf (afterComma (afterComma s))) (λ c. recorded.Move (move f t c))))
+    onNumber (unsignedOf (upTo (code ",") (afterFirst (code ",") s))) (λ t.
+    onNumber (setOf (afterFirst (code ",") (afterFirst (code ",") s))) (λ c. recorded.Move (move f t c))))
 
 -- every escape of the word is one
 abbrev pub isPlain : Plain → Bool
 isPlain (text t) = true
-isPlain broken = false
+isPlain (broken t) = false
 
 unfoldable pub isTextOf : List ℕ → Bool
 isTextOf s = isPlain (plain s)
@@ -81,7 +74,7 @@ allReadable h (w ∷ ws) = readableOf h w && allReadable h ws
 -- ---- a play; a word that can not be read is not played, since such a request is broken
 abbrev pub playPlain : Game → Plain → Played
 playPlain g (text t) = playStrOf g t
-playPlain g broken = refusedPlay g BadMoveText
+playPlain g (broken t) = refusedPlay g BadMoveText
 
 unfoldable pub playTextOf : Game → List ℕ → Played
 playTextOf g w = playPlain g (plain w)

@@ -1,6 +1,6 @@
 -- A request line and its answer. What stands in a line is read in the order of these definitions; the first thing that does not
 -- fit answers the line.
-use Prim.Native.Nat.{ℕ}
+use Prim.Native.Nat.{ℕ, _*_}
 use Prim.Native.Char.{code}
 use Prim.Native.String.{String}
 use mathlib.Core.List.{List, [], _∷_, _++_, map}
@@ -23,7 +23,8 @@ use Rattle.positions.specs.declared.moves.Move.{Move}
 use Rattle.positions.specs.declared.position.Position.{Position}
 use Rattle.movegen.specs.Lists.{legalMovesOf, afterOf}
 use Rattle.movegen.specs.Counts.{perftOf, divideOf}
-use Rattle.wording.specs.Output.{bytes, decimal, refusal, bad}
+use Rattle.texts.specs.Bytes.{bytes}
+use Rattle.wording.specs.Output.{decimal, refusal, bad}
 use Rattle.wording.specs.Words.{sameText, firstWord, afterWord, wordAt, blanksIn}
 use Rattle.wording.specs.Numbers.{unsignedOf, setOf, signedOf}
 use Rattle.requests.specs.Heard.{positionOf, listedMoveOf, squareOf}
@@ -215,6 +216,13 @@ kindAnswer kind.Parts arg = partsAnswer arg
 kindAnswer kind.Outcome arg = heardAnswer task.Outcome form.Either arg arg
 kindAnswer kind.Unknown arg = bad
 
--- a line of more than 65,536 bytes is a bad request, whatever it says
+-- the most bytes that a line may have, and that an answer and its line feed have (law `answer-short`)
+abbrev pub longest : ℕ
+longest = 65536
+
+abbrev pub answerRoom : ℕ
+answerRoom = 23 * longest
+
+-- a longer line is a bad request, whatever it says
 unfoldable pub answerOf : List ℕ → List ℕ
-answerOf line = cond (ltb 65536 (length line)) bad (kindAnswer (kindOf (firstWord line)) (afterWord line))
+answerOf line = cond (ltb longest (length line)) bad (kindAnswer (kindOf (firstWord line)) (afterWord line))

@@ -13,6 +13,7 @@ use Rattle.positions.specs.declared.position.Placed.the-variants as placed
 use Rattle.movegen.specs.declared.movegen.Listed.{Listed}
 use Rattle.movegen.specs.declared.perft.Counted.{Counted}
 use Rattle.movegen.specs.declared.perft.Counted.the-variants as counted
+use Rattle.texts.specs.Bytes.{bytes}
 use Rattle.games.specs.Play.{outcomeOf, standsOf, repetitionsOf, reversiblePliesOf, legalMovesOf}
 use Rattle.games.specs.declared.game.Game.{Game}
 use Rattle.games.specs.declared.game.Judged.{Judged}
@@ -22,7 +23,7 @@ use Rattle.games.specs.declared.game.Termination.{Termination}
 use Rattle.games.specs.declared.game.Termination.the-variants.{NoMoves, Repetition, TwentyFiveMoves, SixteenMoves, FiveMoves}
 use Rattle.games.specs.declared.game.Winner.{Winner}
 use Rattle.games.specs.declared.game.Winner.the-variants as winner
-use Rattle.wording.specs.Output.{bytes, decimal}
+use Rattle.wording.specs.Output.{decimal}
 use Rattle.requests.specs.Answers.{fenWord}
 
 -- ---- the outcome

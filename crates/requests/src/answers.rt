@@ -18,7 +18,7 @@ use wording::output;
 ghost use mathlib.Core.Path.{_≡_};
 ghost use Prim.Native.Nat.{min};
 ghost use Rattle.texts.specs.Lent.{Adds};
-ghost use Rattle.wording.specs.Output.{bytes};
+ghost use Rattle.texts.specs.Bytes.{bytes};
 ghost use Rattle.requests.specs.Answers.{yesNo, setWord, fenWord, hubWord, bitsAnswer, scoredAnswer, testedAnswer, countedAnswer, fenAnswer, hubAnswer, hashAnswer, placedAnswer, moveWord, movesText, countsText, listAnswer, dividedAnswer, recordWord, moveAnswer, afterAnswer, answerTo};
 
 // What a request asks of a position.

@@ -6,6 +6,7 @@ use crate::answers;
 use crate::heard;
 use crate::heard::Meant;
 use crate::states;
+use games::game;
 use games::game::Game;
 use games::game::Played;
 use positions::moves::Move;
@@ -24,7 +25,7 @@ ghost use mathlib.Core.Path.{_≡_};
 ghost use Rattle.squares.specs.declared.refusal.Refusal.the-variants.{BadMoveText};
 ghost use Rattle.games.specs.Play.{refusedPlay};
 ghost use Rattle.texts.specs.Lent.{Adds};
-ghost use Rattle.requests.specs.Plays.{afterComma, recordOf, isTextOf, isRecordOf, readableOf, allReadable, wordsOf, playTextOf, playRecordOf, playWordOf, meantWord, moveOfWord, textTold, recordTold, wordTold, gameText, playsAnswer, freshAnswer};
+ghost use Rattle.requests.specs.Plays.{recordOf, isTextOf, isRecordOf, readableOf, allReadable, wordsOf, playTextOf, playRecordOf, playWordOf, meantWord, moveOfWord, textTold, recordTold, wordTold, gameText, playsAnswer, freshAnswer};
 
 // How the plays of a game are given.
 pub enum Given {
@@ -38,26 +39,18 @@ pub enum Recorded {
     Bad,
 }
 
-// What stands behind the first comma: nothing where there is none.
-fn after_comma(s: &[u8]) -> &[u8]
-    ensures { λ r. ⌜ now r ≡ afterComma (now (s .entry)) ⌝ }
-{
-    let n = bytes::find(s, b',');
-    if n < s.len() { &s[n + 1..] } else { &s[n..] }
-}
-
 // The numbers may be any of 32 bits: which of them are squares is the game's to say.
 fn read_record(word: &[u8]) -> Recorded
     ensures { λ r. ⌜ r ≡ recordOf (now (word .entry)) ⌝ }
 {
-    let rest = after_comma(word);
+    let rest = bytes::after_first(word, b',');
     let Parsed::Value(from) = numbers::unsigned(bytes::up_to(word, b',')) else {
         return Recorded::Bad;
     };
     let Parsed::Value(to) = numbers::unsigned(bytes::up_to(rest, b',')) else {
         return Recorded::Bad;
     };
-    let Parsed::Value(captured) = numbers::set(after_comma(rest)) else {
+    let Parsed::Value(captured) = numbers::set(bytes::after_first(rest, b',')) else {
         return Recorded::Bad;
     };
     Recorded::Move(Move {
@@ -115,10 +108,7 @@ fn all_readable(given: Given, s: &[u8]) -> bool
 fn unread(g: Game) -> Played
     ensures { λ r. ⌜ r ≡ refusedPlay g BadMoveText ⌝ }
 {
-    Played {
-        answer: Answer::Refused(Refusal::BadMoveText),
-        game: g,
-    }
+    game::not_played(g, Refusal::BadMoveText)
 }
 
 fn play_text(g: Game, word: &[u8]) -> Played
@@ -240,6 +230,6 @@ pub(crate) fn fresh(p: Position, out: &mut [u8], at: usize) -> usize
 {
     let begun = Game::from_position(p);
     let game = begun.game;
-    let k = output::put(out, at, b"ok ");
+    let k = answers::put_ok(out, at);
     states::put_judged(out, k, game.outcome())
 }

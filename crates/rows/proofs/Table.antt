@@ -28,11 +28,12 @@ use Rattle.movegen.specs.declared.movegen.Listed.{Listed}
 use Rattle.movegen.specs.declared.perft.Counted.{Counted}
 use Rattle.movegen.specs.declared.perft.Counted.the-variants.{Count}
 use Rattle.scores.specs.Computed as scores
+use Rattle.texts.specs.Bytes.{bytes}
 use Rattle.texts.specs.Fen.{fromFenOf}
-use Rattle.texts.proofs.Rows.{bytes}
 use Rattle.games.specs.Computed as games
 use Rattle.games.specs.Games.{blankPosition, won}
 use Rattle.games.specs.Play.{notBegun, newOf, outcomeOf}
+use Rattle.games.specs.declared.game.Begun.{Begun}
 use Rattle.games.specs.declared.game.Game.{Game}
 use Rattle.games.specs.declared.game.Judged.{Judged}
 use Rattle.games.specs.declared.game.Judged.the-variants.{Going}
@@ -58,7 +59,7 @@ pub data Row : Type 0 where
   after : String → Move → Placed → Row
   -- the score with the usual weights
   score : String → Scored → Row
-  -- the outcome of the game begun from it
+  -- the game that it begins, without refusal, has this outcome
   ends : String → Judged → Row
 
 -- the number and the square of a refusal; 0 and 0 where there is none
@@ -71,6 +72,10 @@ abbrev of : Placed → (Position → Type 0) → Type 0
 of (placed.Position p) P = P p
 of (placed.Refused e) P = ⊥
 
+-- begun without refusal, and of that outcome: a refused new game is the empty board's, which has an outcome too
+abbrev begins : Begun → Judged → Type 0
+begins b a = (b .answer ≡ answer.Done) × (outcomeOf (b .game) ≡ a)
+
 abbrev read : String → Placed
 read t = fromFenOf (bytes t)
 
@@ -82,7 +87,7 @@ Holds (paths t depth a) = of (read t) (λ p. perftOf p depth ≡ a)
 Holds (means t m a) = of (read t) (λ p. parseMoveOf p (bytes m) ≡ a)
 Holds (after t m a) = of (read t) (λ p. afterOf p m ≡ a)
 Holds (score t a) = of (read t) (λ p. evaluateOf default p ≡ a)
-Holds (ends t a) = outcomeOf (gameFromFenOf (bytes t) .game) ≡ a
+Holds (ends t a) = begins (gameFromFenOf (bytes t)) a
 
 abbrev pub All : List Row → Type 0
 All [] = Unit
@@ -148,8 +153,8 @@ p12 = score "W:WK28,K32,33:BK1" (scored.Score (pos 50)) ∷ []
 pub table : All p1 × All p2-p5 × All p6-p9 × All p10-p11 × All p12
 unfolding scores.computed notation.computed games.computed gameFromFenOf
 table = (
-  (refl, (refl, (refl, (refl, tt)))),
-  (refl, (refl, (refl, (refl, (refl, (refl, (refl, tt))))))),
+  (refl, (refl, (refl, ((refl, refl), tt)))),
+  (refl, ((refl, refl), (refl, (refl, (refl, (refl, (refl, tt))))))),
   (refl, (refl, (refl, (refl, (refl, (refl, tt)))))),
   (refl, (refl, (refl, (refl, tt)))),
   (refl, tt),

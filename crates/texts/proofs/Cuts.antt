@@ -10,7 +10,7 @@ use lib.ListN.{length, take, drop, getD, length-drop, drop-of-length-le}
 use lib.Seq.{drop-cons, take-suc, take-all, drop-drop, length-take-le}
 use lib.Dec.{leb, ltb, eqb, leb·suc-suc}
 use borrow.Author.Tests.{le-leb, lt-leb, lt-ltb, eq-eqb, ne-eqb, leb-true, leb-false}
-use Rattle.texts.specs.Bytes.{ascii, is, holds, trimStart, keepEnd, trimEnd, consHead, splitOn, upTo, behindOr, behind, startsWith, strip, indexOf, partsFrom}
+use Rattle.texts.specs.Bytes.{ascii, is, holds, trimStart, keepEnd, trimEnd, consHead, splitOn, upTo, behindOr, behind, afterFirst, startsWith, strip, indexOf, partsFrom}
 
 -- one more element at i + 1
 pub drop-next : (s : List ℕ) (i : ℕ) → i < length s → drop i s ≡ getD s i 0 ∷ drop (i + 1) s
@@ -138,6 +138,25 @@ behind-out t c (b ∷ s) h = go (eqb b c) (behind-out t c s) h
 pub behind-none : (c : ℕ) (s : List ℕ) → length s ≤ indexOf (is c) s → behind c s ≡ s
 unfolding behind
 behind-none c s h = behind-out s c s h
+
+pub after-is : (c : ℕ) (s : List ℕ) → afterFirst c s ≡ drop (indexOf (is c) s + 1) s
+unfolding afterFirst behindOr indexOf is
+after-is c [] = refl
+after-is c (b ∷ s) = go (eqb b c) (after-is c s)
+  where
+    go : (t : Bool) → behindOr [] c s ≡ drop (indexOf (is c) s + 1) s → cond t s (behindOr [] c s) ≡ drop (cond t 0 (suc (indexOf (is c) s)) + 1) (b ∷ s)
+    go true e = refl
+    go false e =
+        let q : suc (indexOf (is c) s + 1) ≡ suc (indexOf (is c) s) + 1 = omega arith in
+        e ∙ ap (λ (n : ℕ). drop n (b ∷ s)) q
+
+-- the same of the place n that was found
+pub after-hit : (c : ℕ) (s : List ℕ) (n : ℕ) → n ≡ indexOf (is c) s → drop (n + 1) s ≡ afterFirst c s
+after-hit c s n e = ap (λ (k : ℕ). drop (k + 1) s) e ∙ sym (after-is c s)
+
+pub after-none : (c : ℕ) (s : List ℕ) (n : ℕ) → n ≡ indexOf (is c) s → length s ≤ n → drop n s ≡ afterFirst c s
+unfolding afterFirst
+after-none c s n e h = drop-of-length-le s {i = n} h ∙ sym (behind-out [] c s (omega (arith, e)))
 
 -- ---- the first byte
 pub first-at : (c : ℕ) (s : List ℕ) → (length s ≡ 0 → ⊥) → eqb (indexOf (is c) s) 0 ≡ startsWith c s

@@ -1,7 +1,6 @@
 -- Rows of the corners, by computation: the definitions read and write as the Rust does.
 use Prim.Native.Nat.{ℕ, zero, suc, _+_}
-use Prim.Native.Char.{code}
-use Prim.Native.String.{String, [] as []ˢ, _∷_ as _∷ˢ_}
+use Prim.Native.String.{String}
 use mathlib.Core.Path.{_≡_, refl}
 use mathlib.Core.List.{List, [], _∷_}
 use Rattle.squares.specs.Squares.{single, run}
@@ -13,15 +12,10 @@ use Rattle.positions.specs.Boards.{board}
 use Rattle.positions.specs.Hash.{positionOf, initialOf}
 use Rattle.positions.specs.declared.position.Placed.{Placed}
 use Rattle.positions.specs.declared.position.Placed.the-variants as placed
-use Rattle.texts.specs.Bytes.{fromStrOf}
+use Rattle.texts.specs.Bytes.{bytes, fromStrOf}
 use Rattle.texts.specs.Fen.{fenText, fromFenOf}
 use Rattle.texts.specs.Hub.{hubText, fromHubOf}
 use Rattle.texts.specs.Computed.{computed}
-
--- the bytes of an ASCII text
-abbrev pub bytes : String → List ℕ
-bytes []ˢ = []
-bytes (c ∷ˢ s) = code c ∷ bytes s
 
 pub record Row : Type 0 where
   pub text : String

@@ -1,6 +1,7 @@
 -- Texts as lists of bytes: trimming, splitting, joining, the number of a square (document 01, "position.rs", "square.rs").
 use Prim.Native.Nat.{ℕ, suc, _+_, _-_, _*_, _/_, _%_}
 use Prim.Native.Char.{code}
+use Prim.Native.String.{String, [] as []ˢ, _∷_ as _∷ˢ_}
 use mathlib.Core.List.{List, [], _∷_, _++_}
 use mathlib.Core.Bool.{Bool, true, false, cond, _&&_, _||_}
 use lib.ListN.{length, drop}
@@ -9,6 +10,11 @@ use Rattle.squares.specs.Squares.{isSquare}
 use Rattle.squares.specs.declared.square.Numbered.{Numbered}
 use Rattle.squares.specs.declared.square.Numbered.the-variants as numbered
 use Rattle.squares.specs.declared.refusal.Refusal.the-variants.{TextTooLong, BadSquare}
+
+-- the bytes of an ASCII text
+abbrev pub bytes : String → List ℕ
+bytes []ˢ = []
+bytes (c ∷ˢ s) = code c ∷ bytes s
 
 unfoldable pub ascii : List ℕ → Bool
 ascii [] = true
@@ -56,6 +62,11 @@ unfoldable pub splitOn : (ℕ → Bool) → List ℕ → List (List ℕ)
 splitOn p [] = [] ∷ []
 splitOn p (b ∷ s) = let rest = splitOn p s in cond (p b) ([] ∷ rest) (consHead b rest)
 
+-- the parts of s that each c ends; the last may lack its c, and behind a c at the end there is no part
+unfoldable pub partsAt : ℕ → List ℕ → List (List ℕ)
+partsAt c [] = []
+partsAt c (b ∷ s) = let rest = partsAt c s in cond (eqb b c) ([] ∷ rest) (consHead b rest)
+
 -- the parts with c between them
 unfoldable pub joined : ℕ → List (List ℕ) → List ℕ
 joined c [] = []
@@ -75,6 +86,10 @@ behindOr t c (b ∷ s) = cond (eqb b c) s (behindOr t c s)
 -- the same, the whole where there is none
 unfoldable pub behind : ℕ → List ℕ → List ℕ
 behind c s = behindOr s c s
+
+-- the same, nothing where there is none
+unfoldable pub afterFirst : ℕ → List ℕ → List ℕ
+afterFirst c s = behindOr [] c s
 
 unfoldable pub startsWith : ℕ → List ℕ → Bool
 startsWith c [] = false

@@ -12,7 +12,7 @@ use Rattle.texts.proofs.Cuts.{drop-next, rest}
 use Rattle.texts.proofs.Pieces.{start}
 use Rattle.texts.specs.Lent.{Holds, Adds}
 use Rattle.wording.specs.Numbers.{digitOf}
-use Rattle.wording.specs.Escapes.{Plain, text, broken, highOf, hexEscape, escapeOf, UsedIn, before, onEscape, undo, plain, undoneOf, Undid}
+use Rattle.wording.specs.Escapes.{Plain, text, broken, highOf, hexEscape, escapeOf, UsedIn, before, onEscape, undo, plain, undoneOf, undoneText, Undid}
 use Rattle.wording.specs.declared.escapes.Escape.{Escape}
 use Rattle.wording.specs.declared.escapes.Escape.the-variants as escape
 use Rattle.wording.specs.declared.escapes.Undone.the-variants as undone
@@ -118,7 +118,7 @@ undo-escape s i x n h e f =
     ∙ ap (λ (p : Escape). onEscape p (λ y m. before y (undo m (drop (i + 1) s)))) f
     ∙ ap (before x) (undo-skip n (drop (i + 1) s) ∙ ap (undo 0) (drop-drop n (i + 1) s))
 
-pub undo-broken : (s : List ℕ) (i : ℕ) → i < length s → getD s i 0 ≡ 92 → escapeOf (drop (i + 1) s) ≡ escape.Bad → undo 0 (drop i s) ≡ broken
+pub undo-broken : (s : List ℕ) (i : ℕ) → i < length s → getD s i 0 ≡ 92 → escapeOf (drop (i + 1) s) ≡ escape.Bad → undo 0 (drop i s) ≡ broken []
 undo-broken s i h e f =
     ap (undo 0) (drop-next s i h) ∙ undo-slash (getD s i 0) (drop (i + 1) s) e
     ∙ ap (λ (p : Escape). onEscape p (λ y m. before y (undo m (drop (i + 1) s)))) f
@@ -130,12 +130,12 @@ undo-end s i h = rw (drop-of-length-le s h)
 -- bytes before what is left
 unfoldable pub behind : List ℕ → Plain → Plain
 behind d (text t) = text (d ++ t)
-behind d broken = broken
+behind d (broken t) = broken (d ++ t)
 
 behind-byte : (d : List ℕ) (b : ℕ) (p : Plain) → behind d (before b p) ≡ behind (d ++ (b ∷ [])) p
 unfolding behind
 behind-byte d b (text t) = ap text (sym (append-assoc d (b ∷ []) t))
-behind-byte d b broken = refl
+behind-byte d b (broken t) = ap broken (sym (append-assoc d (b ∷ []) t))
 
 -- the bytes before the place i of the word were undone: what they stand for was written
 pub record Undoing (s o out : List ℕ) (i at : ℕ) : Type 0 where
@@ -149,7 +149,7 @@ undoing-start s o = record { done = []; whole = go (undo 0 s); held = start o }
   where
     go : (p : Plain) → p ≡ behind [] p
     go (text t) = refl
-    go broken = refl
+    go (broken t) = refl
 
 pub undoing-byte : {s o out new : List ℕ} {i at end : ℕ} (j b : ℕ) → Undoing s o out i at → Adds (b ∷ []) out at new end
     → undo 0 (drop i s) ≡ before b (undo 0 (drop j s)) → Undoing s o new j end
@@ -160,20 +160,21 @@ undoing-byte {s} {o} {out} {new} {i} {at} {end} j b u a e =
       held = a .held o (u .done) (u .held);
     }
 
-pub undoing-broken : {s o out new : List ℕ} {i at : ℕ} → Undoing s o out i at → undo 0 (drop i s) ≡ broken → Undid s o new undone.Bad
+held-as : {s o out : List ℕ} {i at : ℕ} (u : Undoing s o out i at) (t : List ℕ) → u .done ≡ t → Holds o t out (min (length t) (length o))
+held-as {s} {o} {out} {i} {at} u t q =
+    subst (λ (x : List ℕ). Holds o x out (min (length x) (length o))) q (subst (λ (n : ℕ). Holds o (u .done) out n) (u .held .place) (u .held))
+
+pub undoing-broken : {s o out : List ℕ} {i at : ℕ} → Undoing s o out i at → undo 0 (drop i s) ≡ broken [] → Undid s o out undone.Bad
 unfolding behind
 undoing-broken {s} {o} u e =
-    let w : plain s ≡ broken = u .whole ∙ ap (behind (u .done)) e in
-    record { answer = sym (ap (undoneOf (length o)) w); bytes = λ t f. absurd (let z : _≡_ {A = ℕ} 0 1 = cc in omega arith) }
+    let w : plain s ≡ broken (u .done) = u .whole ∙ ap (behind (u .done)) e ∙ ap broken (append-nil (u .done)) in
+    record { answer = sym (ap (undoneOf (length o)) w); bytes = held-as u (undoneText (plain s)) (sym (ap undoneText w)) }
 
 pub undoing-end : {s o out : List ℕ} {i at : ℕ} → Undoing s o out i at → undo 0 (drop i s) ≡ text [] → Undid s o out (undone.Length at)
 unfolding behind
-undoing-end {s} {o} {out} {i} {at} u e =
+undoing-end {s} {o} u e =
     let w : plain s ≡ text (u .done) = u .whole ∙ ap (behind (u .done)) e ∙ ap text (append-nil (u .done)) in
     record {
       answer = ap undone.Length (u .held .place) ∙ sym (ap (undoneOf (length o)) w);
-      bytes = λ t f. said t (let q : u .done ≡ t = cc in q);
+      bytes = held-as u (undoneText (plain s)) (sym (ap undoneText w));
     }
-  where
-    said : (t : List ℕ) → u .done ≡ t → Holds o t out (min (length t) (length o))
-    said t q = subst (λ (x : List ℕ). Holds o x out (min (length x) (length o))) q (subst (λ (n : ℕ). Holds o (u .done) out n) (u .held .place) (u .held))

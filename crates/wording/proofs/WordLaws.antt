@@ -7,8 +7,8 @@ use native.Mathlib.Omega.{arith}
 use lib.ListN.{length, take, drop, getD, drop-of-length-le}
 use lib.Seq.{drop-drop}
 use borrow.Author.Tests.{eq-eqb, ne-eqb}
-use Rattle.texts.specs.Bytes.{is, indexOf}
-use Rattle.texts.proofs.Cuts.{drop-next, rest}
+use Rattle.texts.specs.Bytes.{is, behindOr, afterFirst, indexOf}
+use Rattle.texts.proofs.Cuts.{drop-next, rest, after-hit, after-none}
 use Rattle.wording.specs.Words.{sameText, firstWord, afterWord, wordAt, blanksIn}
 
 -- ---- the same text
@@ -36,19 +36,9 @@ unfolding sameText
 same-end a b i h k = rw (drop-of-length-le a h, drop-of-length-le b k)
 
 -- ---- words
-pub rest-hit : (s : List ℕ) (n : ℕ) → n ≡ indexOf (is 32) s → drop (n + 1) s ≡ afterWord s
-unfolding afterWord
-rest-hit s n e = rw e
-
-pub rest-none : (s : List ℕ) (n : ℕ) → n ≡ indexOf (is 32) s → length s ≤ n → drop n s ≡ afterWord s
-unfolding afterWord
-rest-none s n e h =
-    let k : length s ≤ indexOf (is 32) s + 1 = omega (arith, e) in
-    rw (drop-of-length-le s h, drop-of-length-le s k)
-
-after-none : afterWord [] ≡ []
-unfolding afterWord indexOf
-after-none = refl
+none-after : afterWord [] ≡ []
+unfolding afterWord afterFirst behindOr
+none-after = refl
 
 first-none : firstWord [] ≡ []
 unfolding firstWord Rattle.texts.specs.Bytes.upTo
@@ -57,7 +47,7 @@ first-none = refl
 word-none : (k : ℕ) → wordAt k [] ≡ []
 unfolding wordAt
 word-none zero = first-none
-word-none (suc k) = ap (wordAt k) after-none ∙ word-none k
+word-none (suc k) = ap (wordAt k) none-after ∙ word-none k
 
 pub word-first : (s t : List ℕ) (k : ℕ) → k ≤ 0 → t ≡ firstWord s → wordAt k s ≡ t
 unfolding wordAt
@@ -70,15 +60,17 @@ word-suc (suc k) t h = let q : k ≡ suc k - 1 = omega arith in ap (λ (m : ℕ)
 
 -- one word further on
 pub word-next : (s : List ℕ) (at k n : ℕ) → 0 < k → n ≡ indexOf (is 32) (drop at s) → wordAt k (drop at s) ≡ wordAt (k - 1) (drop (at + n + 1) s)
+unfolding afterWord
 word-next s at k n h e =
     let w : at + (n + 1) ≡ at + n + 1 = omega arith in
     word-suc k (drop at s) h
-    ∙ ap (wordAt (k - 1)) (sym (rest-hit (drop at s) n e) ∙ drop-drop (n + 1) at s ∙ ap (λ (m : ℕ). drop m s) w)
+    ∙ ap (wordAt (k - 1)) (sym (after-hit 32 (drop at s) n e) ∙ drop-drop (n + 1) at s ∙ ap (λ (m : ℕ). drop m s) w)
 
 pub word-last : (s : List ℕ) (k n : ℕ) → 0 < k → n ≡ indexOf (is 32) s → n ≡ length s → wordAt k s ≡ drop n s
+unfolding afterWord
 word-last s k n h e l =
     let d : drop n s ≡ [] = drop-of-length-le s {i = n} (omega (arith, l)) in
-    word-suc k s h ∙ ap (wordAt (k - 1)) (sym (rest-none s n e (omega (arith, l))) ∙ d) ∙ word-none (k - 1) ∙ sym d
+    word-suc k s h ∙ ap (wordAt (k - 1)) (sym (after-none 32 s n e (omega (arith, l))) ∙ d) ∙ word-none (k - 1) ∙ sym d
 
 -- the same of the part t of s from a place on
 pub word-go : (s : List ℕ) (at k n : ℕ) (t : List ℕ) → t ≡ drop at s → 0 < k → n ≡ indexOf (is 32) t → wordAt k (drop at s) ≡ wordAt (k - 1) (drop (at + n + 1) s)

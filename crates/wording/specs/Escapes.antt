@@ -13,10 +13,10 @@ use Rattle.wording.specs.declared.escapes.Escape.the-variants as escape
 use Rattle.wording.specs.declared.escapes.Undone.{Undone}
 use Rattle.wording.specs.declared.escapes.Undone.the-variants as undone
 
--- a word with its escapes undone, or that one of them is none
+-- a word with its escapes undone; where one of them is none, what stands before that one
 pub data Plain : Type 0 where
   text : List ℕ → Plain
-  broken : Plain
+  broken : List ℕ → Plain
 
 -- the first of two hexadecimal digits may be a sign, as Rust reads it
 unfoldable pub highOf : ℕ → ℕ
@@ -47,11 +47,11 @@ UsedIn escape.Bad k = Unit
 -- a byte before what is left
 abbrev pub before : ℕ → Plain → Plain
 before b (text t) = text (b ∷ t)
-before b broken = broken
+before b (broken t) = broken (b ∷ t)
 
 abbrev pub onEscape : Escape → (ℕ → ℕ → Plain) → Plain
 onEscape (escape.Byte b n) k = k b n
-onEscape escape.Bad k = broken
+onEscape escape.Bad k = broken []
 
 -- the text of a word of which k bytes more belong to an escape
 unfoldable pub undo : ℕ → List ℕ → Plain
@@ -67,9 +67,14 @@ plain s = undo 0 s
 -- what undoing tells of lent bytes of this length
 abbrev pub undoneOf : ℕ → Plain → Undone
 undoneOf room (text t) = undone.Length (min (length t) room)
-undoneOf room broken = undone.Bad
+undoneOf room (broken t) = undone.Bad
 
--- the text of the word s was written over the lent bytes o
+-- what was undone, up to an escape that is none
+abbrev pub undoneText : Plain → List ℕ
+undoneText (text t) = t
+undoneText (broken t) = t
+
+-- the text of the word s was written over the lent bytes o; where an escape is none, what stands before that one was
 pub record Undid (s o out : List ℕ) (r : Undone) : Type 0 where
   pub answer : r ≡ undoneOf (length o) (plain s)
-  pub bytes : (t : List ℕ) → plain s ≡ text t → Holds o t out (min (length t) (length o))
+  pub bytes : Holds o (undoneText (plain s)) out (min (length (undoneText (plain s))) (length o))

@@ -1,5 +1,5 @@
 -- Numbers as Rust reads them: an optional sign, one digit or more, leading zeros allowed, at most the type's limit.
-use Prim.Native.Nat.{ℕ, _+_, _-_, _*_, _≤_}
+use Prim.Native.Nat.{ℕ, _+_, _-_, _*_, _^_, _≤_}
 use Prim.Native.Char.{code}
 use mathlib.Core.List.{List, [], _∷_}
 use mathlib.Core.Bool.{true, false, cond, _&&_}
@@ -36,7 +36,7 @@ numberIn base limit (b ∷ s) = valueFrom base limit 0 (b ∷ s)
 
 -- an unsigned number of 32 bits
 unfoldable pub unsignedOf : List ℕ → Parsed
-unsignedOf s = numberIn 10 4294967295 (strip (code "+") s)
+unsignedOf s = numberIn 10 (2 ^ 32 - 1) (strip (code "+") s)
 
 -- without every 0x at the start
 unfoldable pub withoutPrefix : List ℕ → List ℕ
@@ -47,20 +47,20 @@ withoutPrefix (a ∷ (b ∷ s)) =
 
 -- a set of 64 bits in hexadecimal
 unfoldable pub setOf : List ℕ → Parsed
-setOf s = numberIn 16 18446744073709551615 (strip (code "+") (withoutPrefix s))
+setOf s = numberIn 16 (2 ^ 64 - 1) (strip (code "+") (withoutPrefix s))
 
--- from 0 to 2147483647, and from -2147483648 to 0
+-- from 0 to 2 ^ 31 - 1, and from -2 ^ 31 to 0
 abbrev pub positiveOf : Parsed → Signed
-positiveOf (parsed.Value n) = cond (leb n 2147483647) (signed.Value (pos n)) signed.Bad
+positiveOf (parsed.Value n) = cond (leb n (2 ^ 31 - 1)) (signed.Value (pos n)) signed.Bad
 positiveOf parsed.Bad = signed.Bad
 
 abbrev pub negativeOf : Parsed → Signed
-negativeOf (parsed.Value n) = cond (leb n 2147483648) (signed.Value (negℤ (pos n))) signed.Bad
+negativeOf (parsed.Value n) = cond (leb n (2 ^ 31)) (signed.Value (negℤ (pos n))) signed.Bad
 negativeOf parsed.Bad = signed.Bad
 
 -- a signed number of 32 bits
 unfoldable pub signedOf : List ℕ → Signed
 signedOf [] = signed.Bad
 signedOf (b ∷ s) =
-    cond (eqb b (code "-")) (negativeOf (numberIn 10 4294967295 s))
-    (positiveOf (numberIn 10 4294967295 (strip (code "+") (b ∷ s))))
+    cond (eqb b (code "-")) (negativeOf (numberIn 10 (2 ^ 32 - 1) s))
+    (positiveOf (numberIn 10 (2 ^ 32 - 1) (strip (code "+") (b ∷ s))))

@@ -1,19 +1,14 @@
 -- The texts of numbers, refusals and bad requests.
 use Prim.Native.Nat.{ℕ, zero, suc, _/_}
 use Prim.Native.Char.{code}
-use Prim.Native.String.{String, [] as []ˢ, _∷_ as _∷ˢ_}
-use mathlib.Core.List.{List, [], _∷_, _++_}
+use mathlib.Core.List.{List, _∷_, _++_}
 use mathlib.Core.Bool.{true, false}
 use lib.Dec.{ltb}
 use lib.IntN.{ℤ, pos, negsuc}
 use Rattle.io.specs.Digits.{digits}
 use Rattle.squares.specs.Refusals.{numberOf, squareOf}
 use Rattle.squares.specs.declared.refusal.Refusal.{Refusal}
-
--- the bytes of an ASCII text
-abbrev pub bytes : String → List ℕ
-bytes []ˢ = []
-bytes (c ∷ˢ s) = code c ∷ bytes s
+use Rattle.texts.specs.Bytes.{bytes}
 
 -- ---- numbers
 

@@ -3,9 +3,8 @@ use Prim.Native.Nat.{ℕ, zero, suc, _+_}
 use Prim.Native.Char.{code}
 use mathlib.Core.List.{List, [], _∷_}
 use mathlib.Core.Bool.{Bool, true, false, cond, _&&_}
-use lib.ListN.{drop}
 use lib.Dec.{eqb}
-use Rattle.texts.specs.Bytes.{is, upTo, indexOf}
+use Rattle.texts.specs.Bytes.{upTo, afterFirst}
 
 unfoldable pub sameText : List ℕ → List ℕ → Bool
 sameText [] [] = true
@@ -19,7 +18,7 @@ firstWord s = upTo (code " ") s
 
 -- what stands behind it, nothing where there is none
 unfoldable pub afterWord : List ℕ → List ℕ
-afterWord s = drop (indexOf (is (code " ")) s + 1) s
+afterWord s = afterFirst (code " ") s
 
 -- the word of index k, from 0 on
 unfoldable pub wordAt : ℕ → List ℕ → List ℕ

@@ -1,7 +1,7 @@
 // Numbers as Rust reads them: an optional sign, digits, leading zeros allowed, nothing beyond the type's limits.
 use texts::bytes;
 ghost use mathlib.Core.Path.{_≡_};
-ghost use Prim.Native.Nat.{_≤_, _<_};
+ghost use Prim.Native.Nat.{_-_, _^_, _≤_, _<_};
 ghost use Rattle.wording.specs.Numbers.{digitOf, AtMost, numberIn, unsignedOf, withoutPrefix, setOf, positiveOf, negativeOf, signedOf};
 
 pub enum Parsed {
@@ -69,7 +69,7 @@ fn number(s: &[u8], base: u64, limit: u64) -> Parsed
 
 // A number of 32 bits.
 pub fn unsigned(s: &[u8]) -> Parsed
-    ensures { λ r. ⌜ (r ≡ unsignedOf (now (s .entry))) × AtMost 4294967295 r ⌝ }
+    ensures { λ r. ⌜ (r ≡ unsignedOf (now (s .entry))) × AtMost (2 ^ 32 - 1) r ⌝ }
 {
     number(bytes::strip(s, b'+'), 10, 0xFFFF_FFFF)
 }

@@ -30,8 +30,7 @@ pub fn first(s: &[u8]) -> &[u8]
 pub fn rest(s: &[u8]) -> &[u8]
     ensures { λ r. ⌜ now r ≡ afterWord (now (s .entry)) ⌝ }
 {
-    let n = bytes::find(s, b' ');
-    if n < s.len() { &s[n + 1..] } else { &s[n..] }
+    bytes::after_first(s, b' ')
 }
 
 // The word of this index, from 0 on.

@@ -5,6 +5,7 @@ use native.Mathlib.Omega.{arith}
 use lib.ListN.{length}
 use lib.Seq.{length-take-le}
 use denote.Ref.{now}
+use Rattle.requests.specs.Requests.{answerRoom}
 use borrow.Author.Needs.{needs}
 use Rattle.texts.proofs.Cuts.{rest}
 use Rattle.lines.proofs.StepLaws as laws
@@ -77,7 +78,7 @@ returns-2 : tie.Need-returns-2 Inv-loop μ-loop
 returns-2 c =
     let a = c .before .before .before .before .args in
     let l = c .before .loop in
-    laws.full (now (a .s)) (a .from) (l .out) (l .at) (l .put) (l .inv .1) 1507328 (omega arith) (omega arith)
+    laws.full (now (a .s)) (a .from) (l .out) (l .at) (l .put) (l .inv .1) answerRoom (omega arith) (omega arith)
 
 pub answer-lines-spec : {M : Type 1} → statement M
 answer-lines-spec =

@@ -1,15 +1,16 @@
 -- The turns are counted down; nothing else ends the loop before the input does. Each read has room.
 use mathlib.Core.Path.{_≡_, sym}
-use Prim.Native.Nat.{_≤_, _<_}
+use Prim.Native.Nat.{_+_, _≤_, _<_}
 use lib.ListN.{length}
 use lib.Seq.{length-take-le}
+use Rattle.requests.specs.Requests.{longest, answerRoom}
 use borrow.Author.Needs.{needs}
 use native.Mathlib.Omega.{arith}
 use Rattle.lines.proofs.feed.Statement.{statement}
 use Rattle.lines.proofs.feed.Tie as tie
 
 abbrev Inv-loop : tie.InvT-loop
-Inv-loop buf₀ out₀ have₀ turns₀ buf out have turns = (have ≤ 65537) × (length buf ≡ length buf₀) × (length out ≡ length out₀) × (65537 < length buf) × (1507328 ≤ length out)
+Inv-loop buf₀ out₀ have₀ turns₀ buf out have turns = (have ≤ longest + 1) × (length buf ≡ length buf₀) × (length out ≡ length out₀) × (longest + 1 < length buf) × (answerRoom ≤ length out)
 
 abbrev μ-loop : tie.MeasureT-loop
 μ-loop buf₀ out₀ have₀ turns₀ buf out have turns = turns

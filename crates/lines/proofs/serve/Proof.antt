@@ -1,8 +1,9 @@
 -- The buffers have room for a line and for an answer.
-use Prim.Native.Nat.{ℕ, _≤_}
+use Prim.Native.Nat.{ℕ, _+_, _≤_}
 use mathlib.Core.Path.{_≡_, sym}
 use mathlib.Core.List.{List}
 use lib.ListN.{length, replicate, length-replicate}
+use Rattle.requests.specs.Requests.{longest, answerRoom}
 use borrow.Author.Needs.{needs}
 use native.Mathlib.Omega.{arith}
 use Rattle.lines.proofs.serve.Statement.{statement}
@@ -18,7 +19,7 @@ fits : (l : List ℕ) (n m : ℕ) → length l ≡ n → m ≤ n → m ≤ lengt
 fits l n m e h = omega (arith, e)
 
 feed-requires : tie.Need-feed-requires
-feed-requires c κs = (fits (replicate 131072 0) 131072 65538 (length-replicate {A = ℕ} 131072 0) (omega arith), fits (replicate 1572864 0) 1572864 1507328 (length-replicate {A = ℕ} 1572864 0) (omega arith))
+feed-requires c κs = (fits (replicate 131072 0) 131072 (longest + 2) (length-replicate {A = ℕ} 131072 0) (omega arith), fits (replicate 1572864 0) 1572864 answerRoom (length-replicate {A = ℕ} 1572864 0) (omega arith))
 
 returns : tie.Need-returns
 returns c = search needs

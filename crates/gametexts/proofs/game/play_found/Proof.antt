@@ -12,16 +12,16 @@ play-requires c κs = search needs
 enum-known-f-2 : tie.Need-enum-known-f-2
 enum-known-f-2 c = search needs
 
-refused-requires : tie.Need-refused-requires
-refused-requires c κs = search needs
+not-played-requires : tie.Need-not-played-requires
+not-played-requires c κs = search needs
 
 returns : tie.Need-returns
 returns c = rw (c .before .before .f .given .1) (c .play .ensures)
 
 returns-2 : tie.Need-returns-2
-returns-2 c = rw (c .before .before .f2 .given .1) (c .refused .ensures)
+returns-2 c = rw (c .before .before .f2 .given .1) (c .not-played .ensures)
 
 pub play-found-spec : {M : Type 1} → statement M
 play-found-spec =
     tie.close
-    (tie.spec enum-known-f play-requires enum-known-f-2 refused-requires returns returns-2)
+    (tie.spec enum-known-f play-requires enum-known-f-2 not-played-requires returns returns-2)

@@ -1,5 +1,5 @@
 -- A negative number has 1 added, its sign changed, and 1 added to its size.
-use Rattle.handed.proofs.Signed.{below, more-fits, turned-fits, turned-is, not-below}
+use Rattle.wording.proofs.Signs.{below, more-fits, turned-fits, turned-is, not-below}
 use borrow.Author.Needs.{needs}
 use native.Mathlib.Omega.{arith}
 use Rattle.handed.proofs.show.signed.Statement.{statement}

@@ -11,14 +11,13 @@ use Rattle.requests.proofs.plays.fresh.Tie as tie
 
 returns : tie.Need-returns
 unfolding freshAnswer
-returns c = pieces.adds-then (c .before .before .before .before .before .before .before .put .ensures) (pieces.adds-as (ap judgedWord (c .before .before .before .outcome .ensures ∙ ap (λ (b : Begun). outcomeOf (b .game)) (c .before .before .before .before .before .before .before .before .before .before .before .from-position .ensures))) (c .before .before .put-judged .ensures))
+returns c = pieces.adds-then (c .before .before .before .before .before .before .before .put-ok .ensures) (pieces.adds-as (ap judgedWord (c .before .before .before .outcome .ensures ∙ ap (λ (b : Begun). outcomeOf (b .game)) (c .before .before .before .before .before .before .before .before .before .before .from-position .ensures))) (c .before .before .put-judged .ensures))
 
 pub fresh-spec : {M : Type 1} → statement M
 fresh-spec =
     tie.close
     (tie.spec
     (λ c κs. search needs)
-    (λ c. search needs)
     (λ c κs. search needs)
     (λ c κs. search needs)
     (λ c κs. search needs)

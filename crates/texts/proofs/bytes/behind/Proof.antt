@@ -1,6 +1,6 @@
 -- Behind the place that `find` gives, where there is one.
 use mathlib.Core.Path.{ap, sym, _∙_}
-use Prim.Native.Nat.{ℕ, _-_, _+_}
+use Prim.Native.Nat.{ℕ, _+_}
 use lib.ListN.{drop}
 use denote.Ref.{now}
 use Rattle.texts.proofs.Cuts as laws

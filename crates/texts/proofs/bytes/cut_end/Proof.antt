@@ -1,6 +1,6 @@
 -- The bytes behind the place are all taken; the first from the end that is not ends the rest.
 use mathlib.Core.Path.{_≡_, ap, sym, _∙_}
-use Prim.Native.Nat.{_≤_, _-_}
+use Prim.Native.Nat.{_≤_}
 use lib.ListN.{length, take}
 use lib.Seq.{length-take-le, take-length}
 use denote.Ref.{now}

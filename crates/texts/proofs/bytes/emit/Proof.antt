@@ -1,7 +1,7 @@
 -- The bytes before the place are the text, those from it on as they were; nothing is written before there is room.
 use mathlib.Core.Path.{_≡_, refl, ap, _∙_}
 use mathlib.Core.List.{List, _++_}
-use Prim.Native.Nat.{ℕ, _≤_, _-_, _+_}
+use Prim.Native.Nat.{ℕ, _≤_, _-_}
 use lib.ListN.{length, take, drop, getD, set, length-set}
 use denote.Ref.{now}
 use borrow.Author.Tests.{lt-leb, le-leb}

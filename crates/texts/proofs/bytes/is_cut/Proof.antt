@@ -1,5 +1,4 @@
 -- Each branch is one test of the definition.
-use Prim.Native.Nat.{_-_}
 use borrow.Author.Tests.{lt-leb, le-leb, ne-eqb}
 use Rattle.texts.specs.Bytes.{blank, is}
 use native.Mathlib.Omega.{arith}

@@ -1,6 +1,5 @@
 -- The length first, then the bytes.
 use mathlib.Core.Path.{_∙_}
-use Prim.Native.Nat.{_-_}
 use borrow.Author.Tests.{lt-leb, le-leb}
 use Rattle.texts.specs.Bytes.{readable}
 use borrow.Author.Needs.{needs}

@@ -1,6 +1,5 @@
 -- Both ends.
 use mathlib.Core.Path.{ap, _∙_}
-use Prim.Native.Nat.{_-_}
 use Rattle.texts.specs.Bytes.{trim, trimEnd, blank}
 use borrow.Author.Needs.{needs}
 use Rattle.texts.proofs.bytes.trim.Statement.{statement}

@@ -1,6 +1,6 @@
 -- Before the place that `find` gives.
 use mathlib.Core.Path.{ap, sym, _∙_}
-use Prim.Native.Nat.{ℕ, _-_}
+use Prim.Native.Nat.{ℕ}
 use lib.ListN.{take}
 use lib.Seq.{length-take-le}
 use denote.Ref.{now}

@@ -1,6 +1,5 @@
 -- Blanks, quotes, dots.
 use mathlib.Core.Path.{ap, _∙_}
-use Prim.Native.Nat.{_-_}
 use Rattle.texts.specs.Fen.{body}
 use Rattle.texts.specs.Bytes.{is, trim, trimStart, trimEnd}
 use borrow.Author.Needs.{needs}

@@ -1,6 +1,5 @@
 -- Trimmed, without leading Ks, then read.
 use mathlib.Core.Path.{ap, _∙_}
-use Prim.Native.Nat.{_-_}
 use Rattle.texts.specs.Fen.{endOf}
 use Rattle.texts.specs.Bytes.{is, trimStart, readSquare}
 use borrow.Author.Needs.{needs}

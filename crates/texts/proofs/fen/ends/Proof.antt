@@ -1,6 +1,5 @@
 -- Each end is a square, or its refusal is passed on.
 use mathlib.Core.Path.{ap}
-use Prim.Native.Nat.{_-_}
 use borrow.Author.Needs.{needs}
 use Rattle.texts.proofs.fen.ends.Statement.{statement}
 use Rattle.texts.proofs.fen.ends.Tie as tie

@@ -1,5 +1,4 @@
 -- Each arm is one letter.
-use Prim.Native.Nat.{_-_}
 use borrow.Author.Tests.{ne-eqb}
 use Rattle.texts.specs.Fen.{fenColorOf}
 use Prim.Native.Char.{code}

@@ -1,6 +1,5 @@
 -- The side, then the fields behind it.
 use mathlib.Core.Path.{sym, _∙_}
-use Prim.Native.Nat.{_-_}
 use lib.Seq.{length-take-le}
 use denote.Ref.{now}
 use Rattle.texts.proofs.Readers as laws

@@ -1,6 +1,5 @@
 -- 1, then what was read, then acceptance.
 use mathlib.Core.Path.{ap, _∙_}
-use Prim.Native.Nat.{_-_}
 use Rattle.texts.specs.Fen.{fromFenOf}
 use Rattle.texts.specs.Parts.{placing}
 use borrow.Author.Needs.{needs}

@@ -1,6 +1,6 @@
 -- One square a turn: what is put on and what remains are the whole list.
 use mathlib.Core.Path.{_≡_, refl}
-use Prim.Native.Nat.{_<_, _-_, _^_}
+use Prim.Native.Nat.{_<_, _^_}
 use lib.ListN.{length}
 use denote.Ref.{now}
 use Rattle.texts.proofs.Writers as laws

@@ -1,6 +1,5 @@
 -- Both ends are read as squares.
 use mathlib.Core.Path.{ap, ap₂, _∙_}
-use Prim.Native.Nat.{_-_}
 use denote.Ref.{now}
 use Rattle.texts.proofs.Readers as laws
 use Rattle.texts.specs.Fen.{endOf, endsOf, rangeOf}

@@ -1,6 +1,5 @@
 -- One byte, a letter.
 use mathlib.Core.Path.{sym, _∙_}
-use Prim.Native.Nat.{_-_}
 use denote.Ref.{now}
 use Rattle.texts.proofs.Readers as laws
 use borrow.Author.Needs.{needs}

@@ -33,7 +33,7 @@ same-length : tie.Need-same-length
 same-length c = search needs
 
 returns : tie.Need-returns
-unfolding hubOf hubLent
+unfolding hubLent hubOf
 returns c =
     let o = now (c .before .before .before .before .before .before .before .before .before .before .before .args .out) in
     let s = sym (c .before .before .before .before .before .before .before .before .before .sound .ensures) ∙ c .before .before .before .before .before .before .before .before .if1 .taken in

@@ -1,6 +1,5 @@
 -- e is empty; a piece is put on its square; else 5.
 use mathlib.Core.Path.{ap}
-use Prim.Native.Nat.{_-_}
 use borrow.Author.Tests.{eq-eqb, ne-eqb}
 use Rattle.texts.specs.declared.parts.Reading.the-variants as reading
 use Rattle.texts.specs.Hub.{hubByteOf}

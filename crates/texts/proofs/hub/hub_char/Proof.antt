@@ -1,5 +1,4 @@
 -- What stands on the square has its letter.
-use Prim.Native.Nat.{_-_}
 use Rattle.texts.specs.Hub.{hubChar}
 use borrow.Author.Needs.{needs}
 use Rattle.texts.proofs.hub.hub_char.Statement.{statement}

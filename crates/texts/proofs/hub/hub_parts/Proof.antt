@@ -1,6 +1,5 @@
 -- The side, then the squares.
 use mathlib.Core.Path.{sym, _∙_}
-use Prim.Native.Nat.{_-_}
 use denote.Ref.{now}
 use Rattle.texts.proofs.Readers as laws
 use borrow.Author.Needs.{needs}

@@ -1,5 +1,4 @@
 -- Acceptance of what was read, or the refusal passed on.
-use Prim.Native.Nat.{_-_}
 use borrow.Author.Needs.{needs}
 use Rattle.texts.proofs.parts.accept.Statement.{statement}
 use Rattle.texts.proofs.parts.accept.Tie as tie

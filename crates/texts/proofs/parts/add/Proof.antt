@@ -1,5 +1,4 @@
 -- Each branch is one case of the definition.
-use Prim.Native.Nat.{_-_}
 use Rattle.texts.specs.Parts.{added}
 use Rattle.texts.proofs.parts.add.Statement.{statement}
 use Rattle.texts.proofs.parts.add.Tie as tie

@@ -1,6 +1,5 @@
 -- The record itself.
 use mathlib.Core.Path.{refl}
-use Prim.Native.Nat.{_-_}
 use Rattle.texts.specs.Parts.{begun}
 use Rattle.texts.proofs.parts.begun.Statement.{statement}
 use Rattle.texts.proofs.parts.begun.Tie as tie

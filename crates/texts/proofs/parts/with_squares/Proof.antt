@@ -1,5 +1,4 @@
 -- Each colour its own set, the kings one.
-use Prim.Native.Nat.{_-_}
 use Rattle.texts.specs.Parts.{withSquares}
 use borrow.Author.Needs.{needs}
 use Rattle.texts.proofs.parts.with_squares.Statement.{statement}

@@ -1,5 +1,4 @@
 -- 1, then 4.
-use Prim.Native.Nat.{_-_}
 use Rattle.texts.specs.Bytes.{fromStrOf}
 use borrow.Author.Needs.{needs}
 use Rattle.texts.proofs.square.from_str.Statement.{statement}

@@ -1,6 +1,5 @@
 -- An optional +, then digits.
 use mathlib.Core.Path.{ap, _∙_}
-use Prim.Native.Nat.{_-_}
 use Rattle.texts.specs.Bytes.{readSquare, number}
 use borrow.Author.Needs.{needs}
 use Rattle.texts.proofs.square.read_square.Statement.{statement}

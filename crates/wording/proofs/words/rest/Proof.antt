@@ -1,54 +1,15 @@
--- Behind the first space, or nothing.
-use mathlib.Core.Path.{_∙_}
-use Prim.Native.Nat.{_+_}
-use denote.Ref.{now}
-use Rattle.wording.proofs.WordLaws as laws
-use Rattle.texts.proofs.Cuts.{rest}
+-- What stands behind the first space.
+use Rattle.wording.specs.Words.{afterWord}
 use borrow.Author.Needs.{needs}
 use Rattle.wording.proofs.words.rest.Statement.{statement}
 use Rattle.wording.proofs.words.rest.Tie as tie
 
-find-requires : tie.Need-find-requires
-find-requires c κs = search needs
-
-add-result : tie.Need-add-result
-add-result c = search needs
-
-sub-result : tie.Need-sub-result
-sub-result c = search needs
-
-part-result-start : tie.Need-part-result-start
-part-result-start c = search needs
-
-part-result-end : tie.Need-part-result-end
-part-result-end c = search needs
-
-sub-result-2 : tie.Need-sub-result-2
-sub-result-2 c = search needs
-
-part-result-start-2 : tie.Need-part-result-start-2
-part-result-start-2 c = search needs
-
-part-result-end-2 : tie.Need-part-result-end-2
-part-result-end-2 c = search needs
+after-first-requires : tie.Need-after-first-requires
+after-first-requires c κs = search needs
 
 returns : tie.Need-returns
-returns c = let s = now (c .before .before .before .before .args .s) in rest s (c .before .before .find .result + 1) ∙ laws.rest-hit s (c .before .before .find .result) (c .before .before .find .ensures .0)
-
-returns-2 : tie.Need-returns-2
-returns-2 c = let s = now (c .before .before .before .before .args .s) in rest s (c .before .before .find .result) ∙ laws.rest-none s (c .before .before .find .result) (c .before .before .find .ensures .0) (c .before .if1 .left)
+unfolding afterWord
+returns c = c .after-first .ensures
 
 pub rest-spec : {M : Type 1} → statement M
-rest-spec =
-    tie.close
-    (tie.spec
-    find-requires
-    add-result
-    sub-result
-    part-result-start
-    part-result-end
-    sub-result-2
-    part-result-start-2
-    part-result-end-2
-    returns
-    returns-2)
+rest-spec = tie.close (tie.spec after-first-requires returns)
