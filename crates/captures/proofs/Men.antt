@@ -13,6 +13,7 @@ use Rattle.squares.specs.Directions.{directionAt, shifted}
 use Rattle.captures.specs.declared.movegen.Captures.{Captures}
 use Rattle.captures.specs.Record.{Ending, Kept, noteOf, recordOf}
 use Rattle.captures.specs.Walks.{upTo, anyUpTo}
+use Rattle.captures.specs.Open.{manJump}
 use Rattle.captures.specs.Men.{manOver, manLand, manJumps, manEndings, Man}
 use Rattle.captures.proofs.Fewer.{fewer}
 use Rattle.captures.proofs.Steps.{no-land}
@@ -104,3 +105,12 @@ walked-end s₀ at c d s r w h p =
     go e (suc f) l =
         let same : s ≡ s₀ = w .found f l ∙ ap (foldl noteOf s₀) (none-added (manJumps (s₀ .them) (s₀ .empty) at c) _ (nothing f) d (sym (w .any))) in
         rw (← e, ← w .any) (p ∙ ap (λ (q : Captures). recordOf q at c) same)
+
+-- where the man can not go on, recording what it took is all
+pub man-ends : (s : Captures) (at c : ℕ) → anyUpTo (manJump at (without (s .them) c) (s .empty)) 4 ≡ false → Man s at c (recordOf s at c)
+unfolding manEndings manJump
+man-ends s at c h = record { kept = record-kept s at c; found = go }
+  where
+    go : (f : ℕ) → size (without (s .them) c) < f → recordOf s at c ≡ foldl noteOf s (manEndings (s .them) (s .empty) f at c)
+    go zero l = absurd (not-suc-le-zero l)
+    go (suc f) l = rw h refl

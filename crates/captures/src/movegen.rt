@@ -125,7 +125,8 @@ impl Captures {
     pub(crate) fn man(self, at: Bitboard, captured: Bitboard) -> Captures
         ensures { λ r. ⌜ Man self at captured r ⌝ }
     {
-        let untaken = bitboard::difference(self.them, captured);
+        let them = self.them;
+        let untaken = bitboard::difference(them, captured);
         let empty = self.empty;
         let mut s = self;
         let mut extended = false;
@@ -135,7 +136,13 @@ impl Captures {
             let land = bitboard::shift(over, dir) & empty;
             if land != 0 {
                 extended = true;
-                s = s.man(land, captured | over);
+                let taken = captured | over;
+                // a sequence that ends at its landing is recorded here: a call costs two copies of the list
+                if man_open(land, bitboard::difference(them, taken), empty) {
+                    s = s.man(land, taken);
+                } else {
+                    s = s.record(land, taken);
+                }
             }
             dir += 1;
         }
