@@ -97,9 +97,9 @@ pub struct Captures {
     pub empty: Bitboard,
     // The first square of the moving piece.
     pub from: Bitboard,
-    // The number of pieces taken by the moves in `list`.
+    // The number of pieces that each of them takes.
     pub best: u32,
-    // Whether there were more moves of that number than the list holds.
+    // Whether there were more moves of that number than there is room for.
     pub overflow: bool,
 }
 

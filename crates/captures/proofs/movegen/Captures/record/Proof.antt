@@ -30,11 +30,11 @@ push-requires c κs = search needs
 
 returns-2 : tie.Need-returns-2
 returns-2 c =
-    let two = c .before .before .before in
-    let one = two .before .before .before in
+    let longer = c .before .before .before in
+    let one = longer .before .before .before in
     let a = one .before .before .args in
     let anew : c .before .push .result ≡ pushOf noMoves (moveOf (a .self) (a .to) (a .captured)) = cc in
-    recorded-anew (a .self) (a .to) (a .captured) (one .before .count .result) (one .before .count .ensures) (one .if1 .left) (c .before .push .result) (two .if2 .taken) anew
+    recorded-anew (a .self) (a .to) (a .captured) (one .before .count .result) (one .before .count .ensures) (one .if1 .left) (c .before .push .result) (longer .if2 .taken) anew
 
 list-requires : tie.Need-list-requires
 list-requires c κs = search needs
