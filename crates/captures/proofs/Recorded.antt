@@ -1,6 +1,7 @@
 -- What a record is in each of its cases, and that it leaves the board of the search alone.
 use mathlib.Core.Path.{_≡_, refl, sym, ap, ap₂, _∙_}
 use mathlib.Core.Bool.{Bool, true, false, cond, _||_, or-true, or-false}
+use mathlib.Core.List.{List, [], _∷_, foldl}
 use Prim.Native.Nat.{ℕ, _+_, _≤_, _<_}
 use lib.ListN.{set}
 use lib.Dec.{eqb, ltb}
@@ -10,7 +11,7 @@ use Rattle.positions.specs.declared.moves.Move.{Move}
 use Rattle.captures.specs.declared.moves.MoveList.{MoveList}
 use Rattle.captures.specs.declared.movegen.Captures.{Captures}
 use Rattle.captures.specs.Lists.{noMoves, entries, listed, pushOf}
-use Rattle.captures.specs.Record.{listIn, holding, moveOf, anewOf, moreOf, recordOf, Kept}
+use Rattle.captures.specs.Record.{Ending, listIn, holding, moveOf, anewOf, moreOf, recordOf, noteOf, Kept}
 
 -- the three cases that are not "too few"
 module _ (s : Captures) (to c n : ℕ) (e : n ≡ size c) (t : (eqb n 0 || ltb n (s .best)) ≡ false) where
@@ -62,3 +63,10 @@ by-cases P s to c same anew more = go (eqb (size c) 0 || ltb (size c) (s .best))
 
 pub record-kept : (s : Captures) (to c : ℕ) → Kept s (recordOf s to c)
 record-kept s to c = by-cases (Kept s) s to c (kept-refl s) (record { them = refl; empty = refl; from = refl }) (record { them = refl; empty = refl; from = refl })
+
+pub kept-sym : {a b : Captures} → Kept a b → Kept b a
+kept-sym p = record { them = sym (p .them); empty = sym (p .empty); from = sym (p .from) }
+
+pub fold-kept : (l : List Ending) (s : Captures) → Kept s (foldl noteOf s l)
+fold-kept [] s = kept-refl s
+fold-kept (e ∷ l) s = kept-trans (record-kept s (e .to) (e .taken)) (fold-kept l (noteOf s e))

@@ -9,10 +9,9 @@ use squares::bitboard;
 use squares::bitboard::Bitboard;
 ghost use mathlib.Core.Path.{_≡_};
 ghost use mathlib.Core.Bool.{true};
-ghost use Prim.Native.Nat.{_<_, _≤_};
 ghost use Rattle.squares.specs.Directions.{directionAt};
 ghost use Rattle.captures.specs.Rays.{slideOf};
-ghost use Rattle.captures.specs.Record.{listIn, startOf, recordOf};
+ghost use Rattle.captures.specs.Record.{listIn, startOf, recordOf, noteOf};
 ghost use Rattle.captures.specs.Walks.{anyUpTo};
 ghost use Rattle.captures.specs.Open.{manJump, kingJump};
 ghost use Rattle.captures.specs.Men.{Man, menCapturesOf};
@@ -75,10 +74,13 @@ pub fn king_open(at: Bitboard, them: Bitboard, empty: Bitboard) -> bool
 
 // Whether a king that came in direction `came` leaves direction `d` out. Going back would jump the piece just taken.
 // Straight on from a later landing finds what the first landing found. No direction is opposite to 4.
-fn skips(first: bool, came: usize, d: usize) -> bool
-    requires { ⌜ (d < 4) × (came ≤ 4) ⌝ }
+pub fn skips(first: bool, came: usize, d: usize) -> bool
     ensures { λ r. ⌜ r ≡ skipOf first came d ⌝ }
 {
+    // a larger number is opposite to none
+    if (3 < d) | (3 < came) {
+        return (d == came) & !first;
+    }
     if first {
         return d + came == 3;
     }
@@ -122,8 +124,8 @@ impl Captures {
     }
 
     // Extends a man's sequence from `at`, having taken `captured` so far.
-    pub(crate) fn man(self, at: Bitboard, captured: Bitboard) -> Captures
-        ensures { λ r. ⌜ Man self at captured r ⌝ }
+    pub fn man(self, at: Bitboard, captured: Bitboard) -> Captures
+        ensures { λ r. ⌜ Man noteOf (self .them) (self .empty) self at captured r ⌝ }
     {
         let them = self.them;
         let untaken = bitboard::difference(them, captured);
@@ -151,11 +153,11 @@ impl Captures {
 
     // Extends a king's sequence from `at`, having taken `captured` so far; `came` is the direction of the last jump,
     // 4 at the start.
-    pub(crate) fn king(self, at: Bitboard, captured: Bitboard, came: usize) -> Captures
-        requires { ⌜ came ≤ 4 ⌝ }
-        ensures { λ r. ⌜ King self at captured (skipOf true came) r ⌝ }
+    pub fn king(self, at: Bitboard, captured: Bitboard, came: usize) -> Captures
+        ensures { λ r. ⌜ King noteOf (self .them) (self .empty) self at captured (skipOf true came) r ⌝ }
     {
-        let untaken = bitboard::difference(self.them, captured);
+        let them = self.them;
+        let untaken = bitboard::difference(them, captured);
         let empty = self.empty;
         let mut s = self;
         let mut extended = false;
@@ -185,13 +187,13 @@ impl Captures {
         dir: usize,
         first: bool,
     ) -> Captures
-        requires { ⌜ dir < 4 ⌝ }
-        ensures { λ r. ⌜ King self at captured (skipOf first dir) r ⌝ }
+        ensures { λ r. ⌜ King noteOf (self .them) (self .empty) self at captured (skipOf first dir) r ⌝ }
     {
         if first {
             return self.king(at, captured, dir);
         }
-        let untaken = bitboard::difference(self.them, captured);
+        let them = self.them;
+        let untaken = bitboard::difference(them, captured);
         let empty = self.empty;
         let mut s = self;
         let mut extended = false;
