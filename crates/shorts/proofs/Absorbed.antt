@@ -20,7 +20,7 @@ use Rattle.captures.specs.declared.movegen.Captures.{Captures}
 use Rattle.captures.specs.Lists.{noMoves, blank, entries, listed, pushOf}
 use Rattle.captures.specs.Record.{Ending, listIn, holding, moveOf, anewBy, moreBy, addOf, recordOf, noteOf, Kept}
 use Rattle.captures.proofs.Listed.{listed-snoc}
-use Rattle.captures.proofs.Recorded.{kept-refl, kept-trans}
+use Rattle.captures.proofs.Recorded.{kept-refl, kept-trans, added-anew, added-stored, added-marked, record-is}
 use Rattle.shorts.specs.declared.short.Short.{Short}
 use Rattle.shorts.specs.Noted.{few, shortOf, moveFrom, alone, appended, marked, noteShort}
 
@@ -40,13 +40,12 @@ same-refl m = rw (eq-eqb (m .from) (m .from) refl, eq-eqb (m .to) (m .to) refl, 
 
 -- ---- what addOf does in each of its cases
 module _ (s : Captures) (m : Move) where
-  add-few : (eqb (size (m .captured)) 0 || ltb (size (m .captured)) (s .best)) ≡ true → addOf s m ≡ s
+  pub add-few : (n : ℕ) → n ≡ size (m .captured) → (eqb n 0 || ltb n (s .best)) ≡ true → addOf s m ≡ s
   unfolding addOf
-  add-few h = rw h refl
+  add-few n e h = rw (← e, h) refl
 
   add-anew : (eqb (size (m .captured)) 0 || ltb (size (m .captured)) (s .best)) ≡ false → s .best < size (m .captured) → addOf s m ≡ anewBy s m
-  unfolding addOf
-  add-anew h l = rw (h, lt-ltb (s .best) (size (m .captured)) l) refl
+  add-anew h l = sym (added-anew s m (size (m .captured)) refl h (pushOf noMoves m) l refl)
 
   add-there : size (m .captured) ≡ s .best → listed (entries (listIn s)) m ≡ true → addOf s m ≡ s
   unfolding addOf
@@ -69,14 +68,6 @@ module _ (s : Captures) (m : Move) where
       go false true = rw (le-ltb (s .best) (size (m .captured)) (omega arith)) refl
       go false false = rw (le-ltb (s .best) (size (m .captured)) (omega arith)) stays
 
-  add-more : (eqb (size (m .captured)) 0 || ltb (size (m .captured)) (s .best)) ≡ false → size (m .captured) ≡ s .best → listed (entries (listIn s)) m ≡ false → addOf s m ≡ moreBy s m
-  unfolding addOf
-  add-more h e l = rw (h, le-ltb (s .best) (size (m .captured)) (omega arith), l) refl
-
-record-is : (s : Captures) (to c : ℕ) → recordOf s to c ≡ addOf s (moveOf s to c)
-unfolding recordOf addOf
-record-is s to c = refl
-
 -- ---- a move that the long list takes no more
 pub record Absorbed (s : Captures) (m : Move) : Type 0 where
   pub count : size (m .captured) ≡ s .best
@@ -97,44 +88,34 @@ stored : (s : Captures) (m : Move) → length (s .moves) ≡ 256 → s .len < 25
 stored s m h l = rw (add-one, take-suc-set (s .moves) (s .len) m (omega arith)) refl
 
 taken : (s : Captures) (m : Move) → length (s .moves) ≡ 256 → (eqb (size (m .captured)) 0 || ltb (size (m .captured)) (s .best)) ≡ false → size (m .captured) ≡ s .best → Taken s (addOf s m) m
-unfolding pushOf
 taken s m h u e = go (listed (entries (listIn s)) m) refl
   where
-    more : (b : Bool) → ltb (s .len) 256 ≡ b → Taken s (moreBy s m) m
-    more true l = subst (λ (r : Captures). Taken s r m) (sym is) (record {
-      kept = record { them = refl; empty = refl; from = refl };
-      best = refl;
-      room = length-set (s .moves) (s .len) m ∙ h;
-      self = record { count = e; there = inl (ap (λ (k : List Move). listed k m) (stored s m h lt) ∙ listed-snoc (entries (listIn s)) m m ∙ rw (same-refl m, or-true) refl) };
-      others = λ x a. record {
-        count = a .count;
-        there = ⊎-elim
-            (λ v. inl (ap (λ (k : List Move). listed k x) (stored s m h lt) ∙ listed-snoc (entries (listIn s)) m x ∙ rw v refl))
-            (λ v. absurd (omega (arith, lt, v .1)))
-            (a .there);
-      };
-    })
-      where
-        lt : s .len < 256
-        lt = ltb-true (s .len) 256 l
-
-        is : moreBy s m ≡ holding s (record { moves = set (s .moves) (s .len) m; len = s .len + 1 }) (s .best) (s .overflow)
-        is = ap₂ (λ (x y : Bool). holding s (cond x (record { moves = set (s .moves) (s .len) m; len = s .len + 1 }) (listIn s)) (s .best) (s .overflow || y)) l (lt-leb 256 (s .len) lt)
-            ∙ ap (holding s (record { moves = set (s .moves) (s .len) m; len = s .len + 1 }) (s .best)) (or-false (s .overflow))
-    more false l = subst (λ (r : Captures). Taken s r m) (sym is) (record {
-      kept = record { them = refl; empty = refl; from = refl };
-      best = refl;
-      room = h;
-      self = record { count = e; there = inr (refl, ge) };
-      others = λ x a. record { count = a .count; there = ⊎-elim (λ v. inl v) (λ v. inr (refl, ge)) (a .there) };
-    })
-      where
-        ge : 256 ≤ s .len
-        ge = ltb-false (s .len) 256 l
-
-        is : moreBy s m ≡ holding s (listIn s) (s .best) true
-        is = ap₂ (λ (x y : Bool). holding s (cond x (record { moves = set (s .moves) (s .len) m; len = s .len + 1 }) (listIn s)) (s .best) (s .overflow || y)) l (le-leb 256 (s .len) ge)
-            ∙ ap (holding s (listIn s) (s .best)) (or-true (s .overflow))
+    -- where it is new
+    more : listed (entries (listIn s)) m ≡ false → (b : Bool) → ltb (s .len) 256 ≡ b → Taken s (addOf s m) m
+    more new true l =
+        let lt : s .len < 256 = ltb-true (s .len) 256 l in
+        subst (λ (r : Captures). Taken s r m) (added-stored s m (size (m .captured)) refl u m refl (omega arith) new lt) (record {
+          kept = record { them = refl; empty = refl; from = refl };
+          best = refl;
+          room = length-set (s .moves) (s .len) m ∙ h;
+          self = record { count = e; there = inl (ap (λ (k : List Move). listed k m) (stored s m h lt) ∙ listed-snoc (entries (listIn s)) m m ∙ rw (same-refl m, or-true) refl) };
+          others = λ x a. record {
+            count = a .count;
+            there = ⊎-elim
+                (λ v. inl (ap (λ (k : List Move). listed k x) (stored s m h lt) ∙ listed-snoc (entries (listIn s)) m x ∙ rw v refl))
+                (λ v. absurd (omega (arith, lt, v .1)))
+                (a .there);
+          };
+        })
+    more new false l =
+        let ge : 256 ≤ s .len = ltb-false (s .len) 256 l in
+        subst (λ (r : Captures). Taken s r m) (added-marked s m (size (m .captured)) refl u (omega arith) new ge) (record {
+          kept = record { them = refl; empty = refl; from = refl };
+          best = refl;
+          room = h;
+          self = record { count = e; there = inr (refl, ge) };
+          others = λ x a. record { count = a .count; there = ⊎-elim (λ v. inl v) (λ v. inr (refl, ge)) (a .there) };
+        })
 
     go : (b : Bool) → listed (entries (listIn s)) m ≡ b → Taken s (addOf s m) m
     go true l = subst (λ (r : Captures). Taken s r m) (sym (add-there s m e l)) (record {
@@ -144,7 +125,7 @@ taken s m h u e = go (listed (entries (listIn s)) m) refl
       self = record { count = e; there = inl l };
       others = λ x a. a;
     })
-    go false l = subst (λ (r : Captures). Taken s r m) (sym (add-more s m u e l)) (more (ltb (s .len) 256) refl)
+    go false l = more l (ltb (s .len) 256) refl
 
 -- ---- the long list s after the first endings is A, the short one is t
 pub record Follows (s A : Captures) (t : Short) : Type 0 where
@@ -188,12 +169,12 @@ module _ (s A : Captures) (t : Short) (w : Follows s A t) (e : Ending) where
   -- the long list's step is that of the same move
   long : noteOf A e ≡ addOf A m
   unfolding m
-  long = record-is A (e .to) (e .taken) ∙ ap (λ (f : ℕ). addOf A (moveFrom f e)) (w .kept .from ∙ sym (w .from))
+  long = sym (record-is A (e .to) (e .taken)) ∙ ap (λ (f : ℕ). addOf A (moveFrom f e)) (w .kept .from ∙ sym (w .from))
 
   -- too few
   follow-few : (eqb (size (e .taken)) 0 || ltb (size (e .taken)) (t .best)) ≡ true → Follows s (addOf A m) t
   unfolding m
-  follow-few h = subst (λ (r : Captures). Follows s r t) (sym (add-few A m (rw (w .best) h))) w
+  follow-few h = subst (λ (r : Captures). Follows s r t) (sym (add-few A m (size (e .taken)) refl (rw (w .best) h))) w
 
   module _ (u : (eqb (size (e .taken)) 0 || ltb (size (e .taken)) (t .best)) ≡ false) where
     -- longer than all before

@@ -1,7 +1,7 @@
 -- The captures of one piece in a list of at most 14: the rule of `recordOf`, and a mark where there was no room.
 use Prim.Native.Nat.{ℕ, _+_}
 use mathlib.Core.Bool.{Bool, true, false, cond, _||_}
-use mathlib.Core.List.{List}
+use mathlib.Core.List.{List, foldl}
 use lib.Dec.{eqb, ltb}
 use lib.ListN.{set, take, replicate}
 use Rattle.squares.specs.Sets.{size}
@@ -9,7 +9,8 @@ use Rattle.squares.specs.Squares.{firstOf}
 use Rattle.positions.specs.declared.moves.Move.{Move}
 use Rattle.positions.specs.Moves.{move}
 use Rattle.captures.specs.Lists.{blank, listed}
-use Rattle.captures.specs.Record.{Ending}
+use Rattle.captures.specs.declared.movegen.Captures.{Captures}
+use Rattle.captures.specs.Record.{Ending, addOf}
 use Rattle.shorts.specs.declared.short.Short.{Short}
 
 -- the moves of a short list
@@ -44,3 +45,7 @@ noted t m =
 
 unfoldable pub noteShort : Short → Ending → Short
 noteShort t e = noted t (moveFrom (t .from) e)
+
+-- the moves of a short list recorded in a long one, in order
+abbrev pub mergeOf : Captures → Short → Captures
+mergeOf s t = foldl addOf s (few t)
