@@ -2,7 +2,7 @@
 use mathlib.Core.Path.{_≡_, subst}
 use mathlib.Core.Bool.{Bool}
 use mathlib.Core.List.{List, foldl, flatMap}
-use Prim.Native.Nat.{ℕ, _<_, suc}
+use Prim.Native.Nat.{ℕ}
 use native.Mathlib.Omega.{arith}
 use Rattle.squares.specs.Sets.{size, without}
 use Rattle.squares.specs.Directions.{directionAt}

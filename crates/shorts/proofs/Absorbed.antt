@@ -2,23 +2,22 @@
 -- the short list drops as a double would be dropped by the long list too, or find it full and marked already.
 use mathlib.Core.Path.{_≡_, refl, sym, ap, ap₂, _∙_, subst}
 use mathlib.Core.Logic.{_⊎_, inl, inr, ⊎-elim}
-use mathlib.Core.Bool.{Bool, true, false, cond, _&&_, _||_, or-true, or-false, false≢true}
+use mathlib.Core.Bool.{Bool, true, false, cond, _||_, or-true, or-false, false≢true}
 use mathlib.Core.List.{List, [], _∷_, _++_, foldl, foldl-append}
-use Prim.Native.Nat.{ℕ, suc, _+_, _≤_, _<_}
+use Prim.Native.Nat.{ℕ, _+_, _≤_, _<_}
 use native.Mathlib.Numerals.{add-one}
 use native.Mathlib.Omega.{arith}
-use lib.ListN.{length, set, take, replicate, length-set}
+use lib.ListN.{length, set, length-set}
 use lib.Seq.{take-suc-set}
 use lib.Dec.{eqb, ltb, leb}
-use borrow.Author.Tests.{ltb-true, ltb-false, lt-ltb, le-ltb, le-leb, lt-leb, eqb-true, eq-eqb}
+use borrow.Author.Tests.{ltb-true, ltb-false, le-ltb, eqb-true, eq-eqb}
 use Rattle.squares.specs.Sets.{size}
 use Rattle.squares.proofs.Bools.{and-left, and-right}
 use Rattle.positions.specs.declared.moves.Move.{Move}
 use Rattle.positions.specs.Moves.{move, same}
-use Rattle.captures.specs.declared.moves.MoveList.{MoveList}
 use Rattle.captures.specs.declared.movegen.Captures.{Captures}
-use Rattle.captures.specs.Lists.{noMoves, blank, entries, listed, pushOf}
-use Rattle.captures.specs.Record.{Ending, listIn, holding, moveOf, anewBy, moreBy, addOf, recordOf, noteOf, Kept}
+use Rattle.captures.specs.Lists.{noMoves, entries, listed, pushOf}
+use Rattle.captures.specs.Record.{Ending, listIn, holding, anewBy, moreBy, addOf, noteOf, Kept}
 use Rattle.captures.proofs.Listed.{listed-snoc}
 use Rattle.captures.proofs.Recorded.{kept-refl, kept-trans, added-anew, added-stored, added-marked, record-is}
 use Rattle.shorts.specs.declared.short.Short.{Short}

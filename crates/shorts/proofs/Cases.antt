@@ -1,7 +1,7 @@
 -- What a note in a short list is in each of its cases.
 use mathlib.Core.Path.{_≡_, refl, sym, ap, ap₂, _∙_}
-use mathlib.Core.Bool.{Bool, true, false, _||_}
-use Prim.Native.Nat.{ℕ, _+_, _≤_, _<_}
+use mathlib.Core.Bool.{true, false, _||_}
+use Prim.Native.Nat.{ℕ, _≤_, _<_}
 use lib.ListN.{set}
 use lib.Dec.{eqb, ltb}
 use borrow.Author.Tests.{le-ltb, lt-ltb}
@@ -10,7 +10,7 @@ use Rattle.positions.specs.declared.moves.Move.{Move}
 use Rattle.captures.specs.Lists.{listed}
 use Rattle.captures.specs.Record.{Ending}
 use Rattle.shorts.specs.declared.short.Short.{Short}
-use Rattle.shorts.specs.Noted.{few, moveFrom, alone, appended, marked, noteShort}
+use Rattle.shorts.specs.Noted.{few, moveFrom, appended, marked, noteShort}
 
 abbrev alone-by : Short → Move → ℕ → Short
 alone-by t m n = record { moves = set (t .moves) 0 m; len = 1; from = t .from; best = n; overflow = false }

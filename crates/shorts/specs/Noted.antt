@@ -1,6 +1,6 @@
 -- The captures of one piece in a list of at most 14: the rule of `recordOf`, and a mark where there was no room.
 use Prim.Native.Nat.{ℕ, _+_}
-use mathlib.Core.Bool.{Bool, true, false, cond, _||_}
+use mathlib.Core.Bool.{true, false, cond, _||_}
 use mathlib.Core.List.{List, foldl}
 use lib.Dec.{eqb, ltb}
 use lib.ListN.{set, take, replicate}

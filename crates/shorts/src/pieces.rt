@@ -108,11 +108,11 @@ pub fn kings_captures(start: Captures, kings: Bitboard, empty: Bitboard) -> Capt
         s.empty = empty | at;
         let them = s.them;
         if king_open(at, them, empty | at) {
-            let few = Short::new(at, s.best).king(them, empty | at, at, 0, 4);
-            if few.overflow {
+            let found = Short::new(at, s.best).king(them, empty | at, at, 0, 4);
+            if found.overflow {
                 s = s.king(at, 0, 4);
             } else {
-                s = merge(s, few);
+                s = merge(s, found);
             }
         }
         left = left & (left - 1);

@@ -1,10 +1,9 @@
 -- Past 3 no number is opposite to another; below, each branch writes the definition's.
-use mathlib.Core.Path.{_≡_, refl, sym, ap, _∙_}
+use mathlib.Core.Path.{_≡_, refl, sym}
 use mathlib.Core.Bool.{Bool, true, false, cond, not, _&&_, _||_}
 use Prim.Native.Nat.{ℕ, _+_, _≤_, _<_}
 use native.Mathlib.Omega.{arith}
 use lib.Dec.{eqb, ltb}
-use borrow.Author.Needs.{needs}
 use borrow.Author.Tests.{ltb-true, ltb-false, ne-eqb}
 use Rattle.captures.specs.Kings.{skipOf}
 use Rattle.captures.proofs.movegen.skips.Statement.{statement}

@@ -1,5 +1,4 @@
 -- Each branch is one case of `min`.
-use borrow.Author.Needs.{needs}
 use native.Mathlib.Omega.{arith}
 use Rattle.shorts.proofs.pieces.least.Statement.{statement}
 use Rattle.shorts.proofs.pieces.least.Tie as tie

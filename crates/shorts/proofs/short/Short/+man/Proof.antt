@@ -1,7 +1,6 @@
 -- `man` ends, since each jump leaves fewer untaken enemies, and records what `manEndings` lists.
 use mathlib.Core.Logic.{⊎-elim}
 use Prim.Native.Nat.{ℕ, _<_, _-_, _+_, _^_}
-use native.Mathlib.Omega.{arith}
 use borrow.Author.Needs.{needs}
 use borrow.Fn.Kinds.{In}
 use borrow.Fn.PlainCycle.{Measures, is, falls, and}
