@@ -6,6 +6,7 @@ pub mod Recorded
 pub mod Walks
 pub mod Men
 pub mod Kings
+pub mod Boards
 pub mod Loops
 pub mod Rows
 pub mod Some

@@ -11,7 +11,7 @@ use Rattle.positions.specs.declared.moves.Move.{Move}
 use Rattle.positions.specs.Moves.{same}
 use Rattle.captures.specs.Lists.{listed}
 
-listed-snoc : (l : List Move) (x m : Move) → listed (l ++ (x ∷ [])) m ≡ (listed l m || same x m)
+pub listed-snoc : (l : List Move) (x m : Move) → listed (l ++ (x ∷ [])) m ≡ (listed l m || same x m)
 unfolding listed
 listed-snoc [] x m = or-false (same x m)
 listed-snoc (y ∷ l) x m = ap (λ (b : Bool). same y m || b) (listed-snoc l x m) ∙ sym (or-assoc (same y m) (listed l m) (same x m))

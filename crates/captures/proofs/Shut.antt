@@ -2,7 +2,7 @@
 use mathlib.Core.Path.{_≡_, refl, sym, ap, _∙_}
 use mathlib.Core.Bool.{true, false}
 use mathlib.Core.List.{foldl}
-use Prim.Native.Nat.{ℕ, zero, _-_, _^_}
+use Prim.Native.Nat.{ℕ, _-_, _^_}
 use lib.Bits.{bitOr}
 use Rattle.squares.proofs.Members.{without-none}
 use Rattle.squares.proofs.Sizes.{size-zero}

@@ -9,7 +9,7 @@ use Rattle.squares.specs.Sets.{size, without, members}
 use Rattle.squares.specs.Directions.{directionAt, shifted}
 use Rattle.captures.specs.declared.movegen.Captures.{Captures}
 use Rattle.captures.specs.Rays.{far, slideOf, landings}
-use Rattle.captures.specs.Record.{Ending, ending, noteOf, Kept}
+use Rattle.captures.specs.Record.{Ending, ending, noteOf}
 use Rattle.captures.specs.Walks.{upTo, anyUpTo}
 use Rattle.captures.specs.Men.{onto}
 
@@ -37,10 +37,9 @@ module _ (them empty : ℕ) where
       (upTo (λ d. cond (skip d) [] (flatMap (λ l. kingEndings f l (bitOr c (kingOver at c d)) (skipOf (eqb l (kingLand at c d)) d)) (landings far (directionAt d) empty (kingLand at c d)))) 4)
       (ending at c ∷ [])
 
--- r has recorded the endings of a king on `at` that has taken c and leaves out the directions of `skip`
-pub record King (s : Captures) (at c : ℕ) (skip : ℕ → Bool) (r : Captures) : Type 0 where
-  pub kept : Kept s r
-  pub found : (f : ℕ) → size (without (s .them) c) < f → r ≡ foldl noteOf s (kingEndings (s .them) (s .empty) f at c skip)
+-- r is s with the endings noted of a king on `at` that has taken c and leaves out the directions of `skip`
+pub record King {S : Type 0} (note : S → Ending → S) (them empty : ℕ) (s : S) (at c : ℕ) (skip : ℕ → Bool) (r : S) : Type 0 where
+  pub found : (f : ℕ) → size (without them c) < f → r ≡ foldl note s (kingEndings them empty f at c skip)
 
 -- the captures of the king at bit i; at the start no direction is left out
 unfoldable pub kingCaptures : ℕ → Captures → ℕ → Captures

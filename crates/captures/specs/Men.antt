@@ -8,7 +8,7 @@ use lib.Bits.{bitAnd, bitOr}
 use Rattle.squares.specs.Sets.{size, without, members}
 use Rattle.squares.specs.Directions.{directionAt, shifted}
 use Rattle.captures.specs.declared.movegen.Captures.{Captures}
-use Rattle.captures.specs.Record.{Ending, ending, noteOf, Kept}
+use Rattle.captures.specs.Record.{Ending, ending, noteOf}
 use Rattle.captures.specs.Walks.{upTo, anyUpTo}
 
 module _ (them empty : ℕ) where
@@ -31,10 +31,10 @@ module _ (them empty : ℕ) where
       (upTo (λ d. cond (manJumps at c d) (manEndings f (manLand at c d) (bitOr c (manOver at c d))) []) 4)
       (ending at c ∷ [])
 
--- r has recorded the endings of a man on `at` that has taken c: any number of jumps above the untaken enemies will do
-pub record Man (s : Captures) (at c : ℕ) (r : Captures) : Type 0 where
-  pub kept : Kept s r
-  pub found : (f : ℕ) → size (without (s .them) c) < f → r ≡ foldl noteOf s (manEndings (s .them) (s .empty) f at c)
+-- r is s with the endings noted of a man on `at` that has taken c, however s notes them: any number of jumps above the
+-- untaken enemies will do
+pub record Man {S : Type 0} (note : S → Ending → S) (them empty : ℕ) (s : S) (at c : ℕ) (r : S) : Type 0 where
+  pub found : (f : ℕ) → size (without them c) < f → r ≡ foldl note s (manEndings them empty f at c)
 
 -- the search set onto the piece at bit i, whose square counts as empty
 abbrev pub onto : ℕ → Captures → ℕ → Captures

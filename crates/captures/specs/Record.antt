@@ -36,18 +36,32 @@ abbrev pub holding : Captures → MoveList → ℕ → Bool → Captures
 holding s l best overflow = record { moves = l .moves; len = l .len; them = s .them; empty = s .empty; from = s .from; best = best; overflow = overflow }
 
 -- a longer capture clears what was found, and the mark
-abbrev pub anewOf : Captures → ℕ → ℕ → Captures
-anewOf s to c = holding s (pushOf noMoves (moveOf s to c)) (size c) false
+abbrev pub anewBy : Captures → Move → Captures
+anewBy s m = holding s (pushOf noMoves m) (size (m .captured)) false
 
 -- one more of the largest number; a full list is marked
+abbrev pub moreBy : Captures → Move → Captures
+moreBy s m = holding s (pushOf (listIn s) m) (s .best) (s .overflow || leb 256 (s .len))
+
+abbrev pub added : Captures → Move → Captures
+added s m =
+    cond (eqb (size (m .captured)) 0 || ltb (size (m .captured)) (s .best)) s
+    (cond (ltb (s .best) (size (m .captured))) (anewBy s m)
+    (cond (listed (entries (listIn s)) m) s (moreBy s m)))
+
+-- a move by the rule
+unfoldable pub addOf : Captures → Move → Captures
+addOf s m = added s m
+
+-- the move of a sequence by the rule
+abbrev pub anewOf : Captures → ℕ → ℕ → Captures
+anewOf s to c = anewBy s (moveOf s to c)
+
 abbrev pub moreOf : Captures → ℕ → ℕ → Captures
-moreOf s to c = holding s (pushOf (listIn s) (moveOf s to c)) (s .best) (s .overflow || leb 256 (s .len))
+moreOf s to c = moreBy s (moveOf s to c)
 
 unfoldable pub recordOf : Captures → ℕ → ℕ → Captures
-recordOf s to c =
-    cond (eqb (size c) 0 || ltb (size c) (s .best)) s
-    (cond (ltb (s .best) (size c)) (anewOf s to c)
-    (cond (listed (entries (listIn s)) (moveOf s to c)) s (moreOf s to c)))
+recordOf s to c = added s (moveOf s to c)
 
 abbrev pub noteOf : Captures → Ending → Captures
 noteOf s e = recordOf s (e .to) (e .taken)

@@ -1,4 +1,4 @@
-// Captures by formula on sets: the list of moves, the search of men and kings, and its loops over the pieces. What the
-// formulas mean under the rules is said above this crate.
+// Captures by formula on sets: the list of moves, and the search of men and kings. What the formulas mean under the
+// rules is said above this crate.
 pub mod movegen;
 pub mod moves;

@@ -60,8 +60,8 @@ pub(crate) fn capture_moves(
     ensures { λ r. ⌜ r ≡ captureMovesOf men kings them empty ⌝ }
 {
     let start = Captures::new(them, empty);
-    let steps = captures::movegen::men_captures(start, men, empty);
-    let found = captures::movegen::kings_captures(steps, kings, empty);
+    let steps = shorts::pieces::men_captures(start, men, empty);
+    let found = shorts::pieces::kings_captures(steps, kings, empty);
     let list = found.list();
     Listing {
         list: list,

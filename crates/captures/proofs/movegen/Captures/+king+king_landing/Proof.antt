@@ -1,6 +1,6 @@
 -- `king` and `king_landing` end: a jump leaves fewer untaken enemies, and a first landing passes to `king` one step below.
 -- Each records what `kingEndings` lists.
-use mathlib.Core.Path.{refl, sym, _∙_}
+use mathlib.Core.Path.{sym, _∙_}
 use mathlib.Core.Logic.{⊎-elim}
 use mathlib.Core.Bool.{true, false}
 use Prim.Native.Nat.{ℕ, _<_, _-_, _+_, _*_}
@@ -18,6 +18,9 @@ use Rattle.squares.proofs.bitboard.difference.Reads as difference-reads
 use Rattle.squares.proofs.bitboard.shift.Reads as shift-reads
 use Rattle.captures.specs.Kings.{skipOf}
 use Rattle.captures.proofs.Steps.{rank, ray-falls}
+use Rattle.captures.specs.Record.{noteOf}
+use Rattle.captures.proofs.Recorded.{kept-trans}
+use Rattle.captures.proofs.Boards.{king-kept, king-on, ray-kept}
 use Rattle.captures.proofs.Kings.{jumped, jump-fewer, Rayed, ray-start, ray-first, ray-step, Walked, walked-none, walked-skip, walked-ray, walked-out, walked-end}
 use Rattle.captures.proofs.movegen.Captures.king.Reads as king
 use Rattle.captures.proofs.movegen.Captures.king.Kinds as king-kinds
@@ -57,35 +60,35 @@ abbrev landing-calls : ℕ → king-landing-lts.Claims
 landing-calls t = (king-below t, king.Post, difference-reads.Asked, difference-reads.Learnt, skips-reads.Asked, skips-reads.Learnt, slide-reads.Asked, slide-reads.Learnt, shift-reads.Asked, shift-reads.Learnt, king-landing-below t, king-landing.Post, record-reads.Asked, record-reads.Learnt)
 
 abbrev king-Inv-loop2 : king-lts.InvT-loop2
-king-Inv-loop2 at captured came untaken empty s₀ extended₀ d over land₀ first s extended land = Rayed (s₀ .them) empty captured d over land₀ s₀ s extended₀ extended land
+king-Inv-loop2 at captured came them untaken empty s₀ extended₀ d over land₀ first s extended land = Rayed noteOf them empty captured d over land₀ s₀ s extended₀ extended land
 
 abbrev king-μ-loop2 : king-lts.MeasureT-loop2
-king-μ-loop2 at captured came untaken empty s₀ extended₀ d over land₀ first s extended land = rank (directionAt d) land
+king-μ-loop2 at captured came them untaken empty s₀ extended₀ d over land₀ first s extended land = rank (directionAt d) land
 
 abbrev king-Inv-loop : king-lts.InvT-loop
-king-Inv-loop at captured came untaken empty s₀ extended₀ d₀ s extended d = Walked s₀ at captured (skipOf true came) d s extended
+king-Inv-loop at captured came them untaken empty s₀ extended₀ d₀ s extended d = Walked noteOf (s₀ .them) (s₀ .empty) s₀ at captured (skipOf true came) d s extended
 
 abbrev king-μ-loop : king-lts.MeasureT-loop
-king-μ-loop at captured came untaken empty s₀ extended₀ d₀ s extended d = 4 - d
+king-μ-loop at captured came them untaken empty s₀ extended₀ d₀ s extended d = 4 - d
 
 abbrev landing-Inv-loop2 : king-landing-lts.InvT-loop2
-landing-Inv-loop2 at captured dir first untaken empty s₀ extended₀ d over land₀ near s extended land = Rayed (s₀ .them) empty captured d over land₀ s₀ s extended₀ extended land
+landing-Inv-loop2 at captured dir first them untaken empty s₀ extended₀ d over land₀ near s extended land = Rayed noteOf them empty captured d over land₀ s₀ s extended₀ extended land
 
 abbrev landing-μ-loop2 : king-landing-lts.MeasureT-loop2
-landing-μ-loop2 at captured dir first untaken empty s₀ extended₀ d over land₀ near s extended land = rank (directionAt d) land
+landing-μ-loop2 at captured dir first them untaken empty s₀ extended₀ d over land₀ near s extended land = rank (directionAt d) land
 
 abbrev landing-Inv-loop : king-landing-lts.InvT-loop
-landing-Inv-loop at captured dir first untaken empty s₀ extended₀ d₀ s extended d = Walked s₀ at captured (skipOf false dir) d s extended
+landing-Inv-loop at captured dir first them untaken empty s₀ extended₀ d₀ s extended d = Walked noteOf (s₀ .them) (s₀ .empty) s₀ at captured (skipOf false dir) d s extended
 
 abbrev landing-μ-loop : king-landing-lts.MeasureT-loop
-landing-μ-loop at captured dir first untaken empty s₀ extended₀ d₀ s extended d = 4 - d
+landing-μ-loop at captured dir first them untaken empty s₀ extended₀ d₀ s extended d = 4 - d
 
 module _ (t : ℕ) where
   king-difference-requires : king-lts.Need-difference-requires (king-calls t) (king-at t) king.Post king-Inv-loop2 king-μ-loop2 king-Inv-loop king-μ-loop
   king-difference-requires c κs = search needs
 
   king-loop-holds : king-lts.Need-loop-holds (king-calls t) (king-at t) king.Post king-Inv-loop2 king-μ-loop2 king-Inv-loop king-μ-loop
-  king-loop-holds c = walked-none _ _ _ _ (search needs)
+  king-loop-holds c = walked-none _ _ _ _ _ _ _ (search needs)
 
   king-skips-requires : king-lts.Need-skips-requires (king-calls t) (king-at t) king.Post king-Inv-loop2 king-μ-loop2 king-Inv-loop king-μ-loop
   king-skips-requires c κs = search needs
@@ -97,7 +100,7 @@ module _ (t : ℕ) where
   king-shift-requires c κs = search needs
 
   king-loop2-holds : king-lts.Need-loop2-holds (king-calls t) (king-at t) king.Post king-Inv-loop2 king-μ-loop2 king-Inv-loop king-μ-loop
-  king-loop2-holds c = ray-start _ _ _ _ _ _ _ _ (and-lt _ _ (c .shift .ok))
+  king-loop2-holds c = ray-start _ _ _ _ _ _ _ _ _ (and-lt _ _ (c .shift .ok))
 
   king-king-landing-requires : king-lts.Need-king-landing-requires (king-calls t) (king-at t) king.Post king-Inv-loop2 king-μ-loop2 king-Inv-loop king-μ-loop
   king-king-landing-requires c κs =
@@ -108,12 +111,13 @@ module _ (t : ℕ) where
       let start = head .before .before in
       let a = start .args in
       let d = head .loop .d in
-      let kept = head .loop .inv .kept in
-      let j = jumped (a .self) (a .at) (a .captured) d _ _ _ (head .before .difference .ensures) (sh .before .slide .ensures) (sh .shift .ensures) in
-      let less = jump-fewer (a .self) (a .at) (a .captured) d _ _ j (head .loop .inv .fits) (start .fits .captured .fits) (ray-first _ _ _ _ _ _ _ _ _ _ _ (at2 .loop2 .inv) (c .loop2-test .taken)) in
+      let kept = king-kept _ _ _ _ _ _ _ _ _ (head .loop .inv) in
+      let on = ray-kept _ _ _ _ _ _ _ _ _ _ _ (at2 .loop2 .inv) in
+      let j = jumped (a .self .them) (a .self .empty) (a .at) (a .captured) d _ _ _ (head .before .difference .ensures) (sh .before .slide .ensures) (sh .shift .ensures) in
+      let less = jump-fewer (a .self .them) (a .self .empty) (a .at) (a .captured) d _ _ j (head .loop .inv .fits) (start .fits .captured .fits) (ray-first noteOf _ _ _ _ _ _ _ _ _ _ _ (at2 .loop2 .inv) (c .loop2-test .taken)) in
       let over = bitAnd (sh .before .slide .result) (head .before .difference .result) in
-      let below : size (without (at2 .loop2 .s .them) (bitOr (a .captured) over)) < size (without (a .self .them) (a .captured)) = rw (at2 .loop2 .inv .kept .them ∙ kept .them) less in
-      (omega (arith, start .pre .0), in-loop .loop-test .taken)
+      let below : size (without (at2 .loop2 .s .them) (bitOr (a .captured) over)) < size (without (a .self .them) (a .captured)) = rw (on .them ∙ kept .them) less in
+      (omega (arith, start .pre .0), tt)
 
   king-shift-requires-2 : king-lts.Need-shift-requires-2 (king-calls t) (king-at t) king.Post king-Inv-loop2 king-μ-loop2 king-Inv-loop king-μ-loop
   king-shift-requires-2 c κs = search needs
@@ -135,10 +139,11 @@ module _ (t : ℕ) where
       let start = head .before .before in
       let a = start .args in
       let d = head .loop .d in
-      let kept = head .loop .inv .kept in
-      let j = jumped (a .self) (a .at) (a .captured) d _ _ _ (head .before .difference .ensures) (sh .before .slide .ensures) (sh .shift .ensures) in
-      let less = jump-fewer (a .self) (a .at) (a .captured) d _ _ j (head .loop .inv .fits) (start .fits .captured .fits) (ray-first _ _ _ _ _ _ _ _ _ _ _ (at2 .loop2 .inv) ne) in
-      ray-step _ _ _ _ _ _ _ _ _ _ _ (at2 .loop2 .inv) (c .shift2 .result) (c .before .king-landing .result) refl (kept .empty) (rw (kept .them) less) ne (c .shift2 .ensures) (c .before .king-landing .ensures)
+      let kept = king-kept _ _ _ _ _ _ _ _ _ (head .loop .inv) in
+      let on = ray-kept _ _ _ _ _ _ _ _ _ _ _ (at2 .loop2 .inv) in
+      let j = jumped (a .self .them) (a .self .empty) (a .at) (a .captured) d _ _ _ (head .before .difference .ensures) (sh .before .slide .ensures) (sh .shift .ensures) in
+      let less = jump-fewer (a .self .them) (a .self .empty) (a .at) (a .captured) d _ _ j (head .loop .inv .fits) (start .fits .captured .fits) (ray-first noteOf _ _ _ _ _ _ _ _ _ _ _ (at2 .loop2 .inv) ne) in
+      ray-step noteOf _ _ _ _ _ _ _ _ _ _ _ (at2 .loop2 .inv) (c .shift2 .result) (c .before .king-landing .result) less ne (c .shift2 .ensures) (king-on (a .self) _ _ _ _ _ (kept-trans kept on) (c .before .king-landing .ensures))
 
   king-add-d : king-lts.Need-add-d (king-calls t) (king-at t) king.Post king-Inv-loop2 king-μ-loop2 king-Inv-loop king-μ-loop
   king-add-d c = search needs
@@ -156,10 +161,10 @@ module _ (t : ℕ) where
       let d = head .loop .d in
       let lt : d < 4 = in-loop .loop-test .taken in
       ⊎-elim
-      (λ w. rw (w .5, w .6) (walked-ray (a .self) (a .at) (a .captured) (skipOf true (a .came)) d (head .loop .s) (head .loop .extended) (head .loop .inv) lt _ _ (w .3 .s) (w .3 .extended) (w .3 .land)
+      (λ w. rw (w .5, w .6) (walked-ray noteOf (a .self .them) (a .self .empty) (a .self) (a .at) (a .captured) (skipOf true (a .came)) d (head .loop .s) (head .loop .extended) (head .loop .inv) lt _ _ (w .3 .s) (w .3 .extended) (w .3 .land)
       (sym (sk .skips .ensures) ∙ not-true (sk .skips .result) (w .0 .taken))
-      (jumped (a .self) (a .at) (a .captured) d _ _ _ (head .before .difference .ensures) (w .1 .ensures) (w .2 .ensures)) (w .3 .inv) (w .4 .left)))
-      (λ w. rw (w .1, w .2) (walked-skip (a .self) (a .at) (a .captured) (skipOf true (a .came)) d (head .loop .s) (head .loop .extended) (head .loop .inv) lt
+      (jumped (a .self .them) (a .self .empty) (a .at) (a .captured) d _ _ _ (head .before .difference .ensures) (w .1 .ensures) (w .2 .ensures)) (w .3 .inv) (w .4 .left)))
+      (λ w. rw (w .1, w .2) (walked-skip noteOf (a .self .them) (a .self .empty) (a .self) (a .at) (a .captured) (skipOf true (a .came)) d (head .loop .s) (head .loop .extended) (head .loop .inv) lt
       (sym (sk .skips .ensures) ∙ not-false (sk .skips .result) (w .0 .left))))
       (c .if1 .came)
 
@@ -169,18 +174,18 @@ module _ (t : ℕ) where
   king-returns : king-lts.Need-returns (king-calls t) (king-at t) king.Post king-Inv-loop2 king-μ-loop2 king-Inv-loop king-μ-loop
   king-returns c =
       let head = c .before .before in
-      (walked-out _ _ _ _ (head .loop .d) (head .loop .s) (rw (c .if2 .taken) at (head .loop .inv)) (c .before .loop-test .left))
+      (walked-out noteOf _ _ _ _ _ _ (head .loop .d) (head .loop .s) (rw (c .if2 .taken) at (head .loop .inv)) (c .before .loop-test .left))
 
   king-returns-2 : king-lts.Need-returns-2 (king-calls t) (king-at t) king.Post king-Inv-loop2 king-μ-loop2 king-Inv-loop king-μ-loop
   king-returns-2 c =
       let head = c .before .before .before in
-      (walked-end _ _ _ _ (head .loop .d) (head .loop .s) (c .«record» .result) (rw (c .before .if2 .left) at (head .loop .inv)) (c .before .before .loop-test .left) (c .«record» .ensures))
+      (walked-end noteOf _ _ _ _ _ _ (head .loop .d) (head .loop .s) (c .«record» .result) (rw (c .before .if2 .left) at (head .loop .inv)) (c .before .before .loop-test .left) (c .«record» .ensures))
 
   landing-king-requires : king-landing-lts.Need-king-requires (landing-calls t) (king-landing-at t) king-landing.Post landing-Inv-loop2 landing-μ-loop2 landing-Inv-loop landing-μ-loop
   landing-king-requires c κs =
       let s = c .before in
       let less : size (without (s .args .self .them) (s .args .captured)) * 2 < t = omega (arith, s .pre .0) in
-      (less, omega arith)
+      (less, tt)
 
   landing-returns : king-landing-lts.Need-returns (landing-calls t) (king-landing-at t) king-landing.Post landing-Inv-loop2 landing-μ-loop2 landing-Inv-loop landing-μ-loop
   landing-returns c = rw (c .before .if1 .taken) (c .king .ensures)
@@ -189,7 +194,7 @@ module _ (t : ℕ) where
   landing-difference-requires c κs = search needs
 
   landing-loop-holds : king-landing-lts.Need-loop-holds (landing-calls t) (king-landing-at t) king-landing.Post landing-Inv-loop2 landing-μ-loop2 landing-Inv-loop landing-μ-loop
-  landing-loop-holds c = walked-none _ _ _ _ (search needs)
+  landing-loop-holds c = walked-none _ _ _ _ _ _ _ (search needs)
 
   landing-skips-requires : king-landing-lts.Need-skips-requires (landing-calls t) (king-landing-at t) king-landing.Post landing-Inv-loop2 landing-μ-loop2 landing-Inv-loop landing-μ-loop
   landing-skips-requires c κs = search needs
@@ -201,7 +206,7 @@ module _ (t : ℕ) where
   landing-shift-requires c κs = search needs
 
   landing-loop2-holds : king-landing-lts.Need-loop2-holds (landing-calls t) (king-landing-at t) king-landing.Post landing-Inv-loop2 landing-μ-loop2 landing-Inv-loop landing-μ-loop
-  landing-loop2-holds c = ray-start _ _ _ _ _ _ _ _ (and-lt _ _ (c .shift .ok))
+  landing-loop2-holds c = ray-start _ _ _ _ _ _ _ _ _ (and-lt _ _ (c .shift .ok))
 
   landing-king-landing-requires : king-landing-lts.Need-king-landing-requires (landing-calls t) (king-landing-at t) king-landing.Post landing-Inv-loop2 landing-μ-loop2 landing-Inv-loop landing-μ-loop
   landing-king-landing-requires c κs =
@@ -212,12 +217,13 @@ module _ (t : ℕ) where
       let start = head .before .before .before in
       let a = start .args in
       let d = head .loop .turn in
-      let kept = head .loop .inv .kept in
-      let j = jumped (a .self) (a .at) (a .captured) d _ _ _ (head .before .difference .ensures) (sh .before .slide .ensures) (sh .shift .ensures) in
-      let less = jump-fewer (a .self) (a .at) (a .captured) d _ _ j (head .loop .inv .fits) (start .fits .captured .fits) (ray-first _ _ _ _ _ _ _ _ _ _ _ (at2 .loop2 .inv) (c .loop2-test .taken)) in
+      let kept = king-kept _ _ _ _ _ _ _ _ _ (head .loop .inv) in
+      let on = ray-kept _ _ _ _ _ _ _ _ _ _ _ (at2 .loop2 .inv) in
+      let j = jumped (a .self .them) (a .self .empty) (a .at) (a .captured) d _ _ _ (head .before .difference .ensures) (sh .before .slide .ensures) (sh .shift .ensures) in
+      let less = jump-fewer (a .self .them) (a .self .empty) (a .at) (a .captured) d _ _ j (head .loop .inv .fits) (start .fits .captured .fits) (ray-first noteOf _ _ _ _ _ _ _ _ _ _ _ (at2 .loop2 .inv) (c .loop2-test .taken)) in
       let over = bitAnd (sh .before .slide .result) (head .before .difference .result) in
-      let below : size (without (at2 .loop2 .s .them) (bitOr (a .captured) over)) < size (without (a .self .them) (a .captured)) = rw (at2 .loop2 .inv .kept .them ∙ kept .them) less in
-      (omega (arith, start .pre .0), in-loop .loop-test .taken)
+      let below : size (without (at2 .loop2 .s .them) (bitOr (a .captured) over)) < size (without (a .self .them) (a .captured)) = rw (on .them ∙ kept .them) less in
+      (omega (arith, start .pre .0), tt)
 
   landing-shift-requires-2 : king-landing-lts.Need-shift-requires-2 (landing-calls t) (king-landing-at t) king-landing.Post landing-Inv-loop2 landing-μ-loop2 landing-Inv-loop landing-μ-loop
   landing-shift-requires-2 c κs = search needs
@@ -239,10 +245,11 @@ module _ (t : ℕ) where
       let start = head .before .before .before in
       let a = start .args in
       let d = head .loop .turn in
-      let kept = head .loop .inv .kept in
-      let j = jumped (a .self) (a .at) (a .captured) d _ _ _ (head .before .difference .ensures) (sh .before .slide .ensures) (sh .shift .ensures) in
-      let less = jump-fewer (a .self) (a .at) (a .captured) d _ _ j (head .loop .inv .fits) (start .fits .captured .fits) (ray-first _ _ _ _ _ _ _ _ _ _ _ (at2 .loop2 .inv) ne) in
-      ray-step _ _ _ _ _ _ _ _ _ _ _ (at2 .loop2 .inv) (c .shift2 .result) (c .before .king-landing .result) refl (kept .empty) (rw (kept .them) less) ne (c .shift2 .ensures) (c .before .king-landing .ensures)
+      let kept = king-kept _ _ _ _ _ _ _ _ _ (head .loop .inv) in
+      let on = ray-kept _ _ _ _ _ _ _ _ _ _ _ (at2 .loop2 .inv) in
+      let j = jumped (a .self .them) (a .self .empty) (a .at) (a .captured) d _ _ _ (head .before .difference .ensures) (sh .before .slide .ensures) (sh .shift .ensures) in
+      let less = jump-fewer (a .self .them) (a .self .empty) (a .at) (a .captured) d _ _ j (head .loop .inv .fits) (start .fits .captured .fits) (ray-first noteOf _ _ _ _ _ _ _ _ _ _ _ (at2 .loop2 .inv) ne) in
+      ray-step noteOf _ _ _ _ _ _ _ _ _ _ _ (at2 .loop2 .inv) (c .shift2 .result) (c .before .king-landing .result) less ne (c .shift2 .ensures) (king-on (a .self) _ _ _ _ _ (kept-trans kept on) (c .before .king-landing .ensures))
 
   landing-add-turn : king-landing-lts.Need-add-turn (landing-calls t) (king-landing-at t) king-landing.Post landing-Inv-loop2 landing-μ-loop2 landing-Inv-loop landing-μ-loop
   landing-add-turn c = search needs
@@ -260,10 +267,10 @@ module _ (t : ℕ) where
       let d = head .loop .turn in
       let lt : d < 4 = in-loop .loop-test .taken in
       ⊎-elim
-      (λ w. rw (w .5, w .6) (walked-ray (a .self) (a .at) (a .captured) (skipOf false (a .dir)) d (head .loop .s) (head .loop .extended) (head .loop .inv) lt _ _ (w .3 .s) (w .3 .extended) (w .3 .land)
+      (λ w. rw (w .5, w .6) (walked-ray noteOf (a .self .them) (a .self .empty) (a .self) (a .at) (a .captured) (skipOf false (a .dir)) d (head .loop .s) (head .loop .extended) (head .loop .inv) lt _ _ (w .3 .s) (w .3 .extended) (w .3 .land)
       (sym (sk .skips .ensures) ∙ not-true (sk .skips .result) (w .0 .taken))
-      (jumped (a .self) (a .at) (a .captured) d _ _ _ (head .before .difference .ensures) (w .1 .ensures) (w .2 .ensures)) (w .3 .inv) (w .4 .left)))
-      (λ w. rw (w .1, w .2) (walked-skip (a .self) (a .at) (a .captured) (skipOf false (a .dir)) d (head .loop .s) (head .loop .extended) (head .loop .inv) lt
+      (jumped (a .self .them) (a .self .empty) (a .at) (a .captured) d _ _ _ (head .before .difference .ensures) (w .1 .ensures) (w .2 .ensures)) (w .3 .inv) (w .4 .left)))
+      (λ w. rw (w .1, w .2) (walked-skip noteOf (a .self .them) (a .self .empty) (a .self) (a .at) (a .captured) (skipOf false (a .dir)) d (head .loop .s) (head .loop .extended) (head .loop .inv) lt
       (sym (sk .skips .ensures) ∙ not-false (sk .skips .result) (w .0 .left))))
       (c .if2 .came)
 
@@ -273,12 +280,12 @@ module _ (t : ℕ) where
   landing-returns-2 : king-landing-lts.Need-returns-2 (landing-calls t) (king-landing-at t) king-landing.Post landing-Inv-loop2 landing-μ-loop2 landing-Inv-loop landing-μ-loop
   landing-returns-2 c =
       let head = c .before .before in
-      rw (head .before .before .if1 .left) (walked-out _ _ _ _ (head .loop .turn) (head .loop .s) (rw (c .if3 .taken) at (head .loop .inv)) (c .before .loop-test .left))
+      rw (head .before .before .if1 .left) (walked-out noteOf _ _ _ _ _ _ (head .loop .turn) (head .loop .s) (rw (c .if3 .taken) at (head .loop .inv)) (c .before .loop-test .left))
 
   landing-returns-3 : king-landing-lts.Need-returns-3 (landing-calls t) (king-landing-at t) king-landing.Post landing-Inv-loop2 landing-μ-loop2 landing-Inv-loop landing-μ-loop
   landing-returns-3 c =
       let head = c .before .before .before in
-      rw (head .before .before .if1 .left) (walked-end _ _ _ _ (head .loop .turn) (head .loop .s) (c .«record» .result) (rw (c .before .if3 .left) at (head .loop .inv)) (c .before .before .loop-test .left) (c .«record» .ensures))
+      rw (head .before .before .if1 .left) (walked-end noteOf _ _ _ _ _ _ (head .loop .turn) (head .loop .s) (c .«record» .result) (rw (c .before .if3 .left) at (head .loop .inv)) (c .before .before .loop-test .left) (c .«record» .ensures))
 
 pub +king+king-landing-spec : {M : Type 1} → statement M
 +king+king-landing-spec = close μ-king μ-king-landing

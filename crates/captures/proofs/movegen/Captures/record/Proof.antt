@@ -1,11 +1,11 @@
 -- Each return is one case of the definition: too few, more than before, found already, one more, no room for one more.
 use borrow.Author.Needs.{needs}
-use mathlib.Core.Path.{_≡_}
+use mathlib.Core.Path.{_≡_, _∙_}
 use mathlib.Core.Bool.{true, false}
 use Rattle.positions.specs.Moves.{move}
 use Rattle.captures.specs.Lists.{noMoves, entries, listed, pushOf}
 use Rattle.captures.specs.Record.{listIn, recordOf, moveOf}
-use Rattle.captures.proofs.Recorded.{recorded-anew, recorded-there, recorded-stored, recorded-marked}
+use Rattle.captures.proofs.Recorded.{added-anew, added-there, added-stored, added-marked, record-is}
 use Rattle.captures.proofs.movegen.Captures.record.Statement.{statement}
 use Rattle.captures.proofs.movegen.Captures.record.Tie as tie
 
@@ -30,11 +30,11 @@ push-requires c κs = search needs
 
 returns-2 : tie.Need-returns-2
 returns-2 c =
-    let two = c .before .before .before in
-    let one = two .before .before .before in
+    let longer = c .before .before .before in
+    let one = longer .before .before .before in
     let a = one .before .before .args in
     let anew : c .before .push .result ≡ pushOf noMoves (moveOf (a .self) (a .to) (a .captured)) = cc in
-    recorded-anew (a .self) (a .to) (a .captured) (one .before .count .result) (one .before .count .ensures) (one .if1 .left) (c .before .push .result) (two .if2 .taken) anew
+    added-anew (a .self) (moveOf (a .self) (a .to) (a .captured)) (one .before .count .result) (one .before .count .ensures) (one .if1 .left) (c .before .push .result) (longer .if2 .taken) anew ∙ record-is (a .self) (a .to) (a .captured)
 
 list-requires : tie.Need-list-requires
 list-requires c κs = search needs
@@ -48,7 +48,7 @@ returns-3 c =
     let one = two .before .before .before in
     let a = one .before .before .args in
     let there : listed (entries (listIn (a .self))) (moveOf (a .self) (a .to) (a .captured)) ≡ true = cc in
-    recorded-there (a .self) (a .to) (a .captured) (one .before .count .result) (one .before .count .ensures) (one .if1 .left) (two .if2 .left) there
+    added-there (a .self) (moveOf (a .self) (a .to) (a .captured)) (one .before .count .result) (one .before .count .ensures) (one .if1 .left) (two .if2 .left) there ∙ record-is (a .self) (a .to) (a .captured)
 
 mul-mv : tie.Need-mul-mv
 mul-mv c = search needs
@@ -66,7 +66,7 @@ returns-4 c =
     let a = one .before .before .args in
     let new : listed (entries (listIn (a .self))) (moveOf (a .self) (a .to) (a .captured)) ≡ false = cc in
     let made : move (two .before .before .first .result) (two .before .first2 .result) (a .captured) ≡ moveOf (a .self) (a .to) (a .captured) = cc in
-    recorded-stored (a .self) (a .to) (a .captured) (one .before .count .result) (one .before .count .ensures) (one .if1 .left) _ made (two .if2 .left) new (c .if4 .taken)
+    added-stored (a .self) (moveOf (a .self) (a .to) (a .captured)) (one .before .count .result) (one .before .count .ensures) (one .if1 .left) _ made (two .if2 .left) new (c .if4 .taken) ∙ record-is (a .self) (a .to) (a .captured)
 
 returns-5 : tie.Need-returns-5
 returns-5 c =
@@ -74,7 +74,7 @@ returns-5 c =
     let one = two .before .before .before in
     let a = one .before .before .args in
     let new : listed (entries (listIn (a .self))) (moveOf (a .self) (a .to) (a .captured)) ≡ false = cc in
-    recorded-marked (a .self) (a .to) (a .captured) (one .before .count .result) (one .before .count .ensures) (one .if1 .left) (two .if2 .left) new (c .if4 .left)
+    added-marked (a .self) (moveOf (a .self) (a .to) (a .captured)) (one .before .count .result) (one .before .count .ensures) (one .if1 .left) (two .if2 .left) new (c .if4 .left) ∙ record-is (a .self) (a .to) (a .captured)
 
 pub record-spec : {M : Type 1} → statement M
 record-spec =

@@ -1,0 +1,4 @@
+pub mod Cases
+pub mod Absorbed
+pub mod Merged
+pub mod Turns
