@@ -60,7 +60,7 @@ fn read_escape(s: &[u8]) -> Escape
     }
 }
 
-// The text of a word, in lent bytes; what has no room is left out.
+// The text of a word, in lent bytes, up to an escape that is none; what has no room is left out.
 pub fn unescape(s: &[u8], out: &mut [u8]) -> Undone
     ensures { λ r. ⌜ Undid (now (s .entry)) (now (out .entry)) (now (out .exit)) r ⌝ }
 {
