@@ -6,8 +6,7 @@ use mathlib.Core.Bool.{Bool, true, false, cond, _&&_, _||_}
 use lib.Dec.{eqb}
 use lib.Bits.{bitAnd, bitOr}
 use Rattle.squares.specs.Sets.{has, without}
-use Rattle.squares.specs.Squares.{promotion, firstOf, onBoard}
-pub use Rattle.squares.specs.Squares.{squaresOnly}
+use Rattle.squares.specs.Squares.{promotion, firstOf, onBoard, squaresOnly}
 use Rattle.squares.specs.declared.piece.Color.{Color}
 use Rattle.squares.specs.declared.piece.Color.the-variants.{White, Black}
 use Rattle.squares.specs.declared.refusal.Refusal.the-variants.{NoSuchSquare, Overlap, ManOnPromotionRow}

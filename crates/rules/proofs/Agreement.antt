@@ -8,7 +8,8 @@ use Rattle.positions.specs.Boards.{Board}
 use Rattle.rules.specs.Lists.{longest}
 use Rattle.rules.specs.Ordered.{count, captures, quiets, sameBits, bitLegal}
 use Rattle.rules.specs.Rules.{BitMove, BitLegal, capture, quiet, Fair}
-use Rattle.rules.proofs.Captures.{Reached, of-captures, in-captures, shut-law}
+use Rattle.rules.proofs.Tree.{Reached}
+use Rattle.rules.proofs.Captures.{of-captures, in-captures, shut-law}
 use Rattle.rules.proofs.Held.{Longest, of-longest, in-longest}
 use Rattle.rules.proofs.Quiets.{of-quiets, in-quiets}
 use Rattle.rules.proofs.Same.{bits-refl, bits-true}
@@ -27,7 +28,7 @@ module _ (b : Board) (fair : Fair b) where
   pub bits-sound : (m : BitMove) → Member m (bitLegal b) → BitLegal b m
   bits-sound m h = go (captures b) refl
     where
-      most : (w : BitMove) → Longest count (captures b) m → Reached w (captures b) → count w ≤ count m
+      most : (w : BitMove) → Longest count (captures b) m → Reached count w (captures b) → count w ≤ count m
       most w l (inl k) = l .most w k
       most w l (inr k) = omega (arith, l .most (k .0) (k .1), k .2)
 
@@ -40,11 +41,11 @@ module _ (b : Board) (fair : Fair b) where
   pub bits-complete : (m : BitMove) → BitLegal b m → Member m (bitLegal b)
   bits-complete m (capture c most) = go (captures b) refl (in-captures b fair m c)
     where
-      in-list : Reached m (captures b) → Member m (captures b)
+      in-list : Reached count m (captures b) → Member m (captures b)
       in-list (inl k) = k
       in-list (inr k) = absurd (omega (arith, most (k .0) (of-captures b fair (k .0) (k .1)), k .2))
 
-      go : (l : List BitMove) → captures b ≡ l → Reached m (captures b) → Member m (bitLegal b)
+      go : (l : List BitMove) → captures b ≡ l → Reached count m (captures b) → Member m (bitLegal b)
       go [] e r = absurd (not-nil (rw e at (in-list r)))
       go (x ∷ xs) e r =
           rw (bits-some b x xs e) (in-longest sameBits bits-refl bits-true count (captures b) m

@@ -11,7 +11,7 @@ use Rattle.squares.specs.declared.piece.PieceKind.{PieceKind}
 use Rattle.squares.specs.declared.piece.PieceKind.the-variants.{Man, King}
 use Rattle.squares.specs.Sets.{has, members}
 use Rattle.squares.proofs.Members.{of-members}
-use Rattle.rules.proofs.Tree.{sound, jump, complete}
+use Rattle.rules.proofs.Tree.{Reached, wider, sound, jump, complete}
 use Rattle.positions.specs.Boards.{Board, pieces}
 use Rattle.rules.proofs.Boards.{piece-own, piece-member}
 use Rattle.rules.specs.Lists.{concatMap, keep}
@@ -36,21 +36,13 @@ open-of {b} w c = go (c .sequence) (c .piece)
     go (then s j) p = go s p
 
 -- ---- all sequences
--- z is found, or a longer one is
-abbrev pub Reached : BitMove → List BitMove → Type 0
-Reached z l = Member z l ⊎ ((w : BitMove) × Member w l × (count z < count w))
-
-wider : (z : BitMove) (l r : List BitMove) → ((w : BitMove) → Member w l → Member w r) → Reached z l → Reached z r
-wider z l r f (inl m) = inl (f z m)
-wider z l r f (inr h) = inr (h .0, f (h .0) (h .1), h .2)
-
 module _ (b : Board) (fair : Fair b) where
   pub of-sequences : (k : PieceKind) (i : ℕ) (m : BitMove) → Member m (sequences b k i) → (m .from ≡ i) × Path b k i (m .to) (m .taken)
   unfolding sequences
   of-sequences k i m h = of-from b fair (sound (jumps b k) enough (bitMove i i 0) m h) i refl begin
 
   in-sequences : (k : PieceKind) (m : BitMove) → has (pieces b k) (m .from) ≡ true → Path b k (m .from) (m .to) (m .taken)
-      → Reached m (sequences b k (m .from))
+      → Reached count m (sequences b k (m .from))
   unfolding sequences
   in-sequences k m h s =
       complete (jumps b k) count (remaining b) (Good b) (good b fair k) (grows b fair k) (falls b fair k)
@@ -85,9 +77,9 @@ module _ (b : Board) (fair : Fair b) where
   kind-all Man w h = in-left _ h
   kind-all King w h = in-right (concatMap (sequences b Man) (members (pieces b Man))) h
 
-  in-all : (m : BitMove) (k : PieceKind) → has (pieces b k) (m .from) ≡ true → Path b k (m .from) (m .to) (m .taken) → Reached m (allSequences b)
+  in-all : (m : BitMove) (k : PieceKind) → has (pieces b k) (m .from) ≡ true → Path b k (m .from) (m .to) (m .taken) → Reached count m (allSequences b)
   in-all m k h s =
-      wider m (sequences b k (m .from)) (allSequences b)
+      wider count m (sequences b k (m .from)) (allSequences b)
       (λ w i. kind-all k w (in-concatMap (sequences b k) (piece-member b fair k (m .from) h) i))
       (in-sequences k m h s)
 
@@ -99,14 +91,14 @@ module _ (b : Board) (fair : Fair b) where
       let n = eqb-false (count m) 0 (not-true (eqb (count m) 0) (r .1)) in
       record { kind = a .kind; piece = a .piece; sequence = path-sequence (a .path) (omega arith) }
 
-  pub in-captures : (m : BitMove) → Capture b m → Reached m (captures b)
+  pub in-captures : (m : BitMove) → Capture b m → Reached count m (captures b)
   unfolding captures
   in-captures m c = go (in-all m (c .kind) (c .piece) (of-sequence (c .sequence)))
     where
       pos : (w : BitMove) → 0 < count w → not (eqb (count w) 0) ≡ true
       pos w l = ap not (ne-eqb (count w) 0 (λ e. omega arith))
 
-      go : Reached m (allSequences b) → Reached m (keep (λ w. not (eqb (count w) 0)) (allSequences b))
+      go : Reached count m (allSequences b) → Reached count m (keep (λ w. not (eqb (count w) 0)) (allSequences b))
       go (inl h) = inl (in-keep (λ w. not (eqb (count w) 0)) h (pos m (capture-some b fair m c)))
       go (inr h) = inr (h .0, in-keep (λ w. not (eqb (count w) 0)) (h .1) (pos (h .0) (omega (arith, h .2))), h .2)
 
@@ -114,7 +106,7 @@ module _ (b : Board) (fair : Fair b) where
   pub shut-law : (captures b ≡ []) ↔ NoJump b
   shut-law = ((λ e o. none e o (in-captures (opened o) (of-open o))), (λ n. go (captures b) refl n))
     where
-      none : captures b ≡ [] → (o : Open b) → Reached (opened o) (captures b) → ⊥
+      none : captures b ≡ [] → (o : Open b) → Reached count (opened o) (captures b) → ⊥
       none e o (inl k) = not-nil (rw e at k)
       none e o (inr k) = not-nil (rw e at (k .1))
 

@@ -26,6 +26,14 @@ module _ {A : Type 0} where
   of-orEnd x z [] m = inl (singleton m)
   of-orEnd x z (y ∷ ys) m = inr m
 
+-- z is found, or a longer one is
+abbrev pub Reached : {A : Type 0} → (A → ℕ) → A → List A → Type 0
+Reached {A} size z l = Member z l ⊎ ((w : A) × Member w l × (size z < size w))
+
+pub wider : {A : Type 0} (size : A → ℕ) (z : A) (l r : List A) → ((w : A) → Member w l → Member w r) → Reached size z l → Reached size z r
+wider size z l r f (inl m) = inl (f z m)
+wider size z l r f (inr h) = inr (h .0, f (h .0) (h .1), h .2)
+
 module _ {A : Type 0} (jumps : A → List A) where
   -- zero or more jumps
   pub data From : A → A → Type 0 where
@@ -58,27 +66,19 @@ module _ {A : Type 0} (jumps : A → List A) where
     from-size stop g = omega arith
     from-size (jump {x = x} {y = y} m r) g = omega (arith, grows x y g m, from-size r (good x y g m))
 
-    -- z is found, or a longer one is
-    abbrev pub Reached : A → List A → Type 0
-    Reached z l = Member z l ⊎ ((w : A) × Member w l × (size z < size w))
-
-    wider : (z : A) (l r : List A) → ((w : A) → Member w l → Member w r) → Reached z l → Reached z r
-    wider z l r f (inl m) = inl (f z m)
-    wider z l r f (inr h) = inr (h .0, f (h .0) (h .1), h .2)
-
-    pub complete : {x z : A} → From x z → Good x → (n : ℕ) → left x ≤ n → Reached z (followed jumps n x)
+    pub complete : {x z : A} → From x z → Good x → (n : ℕ) → left x ≤ n → Reached size z (followed jumps n x)
     unfolding followed orEnd
     complete (stop {x = x}) g zero h = inl (head refl)
     complete (stop {x = x}) g (suc n) h = go (concatMap (followed jumps n) (jumps x)) (λ z m. m)
       where
-        go : (l : List A) → ((z : A) → Member z l → Member z (concatMap (followed jumps n) (jumps x))) → Reached x (orEnd x l)
+        go : (l : List A) → ((z : A) → Member z l → Member z (concatMap (followed jumps n) (jumps x))) → Reached size x (orEnd x l)
         go [] f = inl (head refl)
         go (y ∷ ys) f =
             let r = of-concatMap (followed jumps n) (jumps x) (f y (head refl)) in
             inr (y, head refl, omega (arith, grows x (r .0) g (r .1), from-size (sound n (r .0) y (r .2)) (good x (r .0) g (r .1))))
     complete (jump {x = x} {y = y} m r) g zero h = absurd (omega (arith, falls x y g m))
     complete (jump {x = x} {y = y} {z = z} m r) g (suc n) h =
-        wider z (followed jumps n y) (orEnd x (concatMap (followed jumps n) (jumps x)))
+        wider size z (followed jumps n y) (orEnd x (concatMap (followed jumps n) (jumps x)))
         (λ w k. in-orEnd x (concatMap (followed jumps n) (jumps x)) (in-concatMap (followed jumps n) m k))
         (complete r (good x y g m) n (omega (arith, falls x y g m)))
 

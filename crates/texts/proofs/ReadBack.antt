@@ -10,12 +10,13 @@ use lib.ListN.{length, take, drop}
 use lib.Seq.{take-append-le, take-length}
 use borrow.Author.Tests.{le-leb}
 use Rattle.squares.specs.Sets.{has, without}
+use Rattle.squares.specs.Squares.{squaresOnly}
 use Rattle.squares.specs.declared.refusal.Refusal.the-variants.{TextTooLong, SpaceTooShort}
 use Rattle.squares.proofs.Bools.{and-left, and-right, and-both}
 use Rattle.squares.proofs.Pointwise.{ext, has-and, has-or, and-lt}
 use Rattle.positions.specs.Boards.{Board, boardOf}
 use Rattle.positions.specs.Hash.{positionOf}
-use Rattle.positions.specs.Acceptance.{squaresOnly, acceptedSets, accepted, Accepted, Sound, placeOf, fromPartsOf}
+use Rattle.positions.specs.Acceptance.{acceptedSets, accepted, Accepted, Sound, placeOf, fromPartsOf}
 use Rattle.positions.specs.declared.position.Position.{Position}
 use Rattle.positions.specs.declared.position.Placed.the-variants as placed
 use Rattle.positions.proofs.Accepts.{from-parts-sound, says-accepted, says-sound, sound-position, say-squares}
