@@ -11,7 +11,8 @@ use Rattle.squares.specs.declared.piece.PieceKind.the-variants.{Man, King}
 use Rattle.squares.specs.declared.piece.Known.{Known}
 use Rattle.squares.specs.declared.piece.Known.the-variants as known
 use Rattle.squares.specs.declared.refusal.Refusal.the-variants.{TextTooLong, NoSide, NotFifty, BadPosition}
-use Rattle.positions.specs.Boards.{Board, boardOf, pieceAtOf}
+use Rattle.squares.specs.declared.piece.Color.the-variants.{White, Black}
+use Rattle.positions.specs.Boards.{Board, boardOf, standingOf, pieceAtOf}
 use Rattle.positions.specs.Acceptance.{sound}
 use Rattle.positions.specs.declared.position.Position.{Position}
 use Rattle.positions.specs.declared.position.Standing.{Standing}
@@ -39,6 +40,10 @@ abbrev pub standingChar : Standing → ℕ
 standingChar (standing.Piece p) = pieceChar p
 standingChar standing.Nothing = code "e"
 standingChar (standing.Refused e) = code "e"
+
+-- the letter of a square, given whether White, Black and a king are on it
+abbrev pub letterOf : Bool → Bool → Bool → ℕ
+letterOf white black king = standingChar (cond white (standingOf White king) (cond black (standingOf Black king) standing.Nothing))
 
 unfoldable pub hubChar : Board → ℕ → ℕ
 hubChar b n = standingChar (pieceAtOf b n)

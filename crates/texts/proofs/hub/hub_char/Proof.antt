@@ -1,45 +1,54 @@
--- What stands on the square has its letter.
-use Rattle.texts.specs.Hub.{hubChar}
+-- What stands on the square has its letter; where there is no such square, no set has it.
+use mathlib.Core.Path.{_≡_, refl, ap, ap₂, _∙_}
+use mathlib.Core.Bool.{Bool, true, false, cond, _&&_}
+use Prim.Native.Nat.{ℕ}
 use borrow.Author.Needs.{needs}
+use Rattle.squares.specs.Sets.{has}
+use Rattle.squares.specs.Squares.{isSquare, bitOf, containsOf}
+use Rattle.squares.specs.declared.piece.Color.the-variants.{White, Black}
+use Rattle.squares.specs.declared.refusal.Refusal.the-variants.{NoSuchSquare}
+use Rattle.positions.specs.Boards.{Board, boardOf, standingOf, pieceAtOf}
+use Rattle.positions.specs.declared.position.Standing.the-variants as standing
+use Rattle.texts.specs.Hub.{standingChar, letterOf, hubChar}
 use Rattle.texts.proofs.hub.hub_char.Statement.{statement}
 use Rattle.texts.proofs.hub.hub_char.Tie as tie
 
-piece-at-requires : tie.Need-piece-at-requires
-piece-at-requires c κs = search needs
+told : (b : Board) (n : ℕ) → letterOf (containsOf (b .white) n) (containsOf (b .black) n) (containsOf (b .kings) n) ≡ hubChar b n
+unfolding hubChar pieceAtOf containsOf
+told b n = go (isSquare n)
+  where
+    go : (t : Bool) → letterOf (t && has (b .white) (bitOf n)) (t && has (b .black) (bitOf n)) (t && has (b .kings) (bitOf n))
+        ≡ standingChar (cond t
+        (cond (t && has (b .white) (bitOf n)) (standingOf White (t && has (b .kings) (bitOf n)))
+        (cond (t && has (b .black) (bitOf n)) (standingOf Black (t && has (b .kings) (bitOf n))) standing.Nothing))
+        (standing.Refused NoSuchSquare))
+    go true = refl
+    go false = refl
 
-enum-known-q : tie.Need-enum-known-q
-enum-known-q c = search needs
+contains-requires : tie.Need-contains-requires
+contains-requires c κs = search needs
 
-to-char-requires : tie.Need-to-char-requires
-to-char-requires c κs = search needs
+contains-requires-2 : tie.Need-contains-requires-2
+contains-requires-2 c κs = search needs
 
-enum-told : tie.Need-enum-told
-enum-told c = search needs
+contains-requires-3 : tie.Need-contains-requires-3
+contains-requires-3 c κs = search needs
 
-enum-told-2 : tie.Need-enum-told-2
-enum-told-2 c = search needs
+letter-requires : tie.Need-letter-requires
+letter-requires c κs = search needs
 
 returns : tie.Need-returns
-unfolding hubChar
-returns c = rw (← c .before .before .before .before .piece-at .ensures, c .before .before .q .given .1) (c .to-char .ensures)
-
-returns-2 : tie.Need-returns-2
-unfolding hubChar
-returns-2 c = rw (← c .before .before .piece-at .ensures, c .enum-told .given .1)
-
-returns-3 : tie.Need-returns-3
-unfolding hubChar
-returns-3 c = rw (← c .before .before .piece-at .ensures, c .enum-told2 .given .1)
+returns c =
+    let k = c .before in
+    let b = k .before in
+    let w = b .before in
+    let p = w .before .args .p in
+    let n = w .before .args .square in
+    c .letter .ensures
+    ∙ ap₂ (λ (x y : Bool). letterOf x y (k .contains3 .result)) (w .contains .ensures) (b .contains2 .ensures)
+    ∙ ap (letterOf (containsOf (p .white) n) (containsOf (p .black) n)) (k .contains3 .ensures) ∙ told (boardOf p) n
 
 pub hub-char-spec : {M : Type 1} → statement M
 hub-char-spec =
     tie.close
-    (tie.spec
-    piece-at-requires
-    enum-known-q
-    to-char-requires
-    enum-told
-    enum-told-2
-    returns
-    returns-2
-    returns-3)
+    (tie.spec contains-requires contains-requires-2 contains-requires-3 letter-requires returns)
