@@ -56,11 +56,5 @@ kingQuiets kings empty = flatMap (flights empty) (members kings)
 unfoldable pub allQuiets : ℕ → ℕ → ℕ → Color → List Move
 allQuiets men kings empty side = menQuiets men empty side ++ kingQuiets kings empty
 
-unfoldable pub menMovesOf : ℕ → ℕ → Color → Listing
-menMovesOf men empty side = foldl addOf (listing noMoves false) (menQuiets men empty side)
-
-unfoldable pub kingMovesOf : Listing → ℕ → ℕ → Listing
-kingMovesOf l kings empty = foldl addOf l (kingQuiets kings empty)
-
 unfoldable pub quietMovesOf : ℕ → ℕ → ℕ → Color → Listing
 quietMovesOf men kings empty side = foldl addOf (listing noMoves false) (allQuiets men kings empty side)

@@ -1,5 +1,4 @@
-// Quiet moves, and the tests by shifted sets, after movegen.rs. A loop stores each move into its own list: handed through a call
-// for each, the list of 4 KB would be copied in and out.
+// Quiet moves, and the tests by shifted sets, after movegen.rs.
 use captures::movegen;
 use captures::moves::MAX_MOVES;
 use captures::moves::MoveList;
@@ -12,7 +11,7 @@ ghost use Prim.Native.Nat.{_<_};
 ghost use lib.ListN.{length};
 ghost use Rattle.squares.specs.Sets.{members};
 ghost use Rattle.quiets.specs.Tests.{forwardOf, stepsOpen, hasQuietOf, menJump, kingOpen, anyIn, hasCaptureOf};
-ghost use Rattle.quiets.specs.Quiets.{menMovesOf, kingMovesOf, quietMovesOf, flightOf, flights, kingQuiets, allQuiets};
+ghost use Rattle.quiets.specs.Quiets.{quietMovesOf, flightOf, flights, kingQuiets, allQuiets};
 
 // A list, and whether there were more moves than it holds.
 pub struct Listing {
@@ -82,12 +81,19 @@ pub fn has_capture(men: Bitboard, kings: Bitboard, them: Bitboard, empty: Bitboa
     c | kings_open(kings, them, empty)
 }
 
-// The men's steps forward: by direction first, then by the bit reached.
-pub fn men_moves(men: Bitboard, empty: Bitboard, side: Color) -> Listing
-    ensures { λ r. ⌜ r ≡ menMovesOf men empty side ⌝ }
+// All quiet moves: the men's steps by direction, then by the bit reached; then the kings' flights by bit, by direction, near
+// to far. One function with a local array: a list handed from one function to the next would be copied each time.
+pub fn quiet_moves(men: Bitboard, kings: Bitboard, empty: Bitboard, side: Color) -> Listing
+    ensures { λ r. ⌜ r ≡ quietMovesOf men kings empty side ⌝ }
 {
     let first = forward(side);
-    let mut list = MoveList::new();
+    let blank = Move {
+        captured: 0,
+        from: 0,
+        to: 0,
+    };
+    let mut moves = [blank; 256];
+    let mut len: usize = 0;
     let mut overflow = false;
     let mut k = 0;
     while k < 2 {
@@ -101,10 +107,9 @@ pub fn men_moves(men: Bitboard, empty: Bitboard, side: Color) -> Listing
                 from: bitboard::first(back),
                 to: bitboard::first(at),
             };
-            let len = list.len;
             if len < MAX_MOVES {
-                list.moves[len] = mv;
-                list.len = len + 1;
+                moves[len] = mv;
+                len += 1;
             } else {
                 overflow = true;
             }
@@ -112,59 +117,39 @@ pub fn men_moves(men: Bitboard, empty: Bitboard, side: Color) -> Listing
         }
         k += 1;
     }
-    Listing {
-        list: list,
-        overflow: overflow,
-    }
-}
-
-// The kings' flights: by bit, by direction, near to far.
-pub fn king_moves(start: Listing, kings: Bitboard, empty: Bitboard) -> Listing
-    ensures { λ r. ⌜ r ≡ kingMovesOf start kings empty ⌝ }
-{
-    let mut list = start.list;
-    let mut overflow = start.overflow;
     let mut left = kings;
     while left != 0 {
-        let at = 1u64 << u64::trailing_zeros(left);
-        let from = bitboard::first(at);
-        let mut d = 0;
-        while d < 4 {
-            let mut to = bitboard::shift(at, d) & empty;
-            while to != 0 {
+        let king = 1u64 << u64::trailing_zeros(left);
+        let from = bitboard::first(king);
+        let mut dir = 0;
+        while dir < 4 {
+            let mut land = bitboard::shift(king, dir) & empty;
+            while land != 0 {
                 let mv = Move {
                     captured: 0,
                     from: from,
-                    to: bitboard::first(to),
+                    to: bitboard::first(land),
                 };
-                let len = list.len;
                 if len < MAX_MOVES {
-                    list.moves[len] = mv;
-                    list.len = len + 1;
+                    moves[len] = mv;
+                    len += 1;
                 } else {
                     overflow = true;
                 }
-                to = bitboard::shift(to, d) & empty;
+                land = bitboard::shift(land, dir) & empty;
             }
-            d += 1;
+            dir += 1;
         }
         left = left & (left - 1);
     }
+    let list = MoveList {
+        moves: moves,
+        len: len,
+    };
     Listing {
         list: list,
         overflow: overflow,
     }
-}
-
-// All quiet moves: the men's, then the kings'.
-pub fn quiet_moves(men: Bitboard, kings: Bitboard, empty: Bitboard, side: Color) -> Listing
-    ensures { λ r. ⌜ r ≡ quietMovesOf men kings empty side ⌝ }
-{
-    let steps = men_moves(men, empty, side);
-    if kings == 0 {
-        return steps;
-    }
-    king_moves(steps, kings, empty)
 }
 
 // The number of squares that a king on `at` can fly to in direction `d`.
