@@ -19,11 +19,11 @@ unfolding recordOf
 record-none s to = rw size-zero refl
 
 module _ (them empty at : ℕ) where
-  man-first : anyUpTo (manJumps them empty at 0) 4 ≡ anyUpTo (manJump at them empty) 4
+  pub man-first : anyUpTo (manJumps them empty at 0) 4 ≡ anyUpTo (manJump at them empty) 4
   unfolding anyUpTo manJump
   man-first = rw (without-none them) refl
 
-  king-first : anyUpTo (kingJumps them empty at 0 (skipOf true 4)) 4 ≡ anyUpTo (kingJump at them empty) 4
+  pub king-first : anyUpTo (kingJumps them empty at 0 (skipOf true 4)) 4 ≡ anyUpTo (kingJump at them empty) 4
   unfolding anyUpTo kingJump skipOf
   king-first = rw (without-none them) refl
 

@@ -7,3 +7,4 @@ pub mod Answers
 pub mod Plies
 pub mod Taken
 pub mod Rows
+pub mod ShortLists

@@ -35,8 +35,12 @@ seen v = facing (v .side) (v .us) (v .them) (v .kings)
 abbrev pub listingOf : Captures → Listing
 listingOf s = listing (listIn s) (s .overflow)
 
+-- the search of all pieces: men, then kings
+abbrev pub longCapturesOf : ℕ → ℕ → ℕ → ℕ → Captures
+longCapturesOf men kings them empty = kingsCapturesOf (menCapturesOf (startOf them empty) men empty) kings empty
+
 unfoldable pub captureMovesOf : ℕ → ℕ → ℕ → ℕ → Listing
-captureMovesOf men kings them empty = listingOf (kingsCapturesOf (menCapturesOf (startOf them empty) men empty) kings empty)
+captureMovesOf men kings them empty = listingOf (longCapturesOf men kings them empty)
 
 -- captures where a jump is open, else quiet moves
 unfoldable pub movesBySets : ℕ → ℕ → ℕ → ℕ → Color → Listing

@@ -6,15 +6,24 @@ use positions::moves::Move;
 use positions::position::Placed;
 use positions::position::Position;
 use quiets::quiets::Listing;
+use shorts::short::Short;
 use squares::bitboard;
 use squares::bitboard::Bitboard;
 use squares::piece::Color;
 use squares::refusal::Answer;
 use squares::refusal::Refusal;
 ghost use mathlib.Core.Path.{_≡_};
+ghost use Prim.Native.Nat.{_≤_};
+ghost use mathlib.Core.Bool.{false};
+ghost use Rattle.captures.specs.Lists.{listOf};
+ghost use Rattle.quiets.specs.Quiets.{listing};
+ghost use Rattle.shorts.specs.Noted.{few};
 ghost use Rattle.positions.specs.Boards.{boardOf};
-ghost use Rattle.movegen.specs.Generate.{viewOf, captureMovesOf, generateOf};
+ghost use Rattle.movegen.specs.Generate.{viewOf, longCapturesOf, generateOf};
 ghost use Rattle.movegen.specs.Lists.{refusedList, withinOf, legalMovesOf, hasCapturesOf, hasQuietMovesOf, afterOf};
+
+// With at most so many kings the captures are first looked for by a short list.
+const FEW_KINGS: u32 = 3;
 
 // A list, with the answer beside it; refused, the list is empty.
 pub struct Listed {
@@ -50,26 +59,50 @@ impl View {
     }
 }
 
-// All longest captures: men by bit, then kings by bit.
-pub(crate) fn capture_moves(
+// The search of all pieces with a long list: men by bit, then kings by bit.
+pub(crate) fn long_captures(
     men: Bitboard,
     kings: Bitboard,
     them: Bitboard,
     empty: Bitboard,
-) -> Listing
-    ensures { λ r. ⌜ r ≡ captureMovesOf men kings them empty ⌝ }
+) -> Captures
+    ensures { λ r. ⌜ r ≡ longCapturesOf men kings them empty ⌝ }
 {
     let start = Captures::new(them, empty);
     let steps = shorts::pieces::men_captures(start, men, empty);
-    let found = shorts::pieces::kings_captures(steps, kings, empty);
-    let list = found.list();
+    shorts::pieces::kings_captures(steps, kings, empty)
+}
+
+// The moves of a short list that had room for all.
+fn spread(found: Short) -> Listing
+    requires { ⌜ found .len ≤ 14 ⌝ }
+    ensures { λ r. ⌜ r ≡ listing (listOf (few found)) false ⌝ }
+{
+    let blank = Move {
+        captured: 0,
+        from: 0,
+        to: 0,
+    };
+    let mut moves = [blank; 256];
+    let n = found.len;
+    let mut i: usize = 0;
+    while i < n {
+        moves[i] = found.moves[i];
+        i += 1;
+    }
+    let list = MoveList {
+        moves: moves,
+        len: n,
+    };
     Listing {
         list: list,
-        overflow: found.overflow,
+        overflow: false,
     }
 }
 
-// All moves of the side. A jump is looked for by sets before a list is made; where one is open only captures are listed.
+// All moves of the side. A jump is looked for by sets before a list is made; where one is open only captures are listed:
+// by a short list, or, where that has no room for them, by the long one. Many kings often have more captures than a
+// short list holds, so for them the long list is used at once.
 pub(crate) fn generate(v: View) -> Listing
     ensures { λ r. ⌜ r ≡ generateOf v ⌝ }
 {
@@ -78,10 +111,20 @@ pub(crate) fn generate(v: View) -> Listing
     let kings = v.us & v.kings;
     let side = v.side;
     if quiets::quiets::has_capture(men, kings, v.them, empty) {
-        capture_moves(men, kings, v.them, empty)
-    } else {
-        quiets::quiets::quiet_moves(men, kings, empty, side)
+        if bitboard::count(kings) <= FEW_KINGS {
+            let few = shorts::few::few_captures(men, kings, v.them, empty);
+            if !few.overflow {
+                return spread(few);
+            }
+        }
+        let found = long_captures(men, kings, v.them, empty);
+        let list = found.list();
+        return Listing {
+            list: list,
+            overflow: found.overflow,
+        };
     }
+    quiets::quiets::quiet_moves(men, kings, empty, side)
 }
 
 fn refused(e: Refusal) -> Listed

@@ -3,10 +3,10 @@ use crate::movegen;
 use crate::movegen::View;
 use crate::moves::MAX_MOVES;
 use crate::moves::MoveList;
+use captures::movegen::Captures;
 use positions::moves::Move;
 use positions::playing;
 use positions::position::Position;
-use quiets::quiets::Listing;
 use squares::bitboard;
 use squares::bitboard::Bitboard;
 use squares::refusal::Answer;
@@ -18,7 +18,7 @@ ghost use Prim.Native.Nat.{_-_, _≤_};
 ghost use lib.Bits.{bitXor};
 ghost use Rattle.squares.specs.Squares.{single};
 ghost use Rattle.positions.specs.Acceptance.{Accepted};
-ghost use Rattle.movegen.specs.Generate.{seen, nextOf};
+ghost use Rattle.movegen.specs.Generate.{seen, listingOf, captureMovesOf, nextOf};
 ghost use Rattle.movegen.specs.LastPly.{limitedCount, listedCount, lastPlyOf};
 ghost use Rattle.movegen.specs.Counts.{depthCount, perftOf, undivided, dividedOf, divideOf};
 
@@ -70,20 +70,29 @@ fn limited(moves: u32) -> Counted
     }
 }
 
-// The number of moves of a list, or 17.
-fn listed(l: Listing) -> Counted
-    ensures { λ r. ⌜ r ≡ listedCount l ⌝ }
+// The number of moves that a search found, or 17.
+fn listed(found: Captures) -> Counted
+    ensures { λ r. ⌜ r ≡ listedCount (listingOf found) ⌝ }
 {
-    let list = l.list;
-    if l.overflow {
+    if found.overflow {
         Counted::Refused(Refusal::TooManyMoves)
     } else {
-        Counted::Count(list.len as u64)
+        Counted::Count(found.len as u64)
     }
 }
 
-// The number of moves of the side. At the last ply of a count nothing else is asked, and where no jump is open no list
-// is made.
+// The number of captures: that of a short list, or, where it has no room for them, of the long one.
+fn captures_count(men: Bitboard, kings: Bitboard, them: Bitboard, empty: Bitboard) -> Counted
+    ensures { λ r. ⌜ r ≡ listedCount (captureMovesOf men kings them empty) ⌝ }
+{
+    let few = shorts::few::few_captures(men, kings, them, empty);
+    if few.overflow {
+        return listed(movegen::long_captures(men, kings, them, empty));
+    }
+    Counted::Count(few.len as u64)
+}
+
+// The number of moves of the side. At the last ply of a count nothing else is asked, and no long list is made.
 fn last_ply(v: View) -> Counted
     ensures { λ r. ⌜ r ≡ lastPlyOf v ⌝ }
 {
@@ -92,7 +101,7 @@ fn last_ply(v: View) -> Counted
     let kings = v.us & v.kings;
     let side = v.side;
     if quiets::quiets::has_capture(men, kings, v.them, empty) {
-        listed(movegen::capture_moves(men, kings, v.them, empty))
+        captures_count(men, kings, v.them, empty)
     } else {
         limited(quiets::quiets::quiet_count(men, kings, empty, side))
     }

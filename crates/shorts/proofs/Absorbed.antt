@@ -33,7 +33,7 @@ same-true m n h =
     let c = eqb-true (m .captured) (n .captured) (and-right (eqb (m .to) (n .to)) _ r) in
     ap₂ (λ (x y : ℕ). move x y (m .captured)) f t ∙ ap (move (n .from) (n .to)) c
 
-same-refl : (m : Move) → same m m ≡ true
+pub same-refl : (m : Move) → same m m ≡ true
 unfolding same
 same-refl m = rw (eq-eqb (m .from) (m .from) refl, eq-eqb (m .to) (m .to) refl, eq-eqb (m .captured) (m .captured) refl) refl
 
@@ -43,10 +43,10 @@ module _ (s : Captures) (m : Move) where
   unfolding addOf
   add-few n e h = rw (← e, h) refl
 
-  add-anew : (eqb (size (m .captured)) 0 || ltb (size (m .captured)) (s .best)) ≡ false → s .best < size (m .captured) → addOf s m ≡ anewBy s m
+  pub add-anew : (eqb (size (m .captured)) 0 || ltb (size (m .captured)) (s .best)) ≡ false → s .best < size (m .captured) → addOf s m ≡ anewBy s m
   add-anew h l = sym (added-anew s m (size (m .captured)) refl h (pushOf noMoves m) l refl)
 
-  add-there : size (m .captured) ≡ s .best → listed (entries (listIn s)) m ≡ true → addOf s m ≡ s
+  pub add-there : size (m .captured) ≡ s .best → listed (entries (listIn s)) m ≡ true → addOf s m ≡ s
   unfolding addOf
   add-there e l = go (eqb (size (m .captured)) 0 || ltb (size (m .captured)) (s .best))
     where
@@ -76,17 +76,17 @@ absorb : (s : Captures) (m : Move) → Absorbed s m → addOf s m ≡ s
 absorb s m a = ⊎-elim (add-there s m (a .count)) (λ v. add-full s m (a .count) (v .0) (v .1)) (a .there)
 
 -- the search after one more of the largest number: it is absorbed, and so is what was
-record Taken (s r : Captures) (m : Move) : Type 0 where
-  kept : Kept s r
-  best : r .best ≡ s .best
-  room : length (r .moves) ≡ 256
-  self : Absorbed r m
-  others : (x : Move) → Absorbed s x → Absorbed r x
+pub record Taken (s r : Captures) (m : Move) : Type 0 where
+  pub kept : Kept s r
+  pub best : r .best ≡ s .best
+  pub room : length (r .moves) ≡ 256
+  pub self : Absorbed r m
+  pub others : (x : Move) → Absorbed s x → Absorbed r x
 
-stored : (s : Captures) (m : Move) → length (s .moves) ≡ 256 → s .len < 256 → entries (record { moves = set (s .moves) (s .len) m; len = s .len + 1 }) ≡ entries (listIn s) ++ (m ∷ [])
+pub stored : (s : Captures) (m : Move) → length (s .moves) ≡ 256 → s .len < 256 → entries (record { moves = set (s .moves) (s .len) m; len = s .len + 1 }) ≡ entries (listIn s) ++ (m ∷ [])
 stored s m h l = rw (add-one, take-suc-set (s .moves) (s .len) m (omega arith)) refl
 
-taken : (s : Captures) (m : Move) → length (s .moves) ≡ 256 → (eqb (size (m .captured)) 0 || ltb (size (m .captured)) (s .best)) ≡ false → size (m .captured) ≡ s .best → Taken s (addOf s m) m
+pub taken : (s : Captures) (m : Move) → length (s .moves) ≡ 256 → (eqb (size (m .captured)) 0 || ltb (size (m .captured)) (s .best)) ≡ false → size (m .captured) ≡ s .best → Taken s (addOf s m) m
 taken s m h u e = go (listed (entries (listIn s)) m) refl
   where
     -- where it is new

@@ -3,7 +3,7 @@ use mathlib.Core.Path.{sym, ap, ap₂, _∙_}
 use Prim.Native.Nat.{ℕ}
 use lib.Bits.{bitAnd}
 use Rattle.movegen.proofs.LastPly.{counts-captures, counts-quiets}
-use Rattle.movegen.specs.LastPly.{limitedCount, listedCount, countBySets, lastPlyOf}
+use Rattle.movegen.specs.LastPly.{limitedCount, countBySets, lastPlyOf}
 use borrow.Author.Needs.{needs}
 use Rattle.movegen.proofs.perft.last_ply.Statement.{statement}
 use Rattle.movegen.proofs.perft.last_ply.Tie as tie
@@ -17,11 +17,8 @@ difference-requires c κs = search needs
 has-capture-requires : tie.Need-has-capture-requires
 has-capture-requires c κs = search needs
 
-capture-moves-requires : tie.Need-capture-moves-requires
-capture-moves-requires c κs = search needs
-
-listed-requires : tie.Need-listed-requires
-listed-requires c κs = search needs
+captures-count-requires : tie.Need-captures-count-requires
+captures-count-requires c κs = search needs
 
 quiet-count-requires : tie.Need-quiet-count-requires
 quiet-count-requires c κs = search needs
@@ -32,10 +29,10 @@ limited-requires c κs = search needs
 returns : tie.Need-returns
 unfolding lastPlyOf
 returns c =
-    let v = c .before .before .before .before .before .before .before .before .args .v in
-    c .listed .ensures ∙ ap listedCount (c .before .capture-moves .ensures)
-    ∙ counts-captures _ _ _ _ (v .side) (sym (c .before .before .before .has-capture .ensures) ∙ c .before .before .if1 .taken)
-    ∙ ap₂ (λ (men empty : ℕ). countBySets men (bitAnd (v .us) (v .kings)) (v .them) empty (v .side)) (c .before .before .before .before .before .difference .ensures) (c .before .before .before .before .before .before .not .ensures)
+    let v = c .before .before .before .before .before .before .before .args .v in
+    c .captures-count .ensures
+    ∙ counts-captures _ _ _ _ (v .side) (sym (c .before .before .has-capture .ensures) ∙ c .before .if1 .taken)
+    ∙ ap₂ (λ (men empty : ℕ). countBySets men (bitAnd (v .us) (v .kings)) (v .them) empty (v .side)) (c .before .before .before .before .difference .ensures) (c .before .before .before .before .before .not .ensures)
 
 returns-2 : tie.Need-returns-2
 unfolding lastPlyOf
@@ -52,8 +49,7 @@ last-ply-spec =
     not-requires
     difference-requires
     has-capture-requires
-    capture-moves-requires
-    listed-requires
+    captures-count-requires
     quiet-count-requires
     limited-requires
     returns

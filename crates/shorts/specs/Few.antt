@@ -1,0 +1,30 @@
+-- The captures of all pieces in one short list: men by bit, then kings by bit. It is right where there was room.
+use Prim.Native.Nat.{ℕ, _^_}
+use mathlib.Core.Bool.{true}
+use mathlib.Core.List.{foldl}
+use lib.Bits.{bitOr}
+use Rattle.squares.specs.Sets.{members}
+use Rattle.captures.specs.Men.{manEndings}
+use Rattle.captures.specs.Kings.{skipOf, kingEndings}
+use Rattle.shorts.specs.declared.short.Short.{Short}
+use Rattle.shorts.specs.Noted.{shortOf, noteShort}
+
+-- the list set onto the piece on `at`
+abbrev pub movingFrom : Short → ℕ → Short
+movingFrom t at = record { moves = t .moves; len = t .len; from = at; best = t .best; overflow = t .overflow }
+
+-- with the captures of the man at bit i, of the king at bit i
+unfoldable pub manShort : ℕ → ℕ → Short → ℕ → Short
+manShort them empty t i = foldl noteShort (movingFrom t (2 ^ i)) (manEndings them (bitOr empty (2 ^ i)) 65 (2 ^ i) 0)
+
+unfoldable pub kingShort : ℕ → ℕ → Short → ℕ → Short
+kingShort them empty t i = foldl noteShort (movingFrom t (2 ^ i)) (kingEndings them (bitOr empty (2 ^ i)) 65 (2 ^ i) 0 (skipOf true 4))
+
+unfoldable pub fewMenOf : Short → ℕ → ℕ → ℕ → Short
+fewMenOf t men them empty = foldl (manShort them empty) t (members men)
+
+unfoldable pub fewKingsOf : Short → ℕ → ℕ → ℕ → Short
+fewKingsOf t kings them empty = foldl (kingShort them empty) t (members kings)
+
+unfoldable pub fewCapturesOf : ℕ → ℕ → ℕ → ℕ → Short
+fewCapturesOf men kings them empty = fewKingsOf (fewMenOf (shortOf 0 0) men them empty) kings them empty
