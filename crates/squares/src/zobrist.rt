@@ -326,10 +326,13 @@ pub(crate) fn index(color: Color, kind: PieceKind) -> usize
 }
 
 // The exclusive or of the keys of such pieces on the squares of the set. The only reader of PIECE_KEYS: a lookup
-// rebuilds the table on the stack, so it is copied once before the loop.
+// rebuilds the table on the stack, so it is copied once before the loop, and not at all for an empty set.
 pub fn set_key(color: Color, kind: PieceKind, set: Bitboard) -> u64
     ensures { λ r. ⌜ r ≡ setKeyOf color kind set ⌝ }
 {
+    if set & ALL == 0 {
+        return 0;
+    }
     let keys = PIECE_KEYS;
     let from = 64 * index(color, kind);
     let mut left = set & ALL;

@@ -1,4 +1,5 @@
 -- Each turn takes the lowest square's key; what is left is the exclusive or over the rest. The table is tested once against its rule.
+-- A set without squares has the key 0.
 use mathlib.Core.Path.{_≡_, refl, sym, ap, ap₂, _∙_}
 use Prim.Native.Nat.{ℕ, _+_, _-_, _*_, _^_, _<_}
 use native.Mathlib.Nat.{lt-of-le-of-lt}
@@ -59,20 +60,29 @@ block-lt Black Man = omega arith
 block-lt White King = omega arith
 block-lt Black King = omega arith
 
+-- nothing on the board
+empty-key : (c : Color) (k : PieceKind) (s : ℕ) → bitAnd s 0x003F_F7FE_FFDF_FBFF ≡ 0 → 0 ≡ setKeyOf c k s
+empty-key c k s z =
+    sym (xor-none (λ i. getD keys (64 * block c k + i) 0))
+    ∙ ap (xorOver (λ i. getD keys (64 * block c k + i) 0)) (sym z ∙ ap (bitAnd s) (sym all-is)) ∙ table-key c k s
+
 abbrev Inv-loop : tie.InvT-loop
 Inv-loop set keys from left₀ key₀ left key = Left keys from left key (keyed keys from left₀) × (left < 2 ^ 54)
 
 abbrev μ-loop : tie.MeasureT-loop
 μ-loop set keys from left₀ key₀ left key = left
 
+returns : tie.Need-returns Inv-loop μ-loop
+returns c = empty-key _ _ _ (c .if1 .taken)
+
 index-requires : tie.Need-index-requires Inv-loop μ-loop
 index-requires c κs = search needs
 
 mul-from : tie.Need-mul-from Inv-loop μ-loop
-mul-from c = record { fits = omega (arith, c .index .ensures, block-lt (c .before .args .color) (c .before .args .kind)) }
+mul-from c = record { fits = omega (arith, c .index .ensures, block-lt (c .before .before .args .color) (c .before .before .args .kind)) }
 
 loop-holds : tie.Need-loop-holds Inv-loop μ-loop
-loop-holds c = (record { sum = xor-zero-l _ }, lt-of-le-of-lt (and-le-r (c .before .args .set) 0x003F_F7FE_FFDF_FBFF) (omega arith))
+loop-holds c = (record { sum = xor-zero-l _ }, lt-of-le-of-lt (and-le-r (c .before .before .args .set) 0x003F_F7FE_FFDF_FBFF) (omega arith))
 
 -- the entry that is read stands in the table
 in-table : (c : Color) (k : PieceKind) (from left : ℕ) → from ≡ block c k → (left ≡ 0 → ⊥) → left < 2 ^ 54 → (lowest left < 64) × (64 * from + lowest left < 256)
@@ -82,7 +92,7 @@ in-table c k from left e p h =
 module _ (c : lts.In-loop (index-reads.Asked, index-reads.Learnt) reads.Pre reads.Post Inv-loop μ-loop) where
   entry : (lowest (c .before .loop .left) < 64) × (64 * c .before .before .index .result + lowest (c .before .loop .left) < 256)
   entry =
-      in-table (c .before .before .before .args .color) (c .before .before .before .args .kind) (c .before .before .index .result) (c .before .loop .left)
+      in-table (c .before .before .before .before .args .color) (c .before .before .before .before .args .kind) (c .before .before .index .result) (c .before .loop .left)
       (c .before .before .index .ensures) (c .loop-test .taken) (c .before .loop .inv .1)
 
 cast-bit : tie.Need-cast-bit Inv-loop μ-loop
@@ -107,9 +117,9 @@ loop-again : tie.Need-loop-again Inv-loop μ-loop
 loop-again c =
     (turn (c .before .loop .inv .0) (omega arith) (c .before .loop .inv .1), omega (arith, and-le-l (c .before .loop .left) (c .before .loop .left - 1)))
 
-returns : tie.Need-returns Inv-loop μ-loop
+returns-2 : tie.Need-returns-2 Inv-loop μ-loop
 unfolding keys outputs output advance scramble
-returns c = ended _ _ _ _ _ _ _ (c .before .before .index .ensures) (omega arith) (c .before .loop .inv .0) refl
+returns-2 c = ended _ _ _ _ _ _ _ (c .before .before .index .ensures) (omega arith) (c .before .loop .inv .0) refl
 
 pub set-key-spec : {M : Type 1} → statement M
 set-key-spec =
@@ -117,6 +127,7 @@ set-key-spec =
     (tie.spec
     Inv-loop
     μ-loop
+    returns
     index-requires
     mul-from
     loop-holds
@@ -127,4 +138,4 @@ set-key-spec =
     sub-left
     loop-less
     loop-again
-    returns)
+    returns-2)
