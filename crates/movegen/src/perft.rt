@@ -86,10 +86,10 @@ fn captures_count(men: Bitboard, kings: Bitboard, them: Bitboard, empty: Bitboar
     ensures { λ r. ⌜ r ≡ listedCount (captureMovesOf men kings them empty) ⌝ }
 {
     let few = shorts::few::few_captures(men, kings, them, empty);
-    if few.overflow {
-        return listed(movegen::long_captures(men, kings, them, empty));
+    if !few.overflow {
+        return Counted::Count(few.len as u64);
     }
-    Counted::Count(few.len as u64)
+    listed(movegen::long_captures(men, kings, them, empty))
 }
 
 // The number of moves of the side. At the last ply of a count nothing else is asked, and no long list is made.

@@ -151,6 +151,9 @@ king-sum empty at i a b c d e ea eb ec ed =
 pub at-most : (n s : ℕ) → n ≡ size s → n ≤ 64
 at-most n s e = omega (arith, size-most s)
 
+pub kings-at-most : (kings empty n : ℕ) → n ≡ length (kingQuiets kings empty) → n ≤ 16384
+kings-at-most kings empty n e = omega (arith, kings-most kings empty)
+
 pub all-sum : (men kings empty : ℕ) (side : Color) (f x y a b k : ℕ) → f ≡ forwardOf side → x ≡ shifted (directionAt f) men → y ≡ shifted (directionAt (f + 1)) men
     → a ≡ size (bitAnd x empty) → b ≡ size (bitAnd y empty) → k ≡ length (kingQuiets kings empty) → a + b + k ≡ length (allQuiets men kings empty side)
 all-sum men kings empty side f x y a b k ef ex ey ea eb ek =

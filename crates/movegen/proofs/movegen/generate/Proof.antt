@@ -54,7 +54,7 @@ returns c =
     let d = h .before .before in
     let n = d .before in
     captures-are (n .before .before .args .v) _ _ _
-    (c .spread .ensures ∙ spread-is _ _ _ _ _ (f .few-captures .ensures) (not-true _ (c .before .if3 .taken)))
+    (c .spread .ensures ∙ spread-is _ _ _ _ _ (f .few-captures .ensures) (not-true (f .few-captures .result .overflow) (c .before .if3 .taken)))
     (sym (h .has-capture .ensures) ∙ i .if1 .taken) (d .difference .ensures) (n .not .ensures)
 
 long-captures-requires : tie.Need-long-captures-requires

@@ -1,7 +1,7 @@
 -- A list of steps is as long as the set of squares reached.
 use native.Mathlib.Omega.{arith}
 use Rattle.quiets.proofs.Forward.{forward-le}
-use Rattle.quiets.proofs.Counts.{at-most, kings-most, all-sum}
+use Rattle.quiets.proofs.Counts.{at-most, kings-at-most, all-sum}
 use borrow.Author.Needs.{needs}
 use Rattle.quiets.proofs.quiets.quiet_count.Statement.{statement}
 use Rattle.quiets.proofs.quiets.quiet_count.Tie as tie
@@ -32,8 +32,7 @@ kings-count-requires c κs = search needs
 
 add-result : tie.Need-add-result
 add-result c =
-    let a = c .before .before .before .before .before .before .args in
-    omega (arith, at-most _ _ (c .before .before .before .count .ensures), at-most _ _ (c .before .count2 .ensures), c .kings-count .ensures, kings-most (a .kings) (a .empty))
+    omega (arith, at-most _ _ (c .before .before .before .count .ensures), at-most _ _ (c .before .count2 .ensures), kings-at-most _ _ _ (c .kings-count .ensures))
 
 returns : tie.Need-returns
 returns c =
