@@ -13,8 +13,8 @@ use squares::piece::Color;
 use squares::refusal::Answer;
 use squares::refusal::Refusal;
 ghost use mathlib.Core.Path.{_≡_};
-ghost use Prim.Native.Nat.{_≤_};
 ghost use mathlib.Core.Bool.{false};
+ghost use Prim.Native.Nat.{_≤_};
 ghost use Rattle.captures.specs.Lists.{listOf};
 ghost use Rattle.quiets.specs.Quiets.{listing};
 ghost use Rattle.shorts.specs.Noted.{few};
@@ -73,7 +73,7 @@ pub(crate) fn long_captures(
     shorts::pieces::kings_captures(steps, kings, empty)
 }
 
-// The moves of a short list that had room for all.
+// The list of the moves of a short one that had room for all.
 fn spread(found: Short) -> Listing
     requires { ⌜ found .len ≤ 14 ⌝ }
     ensures { λ r. ⌜ r ≡ listing (listOf (few found)) false ⌝ }
@@ -100,9 +100,9 @@ fn spread(found: Short) -> Listing
     }
 }
 
-// All moves of the side. A jump is looked for by sets before a list is made; where one is open only captures are listed:
-// by a short list, or, where that has no room for them, by the long one. Many kings often have more captures than a
-// short list holds, so for them the long list is used at once.
+// All moves of the side. A jump is looked for by sets before a list is made; where one is open only captures are listed.
+// A short list is tried first, and the long one where it has no room. Many kings often have more captures than a short
+// list holds: for them the long one is used at once.
 pub(crate) fn generate(v: View) -> Listing
     ensures { λ r. ⌜ r ≡ generateOf v ⌝ }
 {

@@ -92,7 +92,8 @@ fn captures_count(men: Bitboard, kings: Bitboard, them: Bitboard, empty: Bitboar
     listed(movegen::long_captures(men, kings, them, empty))
 }
 
-// The number of moves of the side. At the last ply of a count nothing else is asked, and no long list is made.
+// The number of moves of the side: at the last ply of a count nothing else is asked. No list is made where no jump is
+// open, and a long one only where a short one has no room.
 fn last_ply(v: View) -> Counted
     ensures { λ r. ⌜ r ≡ lastPlyOf v ⌝ }
 {

@@ -1,4 +1,5 @@
--- What stands on the square has its letter; where there is no such square, no set has it.
+-- The three tests of a square decide its letter. On a number that is no square all three fail, and the letter is that of an
+-- empty square.
 use mathlib.Core.Path.{_≡_, refl, ap, ap₂, _∙_}
 use mathlib.Core.Bool.{Bool, true, false, cond, _&&_}
 use Prim.Native.Nat.{ℕ}
