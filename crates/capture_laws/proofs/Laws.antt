@@ -13,7 +13,7 @@ use Rattle.captures.specs.Kings.{kingsCapturesOf}
 use Rattle.captures.specs.Lists.{listOf}
 use Rattle.captures.specs.Men.{menCapturesOf}
 use Rattle.captures.specs.Record.{listIn, startOf}
-use Rattle.captures.specs.Limit.{Found, found, noteIn}
+use Rattle.captures.proofs.Limit.{Found, found, noteIn}
 use Rattle.rules.specs.Lists.{keep, distinct, best, longest}
 use Rattle.rules.specs.Ordered.{count, captures, sameBits, legal}
 use Rattle.rules.specs.Rules.{BitMove, numbered, Open, NoJump, Fair}

@@ -19,7 +19,7 @@ use Rattle.captures.specs.declared.movegen.Captures.{Captures}
 use Rattle.captures.specs.Kings.{skipOf, kingEndings, kingCaptures, kingsCapturesOf}
 use Rattle.captures.specs.Men.{onto, manEndings, manCaptures, menCapturesOf}
 use Rattle.captures.specs.Record.{Ending, startOf, noteOf}
-use Rattle.captures.specs.Limit.{Found, found, noteIn}
+use Rattle.captures.proofs.Limit.{Found, found, noteIn}
 use Rattle.rules.specs.Lists.{concatMap, best, longest}
 use Rattle.rules.specs.Ordered.{enough, sequences, count, captures, sameBits}
 use Rattle.rules.specs.Rules.{BitMove, numbered, space, Fair}

@@ -9,10 +9,10 @@ use Rattle.squares.specs.Directions.{directionAt}
 use Rattle.captures.specs.declared.movegen.Captures.{Captures}
 use Rattle.captures.specs.Rays.{far, landings}
 use Rattle.captures.specs.Walks.{upTo}
-use Rattle.captures.specs.Record.{Ending, Kept, noteOf}
+use Rattle.captures.specs.Record.{Ending, noteOf}
 use Rattle.captures.specs.Men.{Man}
 use Rattle.captures.specs.Kings.{King}
-use Rattle.captures.proofs.Recorded.{kept-trans, kept-sym, fold-kept}
+use Rattle.captures.proofs.Recorded.{Kept, kept-trans, kept-sym, fold-kept}
 use Rattle.captures.proofs.Men as men
 use Rattle.captures.proofs.Kings as kings
 

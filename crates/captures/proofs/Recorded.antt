@@ -11,7 +11,7 @@ use Rattle.positions.specs.declared.moves.Move.{Move}
 use Rattle.captures.specs.declared.moves.MoveList.{MoveList}
 use Rattle.captures.specs.declared.movegen.Captures.{Captures}
 use Rattle.captures.specs.Lists.{noMoves, entries, listed, pushOf}
-use Rattle.captures.specs.Record.{Ending, listIn, holding, moveOf, moreBy, anewOf, moreOf, addOf, recordOf, noteOf, Kept}
+use Rattle.captures.specs.Record.{Ending, listIn, holding, moveOf, moreBy, anewOf, moreOf, addOf, recordOf, noteOf}
 
 -- the three cases that are not "too few"
 module _ (s : Captures) (x : Move) (n : ℕ) (e : n ≡ size (x .captured)) (t : (eqb n 0 || ltb n (s .best)) ≡ false) where
@@ -48,6 +48,12 @@ unfolding addOf recordOf
 record-is s to c = refl
 
 -- ---- the board of the search
+-- the board of a search is not changed by it
+pub record Kept (a b : Captures) : Type 0 where
+  pub them : b .them ≡ a .them
+  pub empty : b .empty ≡ a .empty
+  pub from : b .from ≡ a .from
+
 pub kept-refl : (a : Captures) → Kept a a
 kept-refl a = record { them = refl; empty = refl; from = refl }
 

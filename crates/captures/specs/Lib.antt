@@ -2,7 +2,6 @@ pub mod Lists
 pub mod Rays
 pub mod Open
 pub mod Record
-pub mod Limit
 pub mod Walks
 pub mod Men
 pub mod Kings

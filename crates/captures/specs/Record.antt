@@ -1,5 +1,4 @@
 -- A finished sequence is kept by the rule of the largest number, and once (document 01, "movegen.rs").
-use mathlib.Core.Path.{_≡_}
 use Prim.Native.Nat.{ℕ}
 use mathlib.Core.Bool.{Bool, false, cond, _||_}
 use lib.Dec.{eqb, ltb, leb}
@@ -65,9 +64,3 @@ recordOf s to c = added s (moveOf s to c)
 
 abbrev pub noteOf : Captures → Ending → Captures
 noteOf s e = recordOf s (e .to) (e .taken)
-
--- the board that a search stands on is not changed by it
-pub record Kept (a b : Captures) : Type 0 where
-  pub them : b .them ≡ a .them
-  pub empty : b .empty ≡ a .empty
-  pub from : b .from ≡ a .from

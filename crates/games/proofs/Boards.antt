@@ -5,7 +5,7 @@ use native.Mathlib.Omega.{arith}
 use mathlib.Core.Bool.{Bool, true, false, cond}
 use mathlib.Core.List.{List, [], _∷_, _++_, map}
 use Rattle.positions.specs.Boards.{Board, boardOf, sameBoard}
-use Rattle.positions.specs.Measure.{Smaller}
+use Rattle.positions.proofs.Measure.{Smaller}
 use Rattle.positions.specs.declared.position.Position.{Position}
 use Rattle.positions.proofs.Measures.{not-smaller}
 use Rattle.positions.proofs.Records.{same-board}

@@ -8,10 +8,10 @@ use mathlib.Core.List.{List, [], _∷_}
 use lib.Dec.{eqb, ltb}
 use lib.ListN.{length}
 use borrow.Author.Tests.{eq-eqb, ne-eqb}
-use Rattle.squares.specs.Refusals.{answerNumberOf, numberOf}
+use Rattle.squares.specs.Refusals.{answerNumberOf, numberOf, refusal}
 use Rattle.squares.specs.Sets.{size}
 use Rattle.squares.specs.declared.refusal.Refusal.{Refusal}
-use Rattle.squares.specs.declared.refusal.Refusal.the-variants.{NoSuchSquare, BadPosition, BadGame, GameOver, NoMoveFits, TooManyMoves}
+use Rattle.squares.specs.declared.refusal.Refusal.the-variants.{NoSuchSquare, BadGame, GameOver, NoMoveFits, TooManyMoves}
 use Rattle.squares.specs.declared.refusal.Answer.the-variants as answer
 use Rattle.positions.specs.Acceptance.{sound}
 use Rattle.positions.specs.Boards.{Board, boardOf, menOf, kingsOf}
@@ -31,8 +31,8 @@ use Rattle.movegen.specs.Lists.{afterOf}
 use Rattle.movegen.proofs.Answers.{after-many, after-none, after-one}
 use Rattle.games.specs.Book.{Book, tallyOf, standing, begunBook, Verdict, goesOn, ends, bookOutcome, over, onTheBoard, bookAnswer, reached, bookPlayed, bookNext, bookAnswers, bookAfter}
 use Rattle.games.specs.Demand3.{answersTo, gameAfter, heardOf, heard, toldAs, bookOf, AtAccepted, TakesMost, NoneOpen, Demand3}
-use Rattle.games.specs.Games.{blankPosition, lastOf, valid, stood, judgedOf, ended}
-use Rattle.games.specs.Play.{freshOf, newOf, movedOf, refusedPlay, reachedOf, playOf, outcomeOf}
+use Rattle.games.specs.Games.{lastOf, valid, stood, judgedOf, ended}
+use Rattle.games.specs.Play.{freshOf, notBegun, newOf, movedOf, refusedPlay, reachedOf, playOf, outcomeOf}
 use Rattle.games.specs.declared.game.Game.{Game}
 use Rattle.games.specs.declared.game.Judged.the-variants as judged
 use Rattle.games.specs.declared.game.Played.{Played}
@@ -170,9 +170,9 @@ runs start g b r (m ∷ ms) =
     }
 
 -- ---- the law
-new-is : (p : Position) → sound p ≡ true → newOf p ≡ record { answer = answer.Done; game = freshOf p }
+pub new-is : (p : Position) → sound p ≡ true → newOf p ≡ record { answer = answer.Done; game = freshOf p }
 unfolding newOf
-new-is p s = ap (λ (t : Bool). cond t (record { answer = answer.Done; game = freshOf p }) (record { answer = answer.Refused BadPosition; game = freshOf blankPosition })) s
+new-is p s = ap (λ (t : Bool). cond t (record { answer = answer.Done; game = freshOf p }) (notBegun (refusal 12))) s
 
 outcome-is : (g : Game) → valid g ≡ true → outcomeOf g ≡ judgedOf g
 unfolding outcomeOf

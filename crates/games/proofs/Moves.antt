@@ -14,22 +14,22 @@ use Rattle.squares.proofs.Pointwise.{has-without}
 use Rattle.squares.proofs.Sizes.{size-zero, size-some}
 use Rattle.positions.specs.Acceptance.{Accepted}
 use Rattle.positions.specs.Boards.{Board, own, menOf, kingsOf, sameColor}
-use Rattle.positions.specs.Measure.{Ply, capture, man, king, Smaller, fewer, nearer, Level}
+use Rattle.positions.proofs.Measure.{Ply, capture, man, king, Smaller, fewer, nearer, Level}
 use Rattle.positions.specs.Moves.{isCapture}
-use Rattle.positions.specs.Standing.{promoted, menTaken, kingsTaken}
 use Rattle.positions.specs.Successor.{promotes, Playable}
 use Rattle.positions.specs.declared.moves.Move.{Move}
+use Rattle.positions.proofs.Accepts.{colored-fits, kings-fit}
 use Rattle.positions.proofs.Measures.{capture-falls, man-falls, king-stays}
 use Rattle.positions.proofs.Plays.{contains-is, promotes-is}
 use Rattle.positions.proofs.Records.{capture-is}
 use Rattle.positions.proofs.Standings as standings
+use Rattle.positions.proofs.Standings.{promoted, menTaken, kingsTaken}
 use Rattle.rules.specs.Rules.{Legal}
 use Rattle.rules.proofs.Laws.{fair-of-accepted, legal-playable}
 use Rattle.movegen.proofs.Plies.{ply-of}
-use Rattle.movegen.proofs.Taken.{promoted-is, men-taken, kings-taken}
+use Rattle.movegen.proofs.Taken.{men-taken, kings-taken}
 use Rattle.games.specs.Book.{Tally, Book, standing, takes, manMove, isPromotion, tallied, reached}
 use Rattle.games.specs.Games.{manMoves, irreversible}
-use Rattle.games.proofs.Tests.{fits}
 
 module _ (p : Board) (m : Move) (a : Accepted p) (y : Playable p m) where
   -- ---- the kind of the move
@@ -40,7 +40,7 @@ module _ (p : Board) (m : Move) (a : Accepted p) (y : Playable p m) where
   man-book : manMove p m ≡ not (has (p .kings) (bitOf (m .from)))
   unfolding manMove
   man-book =
-      has-without (own p) (p .kings) (fits p a (p .side)) (omega (arith, a .kingsFits)) (bitOf (m .from)) (omega (arith, bit-lt (m .from) (y .fromSquare)))
+      has-without (own p) (p .kings) (colored-fits p a (p .side)) (kings-fit p a) (bitOf (m .from)) (omega (arith, bit-lt (m .from) (y .fromSquare)))
       ∙ ap (λ (x : Bool). x && not (has (p .kings) (bitOf (m .from)))) (y .mover)
 
   pub man-agrees : manMoves p m ≡ manMove p m
@@ -60,7 +60,7 @@ module _ (p : Board) (m : Move) (a : Accepted p) (y : Playable p m) where
 
   -- ---- its promotion, as it is counted
   promotion-counts : (c : Color) → cond (sameColor c (p .side) && isPromotion p m) 1 0 ≡ promoted c p m
-  promotion-counts c = ap (λ (x : Bool). cond (sameColor c (p .side) && x) 1 0) (sym promotion-agrees) ∙ sym (promoted-is c p m)
+  promotion-counts c = ap (λ (x : Bool). cond (sameColor c (p .side) && x) 1 0) (sym promotion-agrees)
 
 -- ---- the pieces standing: what stood before the move, from what stands after it and the tallies
 module _ (b : Book) (m : Move) (a : Accepted (standing b)) (y : Playable (standing b) m) where

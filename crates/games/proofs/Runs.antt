@@ -8,12 +8,8 @@ use mathlib.Core.List.{List, [], _∷_, _++_}
 use lib.Dec.{leb}
 use lib.ListN.{length, take, drop, getD, set}
 use lib.Seq.{append-snoc, take-suc, drop-cons, set-at}
-use Rattle.squares.specs.Refusals.{numberOf, answerNumberOf}
+use Rattle.squares.specs.Refusals.{answerNumberOf, refusal}
 use Rattle.squares.specs.Squares.{isSquare}
-use Rattle.squares.specs.declared.refusal.Answer.{Answer}
-use Rattle.squares.specs.declared.refusal.Answer.the-variants.{Done, Refused}
-use Rattle.squares.specs.declared.refusal.Refusal.{Refusal}
-use Rattle.squares.specs.declared.refusal.Refusal.the-variants.{TextTooLong, NoSide, NoColor, BadSquare, BadHubByte, NotFifty, Overlap, ManOnPromotionRow, BadMoveText, BeyondLimit, NoSuchSquare, BadPosition, BadGame, GameOver, NoMoveFits, SeveralFit, TooManyMoves, FenTooLong, SpaceTooShort}
 use Rattle.squares.proofs.Numbers.{high-square}
 use Rattle.positions.specs.Moves.{move, squaresOf}
 use Rattle.positions.specs.declared.moves.Move.{Move}
@@ -91,7 +87,7 @@ in-high : (n : ℕ) → leb n 50 ≡ false → isSquare (squareIn n) ≡ false
 unfolding squareIn
 in-high n e = rw e (high-square 51 refl)
 
-off-play : (g : Game) (m : Move) → squaresOf m ≡ false → playOf g m ≡ cond (valid g) (refusedPlay g NoSuchSquare) (refusedPlay g BadGame)
+off-play : (g : Game) (m : Move) → squaresOf m ≡ false → playOf g m ≡ cond (valid g) (refusedPlay g (refusal 11)) (refusedPlay g (refusal 13))
 unfolding playOf
 off-play g m e = rw e
 
@@ -107,30 +103,3 @@ played-in g a b c = go (leb a 50) (leb b 50) refl refl
     go true true e f = ap₂ (λ (x y : ℕ). playOf g (move x y c)) (in-low a e) (in-low b f)
     go false t e f = off (off-from (squareIn a) (squareIn b) c (in-high a e)) (off-from a b c (high-square a e))
     go true false e f = off (off-to (squareIn a) (squareIn b) c (in-high b f)) (off-to a b c (high-square b f))
-
--- ---- an answer's number fits a byte
-
-refusal-fits : (e : Refusal) → numberOf e < 256
-refusal-fits TextTooLong = omega arith
-refusal-fits NoSide = omega arith
-refusal-fits NoColor = omega arith
-refusal-fits BadSquare = omega arith
-refusal-fits BadHubByte = omega arith
-refusal-fits NotFifty = omega arith
-refusal-fits (Overlap n) = omega arith
-refusal-fits (ManOnPromotionRow n) = omega arith
-refusal-fits BadMoveText = omega arith
-refusal-fits BeyondLimit = omega arith
-refusal-fits NoSuchSquare = omega arith
-refusal-fits BadPosition = omega arith
-refusal-fits BadGame = omega arith
-refusal-fits GameOver = omega arith
-refusal-fits NoMoveFits = omega arith
-refusal-fits SeveralFit = omega arith
-refusal-fits TooManyMoves = omega arith
-refusal-fits FenTooLong = omega arith
-refusal-fits SpaceTooShort = omega arith
-
-pub number-fits : (a : Answer) → answerNumberOf a < 256
-number-fits Done = omega arith
-number-fits (Refused e) = refusal-fits e

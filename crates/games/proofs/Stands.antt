@@ -15,7 +15,7 @@ use Rattle.squares.specs.declared.piece.Color.{Color}
 use Rattle.squares.specs.declared.piece.Color.the-variants.{White, Black}
 use Rattle.positions.specs.Acceptance.{Accepted, sound, Sound}
 use Rattle.positions.specs.Boards.{Board, boardOf, menOf, kingsOf}
-use Rattle.positions.specs.Measure.{Smaller, Level}
+use Rattle.positions.proofs.Measure.{Smaller, Level}
 use Rattle.positions.specs.Successor.{Playable}
 use Rattle.positions.specs.declared.moves.Move.{Move}
 use Rattle.positions.specs.declared.position.Position.{Position}

@@ -3,7 +3,7 @@ use mathlib.Core.Path.{_≡_, refl, sym, ap, ap₂, _∙_}
 use Prim.Native.Nat.{ℕ, zero, suc, _+_, _-_, _^_, _<_, _≤_, min}
 use native.Mathlib.Nat.{min-eq-left, min-eq-right}
 use native.Mathlib.Omega.{arith}
-use mathlib.Core.Bool.{Bool, true, false, not, cond, _&&_, _||_}
+use mathlib.Core.Bool.{Bool, true, false, not, cond, _&&_, _||_, and-assoc}
 use mathlib.Core.List.{[], _∷_}
 use lib.Bits.{bitAnd, and-le-l}
 use lib.Dec.{eqb, leb, ltb}
@@ -22,13 +22,14 @@ use Rattle.positions.specs.Acceptance.{Accepted}
 use Rattle.positions.specs.Boards.{Board, colored, menOf, kingsOf}
 use Rattle.positions.specs.Moves.{squaresOf}
 use Rattle.positions.specs.declared.moves.Move.{Move}
+use Rattle.positions.proofs.Accepts.{colored-fits, kings-fit}
 use Rattle.positions.proofs.Records.{on-board-is}
 use Rattle.rules.specs.Ordered.{legal}
 use Rattle.movegen.proofs.Plies.{none-open}
 use Rattle.games.specs.Book as book
 use Rattle.games.specs.Book.{against, threePieces, twoPieces, firstToHold, testsAt, numbersSquare, onTheBoard}
 use Rattle.games.specs.Demand3.{toldAs}
-use Rattle.games.specs.Games.{canMove, loneKing, facesThree, facesTwo, won, drawn, kingEnding, judge}
+use Rattle.games.specs.Games.{canMove, loneKing, faces, won, drawn, kingEnding, judge}
 use Rattle.games.specs.declared.game.Judged.the-variants.{Going}
 use Rattle.games.specs.declared.game.Termination.the-variants.{Repetition, TwentyFiveMoves, SixteenMoves, FiveMoves}
 
@@ -54,11 +55,7 @@ squares-agree m =
     on-board-is m
     ∙ ap₂ (λ (x y : Bool). x && (y && eqb (without (m .captured) all) 0)) (square-agrees (m .from)) (square-agrees (m .to))
     ∙ ap (λ (z : Bool). numbersSquare (m .from) && (numbersSquare (m .to) && z)) (within-agrees (m .captured) all)
-    ∙ assoc (numbersSquare (m .from)) (numbersSquare (m .to)) (eqb (bitAnd (m .captured) all) (m .captured))
-  where
-    assoc : (x y z : Bool) → (x && (y && z)) ≡ ((x && y) && z)
-    assoc true y z = refl
-    assoc false y z = refl
+    ∙ sym (and-assoc (numbersSquare (m .from)) (numbersSquare (m .to)) (eqb (bitAnd (m .captured) all) (m .captured)))
 
 -- ---- whether a move is legal
 none-agrees : (p : Board) → eqb (length (legal p)) 0 ≡ not (canMove p)
@@ -104,43 +101,44 @@ module _ (s k : ℕ) (sFits : s < 2 ^ 64) (kFits : k < 2 ^ 64) where
           pos zero q = absurd (eqb-false (bitAnd s k) 0 e (size-none (bitAnd s k) (and-lt s k sFits) q))
           pos (suc n) q = omega arith
 
--- sets of an accepted board fit
-pub fits : (p : Board) → Accepted p → (c : Color) → colored c p < 2 ^ 64
-fits p a White = omega (arith, a .whiteFits)
-fits p a Black = omega (arith, a .blackFits)
+-- from a number to that number
+from-to : (k n : ℕ) → (leb k n && leb n k) ≡ eqb n k
+from-to k n =
+    bool-ext (leb k n && leb n k) (eqb n k)
+    (λ e. eq-eqb n k (let a = leb-true k n (and-left _ _ e) in let b = leb-true n k (and-right (leb k n) _ e) in omega arith))
+    (λ e. let q = eqb-true n k e in and-both _ _ (le-leb k n (omega arith)) (le-leb n k (omega arith)))
 
 module _ (p : Board) (a : Accepted p) where
-  kings-fit : p .kings < 2 ^ 64
-  kings-fit = omega (arith, a .kingsFits)
-
   lone-agrees : (c : Color) → loneKing c p ≡ book.loneKing c p
   unfolding loneKing book.loneKing
   lone-agrees c =
-      ap₂ (λ (x y : Bool). x && y) (one-king (colored c p) (p .kings) (fits p a c) kings-fit)
-      (some-king (colored (other c) p) (p .kings) (fits p a (other c)) kings-fit)
-      ∙ assoc (eqb (size (menOf c p)) 0) (eqb (size (kingsOf c p)) 1) (leb 1 (size (kingsOf (other c) p)))
-    where
-      assoc : (x y z : Bool) → ((x && y) && z) ≡ (x && (y && z))
-      assoc true y z = refl
-      assoc false y z = refl
+      ap₂ (λ (x y : Bool). x && y) (one-king (colored c p) (p .kings) (colored-fits p a c) (kings-fit p a))
+      (some-king (colored (other c) p) (p .kings) (colored-fits p a (other c)) (kings-fit p a))
+      ∙ and-assoc (eqb (size (menOf c p)) 0) (eqb (size (kingsOf c p)) 1) (leb 1 (size (kingsOf (other c) p)))
 
   against-is : (c : Color) → size (colored (other c) p) ≡ against c p
   unfolding against
-  against-is c = sym (parts-size (colored (other c) p) (p .kings) (fits p a (other c)) kings-fit)
+  against-is c = sym (parts-size (colored (other c) p) (p .kings) (colored-fits p a (other c)) (kings-fit p a))
 
-  three-agrees : (facesThree White p || facesThree Black p) ≡ threePieces p
-  unfolding facesThree threePieces
+  three-agrees : (faces White 3 3 p || faces Black 3 3 p) ≡ threePieces p
+  unfolding faces threePieces
   three-agrees = ap₂ (λ (x y : Bool). x || y) (at White) (at Black)
     where
-      at : (c : Color) → (loneKing c p && eqb (size (colored (other c) p)) 3) ≡ (book.loneKing c p && eqb (against c p) 3)
-      at c = ap₂ (λ (x : Bool) (n : ℕ). x && eqb n 3) (lone-agrees c) (against-is c)
+      at : (c : Color)
+          → (loneKing c p && (leb 3 (size (colored (other c) p)) && leb (size (colored (other c) p)) 3)) ≡ (book.loneKing c p && eqb (against c p) 3)
+      at c =
+          ap (λ (x : Bool). loneKing c p && x) (from-to 3 (size (colored (other c) p)))
+          ∙ ap₂ (λ (x : Bool) (n : ℕ). x && eqb n 3) (lone-agrees c) (against-is c)
 
-  two-agrees : (facesTwo White p || facesTwo Black p) ≡ twoPieces p
-  unfolding facesTwo twoPieces
+  two-agrees : (faces White 0 2 p || faces Black 0 2 p) ≡ twoPieces p
+  unfolding faces twoPieces
   two-agrees = ap₂ (λ (x y : Bool). x || y) (at White) (at Black)
     where
-      at : (c : Color) → (loneKing c p && leb (size (colored (other c) p)) 2) ≡ (book.loneKing c p && leb (against c p) 2)
-      at c = ap₂ (λ (x : Bool) (n : ℕ). x && leb n 2) (lone-agrees c) (against-is c)
+      at : (c : Color)
+          → (loneKing c p && (leb 0 (size (colored (other c) p)) && leb (size (colored (other c) p)) 2)) ≡ (book.loneKing c p && leb (against c p) 2)
+      at c =
+          ap (λ (x : Bool). loneKing c p && (x && leb (size (colored (other c) p)) 2)) (le-leb 0 (size (colored (other c) p)) (omega arith))
+          ∙ ap₂ (λ (x : Bool) (n : ℕ). x && leb n 2) (lone-agrees c) (against-is c)
 
 -- ---- a count that stops at 32
 pub stopped : (k n : ℕ) → k ≤ 32 → leb k (min 32 n) ≡ leb k n
@@ -170,9 +168,9 @@ pub outcome-agrees : (p : Board) → Accepted p → (times first second : ℕ)
 unfolding judge kingEnding testsAt
 outcome-agrees p a times first second =
     let x = none-agrees p in
-    let u : ((facesThree White p || facesThree Black p) && leb 32 (min 32 second)) ≡ (threePieces p && leb 32 second) =
+    let u : ((faces White 3 3 p || faces Black 3 3 p) && leb 32 (min 32 second)) ≡ (threePieces p && leb 32 second) =
     ap₂ (λ (s t : Bool). s && t) (three-agrees p a) (stopped 32 second (omega arith)) in
-    let v : ((facesTwo White p || facesTwo Black p) && leb 10 (min 32 second)) ≡ (twoPieces p && leb 10 second) =
+    let v : ((faces White 0 2 p || faces Black 0 2 p) && leb 10 (min 32 second)) ≡ (twoPieces p && leb 10 second) =
     ap₂ (λ (s t : Bool). s && t) (two-agrees p a) (stopped 10 second (omega arith)) in
     in-order (p .side) (canMove p) (leb 3 times) (leb 50 first) _ _
     ∙ ap₂ (λ (s t : Bool). toldAs (firstToHold (book.lost (p .side) (not (canMove p)) ∷ book.draw Repetition (leb 3 times) ∷ book.draw TwentyFiveMoves (leb 50 first) ∷ book.draw SixteenMoves s ∷ book.draw FiveMoves t ∷ []))) u v

@@ -91,13 +91,9 @@ canMove b = some (captures b) || some (quiets b)
 unfoldable pub loneKing : Color → Board → Bool
 loneKing c b = (eqb (size (colored c b)) 1 && eqb (colored c b) (kingsOf c b)) && not (eqb (kingsOf (other c) b) 0)
 
--- against three pieces
-unfoldable pub facesThree : Color → Board → Bool
-facesThree c b = loneKing c b && eqb (size (colored (other c) b)) 3
-
--- against at most two
-unfoldable pub facesTwo : Color → Board → Bool
-facesTwo c b = loneKing c b && leb (size (colored (other c) b)) 2
+-- a lone king of that colour against so many pieces, from the least to the most
+unfoldable pub faces : Color → ℕ → ℕ → Board → Bool
+faces c least most b = loneKing c b && (leb least (size (colored (other c) b)) && leb (size (colored (other c) b)) most)
 
 abbrev pub won : Color → Judged
 won c = judged.Outcome (record { winner = winner.Side c; termination = NoMoves })
@@ -105,11 +101,11 @@ won c = judged.Outcome (record { winner = winner.Side c; termination = NoMoves }
 abbrev pub drawn : Termination → Judged
 drawn t = judged.Outcome (record { winner = winner.Nobody; termination = t })
 
--- the last two tests, by the plies since the last capture or promotion
+-- the last two tests, by the plies since the last capture or promotion: against three pieces, against at most two
 unfoldable pub kingEnding : Board → ℕ → Judged
 kingEnding b material =
-    cond ((facesThree White b || facesThree Black b) && leb 32 material) (drawn SixteenMoves)
-    (cond ((facesTwo White b || facesTwo Black b) && leb 10 material) (drawn FiveMoves) judged.Going)
+    cond ((faces White 3 3 b || faces Black 3 3 b) && leb 32 material) (drawn SixteenMoves)
+    (cond ((faces White 0 2 b || faces Black 0 2 b) && leb 10 material) (drawn FiveMoves) judged.Going)
 
 -- the tests in order, by how often the board has stood and the two counters
 unfoldable pub judge : Board → ℕ → ℕ → ℕ → Judged

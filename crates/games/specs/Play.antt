@@ -8,7 +8,7 @@ use lib.Dec.{leb}
 use lib.ListN.{replicate}
 use Rattle.squares.specs.declared.piece.Color.the-variants.{White, Black}
 use Rattle.squares.specs.declared.refusal.Refusal.{Refusal}
-use Rattle.squares.specs.declared.refusal.Refusal.the-variants.{BeyondLimit, NoSuchSquare, BadPosition, BadGame, GameOver}
+use Rattle.squares.specs.Refusals.{refusal}
 use Rattle.squares.specs.declared.refusal.Answer.{Answer}
 use Rattle.squares.specs.declared.refusal.Answer.the-variants as answer
 use Rattle.positions.specs.Acceptance.{sound}
@@ -52,7 +52,7 @@ abbrev pub notBegun : Refusal → Begun
 notBegun e = record { answer = answer.Refused e; game = freshOf blankPosition }
 
 unfoldable pub newOf : Position → Begun
-newOf p = cond (sound p) (record { answer = answer.Done; game = freshOf p }) (notBegun BadPosition)
+newOf p = cond (sound p) (record { answer = answer.Done; game = freshOf p }) (notBegun (refusal 12))
 
 -- from the usual start
 unfoldable pub initialGame : Game
@@ -89,27 +89,27 @@ unfoldable pub playOf : Game → Move → Played
 playOf g m =
     cond (valid g)
     (cond (squaresOf m)
-    (cond (ended (judgedOf g)) (refusedPlay g GameOver) (reachedOf g m (afterOf (lastOf g) m)))
-    (refusedPlay g NoSuchSquare))
-    (refusedPlay g BadGame)
+    (cond (ended (judgedOf g)) (refusedPlay g (refusal 14)) (reachedOf g m (afterOf (lastOf g) m)))
+    (refusedPlay g (refusal 11)))
+    (refusedPlay g (refusal 13))
 
 -- ---- what is asked of a game
 
 unfoldable pub outcomeOf : Game → Judged
-outcomeOf g = cond (valid g) (judgedOf g) (judged.Refused BadGame)
+outcomeOf g = cond (valid g) (judgedOf g) (judged.Refused (refusal 13))
 
 unfoldable pub isOverOf : Game → Tested
-isOverOf g = cond (valid g) (tested.Is (ended (judgedOf g))) (tested.Refused BadGame)
+isOverOf g = cond (valid g) (tested.Is (ended (judgedOf g))) (tested.Refused (refusal 13))
 
 -- the current position
 unfoldable pub standsOf : Game → Placed
-standsOf g = cond (valid g) (placed.Position (lastOf g)) (placed.Refused BadGame)
+standsOf g = cond (valid g) (placed.Position (lastOf g)) (placed.Refused (refusal 13))
 
 unfoldable pub repetitionsOf : Game → Counted
-repetitionsOf g = cond (valid g) (counted.Count (stood g)) (counted.Refused BadGame)
+repetitionsOf g = cond (valid g) (counted.Count (stood g)) (counted.Refused (refusal 13))
 
 unfoldable pub reversiblePliesOf : Game → Counted
-reversiblePliesOf g = cond (valid g) (counted.Count (g .reversible)) (counted.Refused BadGame)
+reversiblePliesOf g = cond (valid g) (counted.Count (g .reversible)) (counted.Refused (refusal 13))
 
 -- every entry blank
 abbrev pub noList : Answer → Listed
@@ -121,8 +121,8 @@ legalMovesOf g limit =
     cond (valid g)
     (cond (leb limit 256)
     (cond (ended (judgedOf g)) (noList answer.Done) (movegen.legalMovesOf (lastOf g) limit))
-    (refusedList BeyondLimit))
-    (refusedList BadGame)
+    (refusedList (refusal 10)))
+    (refusedList (refusal 13))
 
 -- ---- the result of a finished game, as text: 2-0, 1-1 or 0-2
 

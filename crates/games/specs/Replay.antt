@@ -7,7 +7,7 @@ use mathlib.Core.List.{List, [], _∷_, _++_}
 use lib.Dec.{eqb, leb}
 use lib.ListN.{length, take, drop}
 use Rattle.squares.specs.declared.refusal.Answer.the-variants.{Done}
-use Rattle.squares.specs.declared.refusal.Refusal.the-variants.{NoSuchSquare, BadPosition, SpaceTooShort}
+use Rattle.squares.specs.Refusals.{refusal}
 use Rattle.positions.specs.Acceptance.{sound}
 use Rattle.positions.specs.Moves.{move}
 use Rattle.positions.specs.declared.moves.Move.{Move}
@@ -35,9 +35,9 @@ replayOf start numbers room =
     (cond (eqb (length numbers % 3) 0)
     (cond (leb (length numbers / 3) room)
     (record { answer = Done; game = gameAfter playOf (freshOf start) (movesIn numbers) })
-    (notBegun SpaceTooShort))
-    (notBegun NoSuchSquare))
-    (notBegun BadPosition)
+    (notBegun (refusal 19)))
+    (notBegun (refusal 11)))
+    (notBegun (refusal 12))
 
 -- the lent answers afterwards: one for each move, 0 where it was accepted, and the later ones as they were; refused, all
 unfoldable pub writtenOf : Position → List ℕ → List ℕ → List ℕ

@@ -6,9 +6,9 @@ use mathlib.Core.Bool.{Bool, true, false}
 use mathlib.Core.List.{List}
 use lib.ListN.{length}
 use borrow.Author.Tests.{le-ltb}
-use Rattle.squares.specs.declared.refusal.Answer.the-variants.{Done, Refused}
-use Rattle.squares.specs.declared.refusal.Refusal.{Refusal}
+use Rattle.squares.specs.declared.refusal.Answer.the-variants.{Done}
 use Rattle.squares.specs.declared.refusal.Refusal.the-variants.{BadGame, GameOver}
+use Rattle.squares.proofs.Refusals.{not-done}
 use Rattle.positions.specs.Acceptance.{Sound}
 use Rattle.positions.specs.Boards.{boardOf}
 use Rattle.positions.specs.Hash.{positionOf}
@@ -31,7 +31,7 @@ use Rattle.notation.specs.declared.notation.Said.{Said}
 use Rattle.notation.proofs.Fitted.{Fitted, fit-says}
 use Rattle.notation.proofs.MoveTrip.{listed-squares, move-back}
 use Rattle.games.specs.Games.{lastOf, valid, judgedOf, ended}
-use Rattle.games.specs.Play.{refusedPlay, movedOf, reachedOf, playOf}
+use Rattle.games.specs.Play.{movedOf, reachedOf, playOf}
 use Rattle.games.specs.declared.game.Game.{Game}
 use Rattle.gametexts.specs.Texts.{playSaid, playHeard, playStrOf}
 
@@ -61,23 +61,20 @@ pub record Accepted (g : Game) (text : List ℕ) (m : Move) : Type 0 where
   pub fitted : Fitted (lastOf g) said m
   pub played : playStrOf g text ≡ playOf g m
 
-not-done : {A : Type 0} (g : Game) (e : Refusal) → refusedPlay g e .answer ≡ Done → A
-not-done g e h = let z : _≡_ {A = ℕ} 0 1 = cc in absurd (omega arith)
-
 pub accepted-says : (g : Game) (text : List ℕ) → playStrOf g text .answer ≡ Done → (m : Move) × Accepted g text m
 unfolding playStrOf playSaid
 accepted-says g text e = go (valid g) refl (readMoveOf text) refl
   where
     at : (h : Said) → readMoveOf text ≡ heard.Said h → valid g ≡ true → (t : Bool) → ended (judgedOf g) ≡ t → (f : Found) → fitOf (lastOf g) h ≡ f
         → (m : Move) × Accepted g text m
-    at h r v true o f q = not-done g GameOver (rw (v, r, o) at e)
-    at h r v false o (found.Refused x) q = not-done g x (rw (v, r, o, q) at e)
+    at h r v true o f q = not-done GameOver (rw (v, r, o) at e)
+    at h r v false o (found.Refused x) q = not-done x (rw (v, r, o, q) at e)
     at h r v false o (found.Move m) q =
         (m, record { said = h; read = r; fitted = fit-says (lastOf g) h m q; played = rw (v, r, o, q) })
 
     go : (t : Bool) → valid g ≡ t → (a : Heard) → readMoveOf text ≡ a → (m : Move) × Accepted g text m
-    go false v a r = not-done g BadGame (rw v at e)
-    go true v (heard.Refused x) r = not-done g x (rw (v, r) at e)
+    go false v a r = not-done BadGame (rw v at e)
+    go true v (heard.Refused x) r = not-done x (rw (v, r) at e)
     go true v (heard.Said h) r = at h r v (ended (judgedOf g)) refl (fitOf (lastOf g) h) refl
 
 -- ---- Hub's text of a legal move

@@ -3,7 +3,7 @@
 use Prim.Native.Nat.{ℕ}
 use mathlib.Core.Bool.{cond}
 use mathlib.Core.List.{List}
-use Rattle.squares.specs.declared.refusal.Refusal.the-variants.{BadGame, GameOver}
+use Rattle.squares.specs.Refusals.{refusal}
 use Rattle.positions.specs.declared.position.Placed.{Placed}
 use Rattle.positions.specs.declared.position.Placed.the-variants as placed
 use Rattle.texts.specs.Fen.{fromFenOf}
@@ -35,7 +35,7 @@ playFound g (found.Refused e) = refusedPlay g e
 
 -- 14, then 17, 15, 16
 unfoldable pub playSaid : Game → Said → Played
-playSaid g h = cond (ended (judgedOf g)) (refusedPlay g GameOver) (playFound g (fitOf (lastOf g) h))
+playSaid g h = cond (ended (judgedOf g)) (refusedPlay g (refusal 14)) (playFound g (fitOf (lastOf g) h))
 
 abbrev pub playHeard : Game → Heard → Played
 playHeard g (heard.Said h) = playSaid g h
@@ -43,4 +43,4 @@ playHeard g (heard.Refused e) = refusedPlay g e
 
 -- 13, then 1 and 9
 unfoldable pub playStrOf : Game → List ℕ → Played
-playStrOf g text = cond (valid g) (playHeard g (readMoveOf text)) (refusedPlay g BadGame)
+playStrOf g text = cond (valid g) (playHeard g (readMoveOf text)) (refusedPlay g (refusal 13))

@@ -4,6 +4,7 @@ pub mod Counted
 pub mod Divided
 pub mod LastPly
 pub mod Answers
+pub mod Says
 pub mod Plies
 pub mod Taken
 pub mod Rows

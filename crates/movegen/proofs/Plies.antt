@@ -11,7 +11,7 @@ use Rattle.squares.specs.Squares.{bitOf}
 use Rattle.squares.proofs.Sizes.{size-some}
 use Rattle.positions.specs.Acceptance.{Accepted}
 use Rattle.positions.specs.Boards.{Board}
-use Rattle.positions.specs.Measure.{Ply, capture, man, king}
+use Rattle.positions.proofs.Measure.{Ply, capture, man, king}
 use Rattle.positions.specs.Moves.{isCapture}
 use Rattle.positions.specs.Successor.{Playable}
 use Rattle.positions.specs.declared.moves.Move.{Move}

@@ -11,7 +11,7 @@ use Rattle.squares.specs.declared.refusal.Refusal.the-variants.{TooManyMoves}
 use Rattle.captures.specs.declared.movegen.Captures.{Captures}
 use Rattle.captures.specs.Lists.{entries, listOf}
 use Rattle.captures.specs.Record.{Ending, listIn, startOf, noteOf}
-use Rattle.captures.specs.Limit.{Found, found}
+use Rattle.captures.proofs.Limit.{Found, found}
 use Rattle.captures.specs.Men.{onto, manEndings, manCaptures, menCapturesOf}
 use Rattle.captures.specs.Kings.{skipOf, kingEndings, kingCaptures, kingsCapturesOf}
 use Rattle.shorts.specs.declared.short.Short.{Short}

@@ -14,9 +14,10 @@ use Rattle.squares.proofs.Pointwise.{has-and, has-without, and-lt, without-lt, 
 use Rattle.squares.proofs.Sizes.{size-zero}
 use Rattle.positions.specs.Acceptance.{Accepted}
 use Rattle.positions.specs.Boards.{Board, colored, own, enemy, menOf, kingsOf, sameColor}
-use Rattle.positions.specs.Standing.{promoted, menTaken, kingsTaken}
-use Rattle.positions.specs.Successor.{promotes, Playable}
+use Rattle.positions.specs.Successor.{Playable}
 use Rattle.positions.specs.declared.moves.Move.{Move}
+use Rattle.positions.proofs.Accepts.{colored-fits, kings-fit}
+use Rattle.positions.proofs.Standings.{menTaken, kingsTaken}
 
 -- ---- sets taken: apart from a colour's pieces, or among them
 module _ (t s k : ℕ) (tFits : t < 2 ^ 64) (sFits : s < 2 ^ 64) (kFits : k < 2 ^ 64) where
@@ -54,15 +55,7 @@ module _ (t s k : ℕ) (tFits : t < 2 ^ 64) (sFits : s < 2 ^ 64) (kFits : k < 2 
   among-kings h = ext 64 _ _ (and-lt t (bitAnd s k) tFits) (and-lt t k tFits)
       (λ i l. has-and t (bitAnd s k) i ∙ ap (λ (x : Bool). has t i && x) (has-and s k i) ∙ among i (has k i) (h i) ∙ sym (has-and t k i))
 
-pub promoted-is : (c : Color) (p : Board) (m : Move) → promoted c p m ≡ cond (sameColor c (p .side) && promotes p m) 1 0
-unfolding promoted
-promoted-is c p m = refl
-
 module _ (p : Board) (m : Move) (a : Accepted p) (y : Playable p m) where
-  fits : (c : Color) → colored c p < 2 ^ 64
-  fits White = omega (arith, a .whiteFits)
-  fits Black = omega (arith, a .blackFits)
-
   apart-own : (i : ℕ) → has (m .captured) i ≡ true → has (own p) i ≡ false
   apart-own i e = go (p .side) (y .enemies i e)
     where
@@ -89,9 +82,6 @@ module _ (p : Board) (m : Move) (a : Accepted p) (y : Playable p m) where
       go White White e = absurd (true≢false e)
       go Black Black e = absurd (true≢false e)
 
-  abbrev k64 : p .kings < 2 ^ 64
-  k64 = omega (arith, a .kingsFits)
-
   pub men-taken : (c : Color) → size (bitAnd (m .captured) (menOf c p)) ≡ menTaken c p m
   unfolding menTaken
   men-taken c = go (sameColor c (p .side)) refl
@@ -99,10 +89,10 @@ module _ (p : Board) (m : Move) (a : Accepted p) (y : Playable p m) where
       go : (t : Bool) → sameColor c (p .side) ≡ t → size (bitAnd (m .captured) (menOf c p)) ≡ cond t 0 (size (without (m .captured) (p .kings)))
       go true e =
           ap (λ (c : Color). size (bitAnd (m .captured) (menOf c p))) (taken-own c e)
-          ∙ ap size (apart-men (m .captured) (own p) (p .kings) (y .setFits) (fits (p .side)) k64 apart-own) ∙ size-zero
+          ∙ ap size (apart-men (m .captured) (own p) (p .kings) (y .setFits) (colored-fits p a (p .side)) (kings-fit p a) apart-own) ∙ size-zero
       go false e =
           ap (λ (c : Color). size (bitAnd (m .captured) (menOf c p))) (taken-other c e)
-          ∙ ap size (among-men (m .captured) (enemy p) (p .kings) (y .setFits) (fits (other (p .side))) k64 (y .enemies))
+          ∙ ap size (among-men (m .captured) (enemy p) (p .kings) (y .setFits) (colored-fits p a (other (p .side))) (kings-fit p a) (y .enemies))
 
   pub kings-taken : (c : Color) → size (bitAnd (m .captured) (kingsOf c p)) ≡ kingsTaken c p m
   unfolding kingsTaken
@@ -111,7 +101,7 @@ module _ (p : Board) (m : Move) (a : Accepted p) (y : Playable p m) where
       go : (t : Bool) → sameColor c (p .side) ≡ t → size (bitAnd (m .captured) (kingsOf c p)) ≡ cond t 0 (size (bitAnd (m .captured) (p .kings)))
       go true e =
           ap (λ (c : Color). size (bitAnd (m .captured) (kingsOf c p))) (taken-own c e)
-          ∙ ap size (apart-kings (m .captured) (own p) (p .kings) (y .setFits) (fits (p .side)) k64 apart-own) ∙ size-zero
+          ∙ ap size (apart-kings (m .captured) (own p) (p .kings) (y .setFits) (colored-fits p a (p .side)) (kings-fit p a) apart-own) ∙ size-zero
       go false e =
           ap (λ (c : Color). size (bitAnd (m .captured) (kingsOf c p))) (taken-other c e)
-          ∙ ap size (among-kings (m .captured) (enemy p) (p .kings) (y .setFits) (fits (other (p .side))) k64 (y .enemies))
+          ∙ ap size (among-kings (m .captured) (enemy p) (p .kings) (y .setFits) (colored-fits p a (other (p .side))) (kings-fit p a) (y .enemies))

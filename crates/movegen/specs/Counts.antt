@@ -6,7 +6,7 @@ use mathlib.Core.List.{List, [], _∷_, _++_, map}
 use lib.Dec.{leb, ltb}
 use lib.ListN.{length, take, replicate}
 use Rattle.squares.specs.declared.refusal.Refusal.{Refusal}
-use Rattle.squares.specs.declared.refusal.Refusal.the-variants.{BeyondLimit, BadPosition, TooManyMoves}
+use Rattle.squares.specs.Refusals.{refusal}
 use Rattle.squares.specs.declared.refusal.Answer.the-variants as answer
 use Rattle.positions.specs.Acceptance.{sound}
 use Rattle.positions.specs.Boards.{Board, boardOf}
@@ -34,10 +34,10 @@ unfoldable pub depthCount : ℕ → Board → Counted
 depthCount zero b = Count 1
 depthCount (suc n) b =
     elim (ltb 256 (length (legal b)))
-    [ true ↦ Refused TooManyMoves | false ↦ sumFrom (λ m. depthCount n (successor b m)) 0 (legal b) ]
+    [ true ↦ Refused (refusal 17) | false ↦ sumFrom (λ m. depthCount n (successor b m)) 0 (legal b) ]
 
 unfoldable pub perftOf : Position → ℕ → Counted
-perftOf p depth = cond (sound p) (cond (leb depth 7) (depthCount depth (boardOf p)) (Refused BeyondLimit)) (Refused BadPosition)
+perftOf p depth = cond (sound p) (cond (leb depth 7) (depthCount depth (boardOf p)) (Refused (refusal 10))) (Refused (refusal 12))
 
 -- ---- by first moves
 
@@ -64,4 +64,4 @@ dividedOf n b = dividedBy (depthCount (suc n) b) (record { answer = answer.Done;
 
 -- depth 0 is read as 1
 unfoldable pub divideOf : Position → ℕ → Divided
-divideOf p depth = cond (sound p) (cond (leb depth 7) (dividedOf (depth - 1) (boardOf p)) (undivided BeyondLimit)) (undivided BadPosition)
+divideOf p depth = cond (sound p) (cond (leb depth 7) (dividedOf (depth - 1) (boardOf p)) (undivided (refusal 10))) (undivided (refusal 12))

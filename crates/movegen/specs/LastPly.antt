@@ -8,7 +8,7 @@ use lib.ListN.{length}
 use Rattle.squares.specs.Sets.{without}
 use Rattle.squares.specs.Squares.{all}
 use Rattle.squares.specs.declared.piece.Color.{Color}
-use Rattle.squares.specs.declared.refusal.Refusal.the-variants.{TooManyMoves}
+use Rattle.squares.specs.Refusals.{refusal}
 use Rattle.quiets.specs.Tests.{hasCaptureOf}
 use Rattle.quiets.specs.Quiets.{allQuiets}
 use Rattle.quiets.specs.declared.quiets.Listing.{Listing}
@@ -18,10 +18,10 @@ use Rattle.movegen.specs.declared.perft.Counted.{Counted}
 use Rattle.movegen.specs.declared.perft.Counted.the-variants.{Count, Refused}
 
 unfoldable pub limitedCount : ℕ → Counted
-limitedCount n = cond (ltb 256 n) (Refused TooManyMoves) (Count n)
+limitedCount n = cond (ltb 256 n) (Refused (refusal 17)) (Count n)
 
 unfoldable pub listedCount : Listing → Counted
-listedCount l = cond (l .overflow) (Refused TooManyMoves) (Count (l .list .len))
+listedCount l = cond (l .overflow) (Refused (refusal 17)) (Count (l .list .len))
 
 unfoldable pub countBySets : ℕ → ℕ → ℕ → ℕ → Color → Counted
 countBySets men kings them empty side =

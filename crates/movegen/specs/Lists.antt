@@ -6,7 +6,7 @@ use mathlib.Core.List.{List}
 use lib.Dec.{leb, ltb}
 use lib.ListN.{length}
 use Rattle.squares.specs.declared.refusal.Refusal.{Refusal}
-use Rattle.squares.specs.declared.refusal.Refusal.the-variants.{BeyondLimit, NoSuchSquare, BadPosition, NoMoveFits, TooManyMoves}
+use Rattle.squares.specs.Refusals.{refusal}
 use Rattle.squares.specs.declared.refusal.Answer.the-variants as answer
 use Rattle.positions.specs.Acceptance.{sound}
 use Rattle.positions.specs.Boards.{boardOf}
@@ -31,31 +31,31 @@ refusedList e = record { answer = answer.Refused e; list = noMoves }
 
 -- at most that many moves, then blanks; else 17
 unfoldable pub listedOf : ℕ → List Move → Listed
-listedOf limit xs = cond (leb (length xs) limit) (record { answer = answer.Done; list = listOf xs }) (refusedList TooManyMoves)
+listedOf limit xs = cond (leb (length xs) limit) (record { answer = answer.Done; list = listOf xs }) (refusedList (refusal 17))
 
 unfoldable pub legalMovesOf : Position → ℕ → Listed
 legalMovesOf p limit =
     cond (sound p)
-    (cond (leb limit 256) (listedOf limit (legal (boardOf p))) (refusedList BeyondLimit))
-    (refusedList BadPosition)
+    (cond (leb limit 256) (listedOf limit (legal (boardOf p))) (refusedList (refusal 10)))
+    (refusedList (refusal 12))
 
 -- what the code looks at: the mark, and the length
 unfoldable pub withinOf : Listing → ℕ → Listed
 withinOf l limit =
-    cond (l .overflow || ltb limit (l .list .len)) (refusedList TooManyMoves) (record { answer = answer.Done; list = l .list })
+    cond (l .overflow || ltb limit (l .list .len)) (refusedList (refusal 17)) (record { answer = answer.Done; list = l .list })
 
 unfoldable pub hasCapturesOf : Position → Tested
-hasCapturesOf p = cond (sound p) (tested.Is (some (captures (boardOf p)))) (tested.Refused BadPosition)
+hasCapturesOf p = cond (sound p) (tested.Is (some (captures (boardOf p)))) (tested.Refused (refusal 12))
 
 -- also where a capture is due
 unfoldable pub hasQuietMovesOf : Position → Tested
-hasQuietMovesOf p = cond (sound p) (tested.Is (some (quiets (boardOf p)))) (tested.Refused BadPosition)
+hasQuietMovesOf p = cond (sound p) (tested.Is (some (quiets (boardOf p)))) (tested.Refused (refusal 12))
 
 -- the position after a move of the list, with its hash
 unfoldable pub playedOf : Position → Move → Placed
 playedOf p m =
-    cond (ltb 256 (length (legal (boardOf p)))) (placed.Refused TooManyMoves)
-    (cond (listed (legal (boardOf p)) m) (placed.Position (positionOf (successor (boardOf p) m))) (placed.Refused NoMoveFits))
+    cond (ltb 256 (length (legal (boardOf p)))) (placed.Refused (refusal 17))
+    (cond (listed (legal (boardOf p)) m) (placed.Position (positionOf (successor (boardOf p) m))) (placed.Refused (refusal 15)))
 
 unfoldable pub afterOf : Position → Move → Placed
-afterOf p m = cond (sound p) (cond (squaresOf m) (playedOf p m) (placed.Refused NoSuchSquare)) (placed.Refused BadPosition)
+afterOf p m = cond (sound p) (cond (squaresOf m) (playedOf p m) (placed.Refused (refusal 11))) (placed.Refused (refusal 12))

@@ -1,6 +1,7 @@
 // The legal moves of a position, after movegen.rs.
 use crate::moves::MAX_MOVES;
 use crate::moves::MoveList;
+use crate::position;
 use captures::movegen::Captures;
 use positions::moves::Move;
 use positions::position::Placed;
@@ -199,7 +200,7 @@ pub fn after(p: Position, m: Move) -> Placed
                 return Placed::Refused(Refusal::TooManyMoves);
             }
             if list.contains(m) {
-                return Placed::Position(p.play(m));
+                return Placed::Position(position::play(p, m));
             }
             return Placed::Refused(Refusal::NoMoveFits);
         }

@@ -5,7 +5,7 @@ use mathlib.Core.List.{List, [], _∷_}
 use mathlib.Core.Bool.{Bool, true, false, cond, _&&_, Bool·beq}
 use lib.Dec.{eqb, leb, ltb}
 use lib.ListN.{length}
-use Rattle.squares.specs.declared.refusal.Refusal.the-variants.{BadPosition, NoMoveFits, SeveralFit, TooManyMoves}
+use Rattle.squares.specs.Refusals.{refusal}
 use Rattle.positions.specs.Acceptance.{sound}
 use Rattle.positions.specs.Boards.{boardOf}
 use Rattle.positions.specs.Moves.{isCapture}
@@ -45,16 +45,16 @@ fitting h l = cond (ltb 2 (h .count)) (orElse (keep (asHub h) l) (keep (byEnds h
 
 -- 15 where there is none, 16 where there are several
 unfoldable pub only : List Move → Found
-only [] = found.Refused NoMoveFits
+only [] = found.Refused (refusal 15)
 only (m ∷ []) = found.Move m
-only (m ∷ (n ∷ l)) = found.Refused SeveralFit
+only (m ∷ (n ∷ l)) = found.Refused (refusal 16)
 
 -- 12, 17, 15, 16
 unfoldable pub fitOf : Position → Said → Found
 fitOf p h =
     cond (sound p)
-    (cond (leb (length (legal (boardOf p))) 256) (only (fitting h (legal (boardOf p)))) (found.Refused TooManyMoves))
-    (found.Refused BadPosition)
+    (cond (leb (length (legal (boardOf p))) 256) (only (fitting h (legal (boardOf p)))) (found.Refused (refusal 17)))
+    (found.Refused (refusal 12))
 
 -- what was read is fitted, a refusal is passed on
 abbrev pub fitHeard : Position → Heard → Found
@@ -63,7 +63,7 @@ fitHeard p (heard.Refused e) = found.Refused e
 
 -- 12, 1, 9, 17, 15, 16
 unfoldable pub parseMoveOf : Position → List ℕ → Found
-parseMoveOf p s = cond (sound p) (fitHeard p (readMoveOf s)) (found.Refused BadPosition)
+parseMoveOf p s = cond (sound p) (fitHeard p (readMoveOf s)) (found.Refused (refusal 12))
 
 -- ---- what the code's search looks for
 
@@ -91,6 +91,6 @@ orChoice (One m) d = One m
 orChoice Several d = Several
 
 abbrev pub answered : Choice → Found
-answered Nothing = found.Refused NoMoveFits
+answered Nothing = found.Refused (refusal 15)
 answered (One m) = found.Move m
-answered Several = found.Refused SeveralFit
+answered Several = found.Refused (refusal 16)

@@ -6,7 +6,7 @@ use mathlib.Core.List.{List, [], _∷_, _++_, map}
 use mathlib.Core.Bool.{cond}
 use Rattle.squares.specs.Sets.{members}
 use Rattle.squares.specs.Squares.{squareAtBit}
-use Rattle.squares.specs.declared.refusal.Refusal.the-variants.{NoSuchSquare}
+use Rattle.squares.specs.Refusals.{refusal}
 use Rattle.positions.specs.Moves.{isCapture, squaresOf}
 use Rattle.positions.specs.declared.moves.Move.{Move}
 use Rattle.texts.specs.Bytes.{joined, digits}
@@ -31,14 +31,14 @@ shortText m = joined (separatorOf m) (map digits (m .from ∷ m .to ∷ []))
 
 -- the answer: 11, then 19
 unfoldable pub toHubOf : Move → List ℕ → Wrote
-toHubOf m out = cond (squaresOf m) (emitOf (moveText m) out) (wrote.Refused NoSuchSquare)
+toHubOf m out = cond (squaresOf m) (emitOf (moveText m) out) (wrote.Refused (refusal 11))
 
 -- the lent bytes afterwards
 unfoldable pub toHubLent : Move → List ℕ → List ℕ
 toHubLent m out = cond (squaresOf m) (emitted (moveText m) out) out
 
 unfoldable pub displayOf : Move → List ℕ → Wrote
-displayOf m out = cond (squaresOf m) (emitOf (shortText m) out) (wrote.Refused NoSuchSquare)
+displayOf m out = cond (squaresOf m) (emitOf (shortText m) out) (wrote.Refused (refusal 11))
 
 unfoldable pub displayLent : Move → List ℕ → List ℕ
 displayLent m out = cond (squaresOf m) (emitted (shortText m) out) out

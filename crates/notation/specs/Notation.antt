@@ -9,7 +9,7 @@ use lib.Bits.{bitOr}
 use Rattle.squares.specs.Squares.{single}
 use Rattle.squares.specs.declared.square.Numbered.{Numbered}
 use Rattle.squares.specs.declared.square.Numbered.the-variants as numbered
-use Rattle.squares.specs.declared.refusal.Refusal.the-variants.{TextTooLong, BadMoveText}
+use Rattle.squares.specs.Refusals.{refusal}
 use Rattle.texts.specs.Bytes.{readable, blank, is, holds, trim, splitOn, readSquare}
 use Rattle.notation.specs.declared.notation.Said.{Said}
 use Rattle.notation.specs.declared.notation.Heard.{Heard}
@@ -20,7 +20,7 @@ unfoldable pub atCut : ℕ → Bool
 atCut b = is (code "-") b || is (code "x") b
 
 abbrev pub malformed : Heard
-malformed = heard.Refused BadMoveText
+malformed = heard.Refused (refusal 9)
 
 -- nothing read yet
 unfoldable pub unsaid : Bool → Said
@@ -63,4 +63,4 @@ heardTrimmed t = inForm (holds (code "-") t) (heardSquares (unsaid (holds (code 
 
 -- 1, then 9
 unfoldable pub readMoveOf : List ℕ → Heard
-readMoveOf s = cond (readable s) (heardTrimmed (trim blank s)) (heard.Refused TextTooLong)
+readMoveOf s = cond (readable s) (heardTrimmed (trim blank s)) (heard.Refused (refusal 1))

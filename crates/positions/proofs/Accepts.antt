@@ -15,7 +15,7 @@ use Rattle.squares.specs.declared.refusal.Refusal.the-variants.{NoSuchSquare, O
 use Rattle.squares.proofs.Bools.{and-left, and-right, and-both, or-none}
 use Rattle.squares.proofs.Pointwise.{has-zero, has-and, has-or, has-without, none-zero, none-within, within-none, within-le, and-lt, without-lt}
 use Rattle.squares.proofs.Numbers.{all-lt, all-lt64, has-all}
-use Rattle.positions.specs.Boards.{Board, board, boardOf, start}
+use Rattle.positions.specs.Boards.{Board, board, boardOf, start, colored}
 use Rattle.positions.specs.Hash.{positionOf, initialOf}
 use Rattle.positions.specs.Acceptance.{misplaced, acceptedSets, accepted, sound, Accepted, Sound, placeOf, fromPartsOf}
 use Rattle.positions.specs.Computed.{computed}
@@ -173,3 +173,11 @@ from-parts-sound w b k s p = go (squaresOnly w && (squaresOnly b && squaresOnly 
         (eq-eqb _ 0 (none-within (bitAnd k (bitOr w b)) (bitOr w b) (lt-of-le-of-lt (and-le-r k (bitOr w b)) fo) fo
         (λ i l h. and-right (has k i) (has (bitOr w b) i) (sym (has-and k (bitOr w b) i) ∙ h)))) e
     go false q e = absurd (let z : _≡_ {A = ℕ} 0 1 = cc in omega arith)
+
+-- ---- the sets of an accepted board fit 64 bits
+pub colored-fits : (b : Board) → Accepted b → (c : Color) → colored c b < 2 ^ 64
+colored-fits b a White = omega (arith, a .whiteFits)
+colored-fits b a Black = omega (arith, a .blackFits)
+
+pub kings-fit : (b : Board) → Accepted b → b .kings < 2 ^ 64
+kings-fit b a = omega (arith, a .kingsFits)

@@ -1,7 +1,6 @@
--- The measure falls at a capture and at a man's move, and stays at a quiet king move; so a board that comes back has seen
--- nothing but quiet king moves in between.
-use mathlib.Core.Path.{_≡_, refl, sym, ap, _∙_}
-use mathlib.Core.Logic.{_⊎_, inl, inr}
+-- The measure falls at a capture and at a man's move, and stays at a quiet king move; so a board cannot come back after a
+-- capture or a man's move.
+use mathlib.Core.Path.{_≡_, refl, ap, _∙_}
 use Prim.Native.Nat.{ℕ, _+_, _<_}
 use native.Mathlib.Omega.{arith}
 use mathlib.Core.Bool.{true, false}
@@ -13,11 +12,10 @@ use Rattle.squares.proofs.Sizes.{size-zero}
 use Rattle.positions.specs.Boards.{Board, board}
 use Rattle.positions.specs.Acceptance.{Accepted}
 use Rattle.positions.specs.Successor.{successor, Playable}
-use Rattle.positions.specs.Measure.{piecesOn, rowsBefore, rowsAhead, Ply, capture, man, king, Smaller, fewer, nearer, Level}
+use Rattle.positions.proofs.Measure.{piecesOn, rowsBefore, rowsAhead, Smaller, fewer, nearer, Level}
 use Rattle.positions.specs.declared.moves.Move.{Move}
 use Rattle.positions.proofs.TurnCounts.{pieces-fall, rows-fall, rows-stay, foe-rows}
 use Rattle.positions.proofs.Plays.{turn-of, successor-is}
-use Rattle.positions.proofs.Kept.{successor-accepted}
 use Rattle.positions.proofs.Standings.{now}
 
 -- ---- one move
@@ -107,46 +105,3 @@ smaller-trans (nearer e h) (nearer d l) = nearer (e ∙ d) (omega arith)
 pub not-smaller : {a b : Board} → a ≡ b → Smaller a b → ⊥
 not-smaller e (fewer h) = omega (arith, ap piecesOn e)
 not-smaller e (nearer d h) = omega (arith, ap rowsAhead e)
-
--- ---- a number of moves
-pub data Line : Board → Board → Type 0 where
-  done : {b : Board} → Line b b
-  then : {b e : Board} (m : Move) → Playable b m → Ply b m → Line (successor b m) e → Line b e
-
--- nothing but quiet king moves
-unfoldable pub Quiet : {b : Board} {m : Move} → Ply b m → Type 0
-Quiet (capture h) = ⊥
-Quiet (man c q h) = ⊥
-Quiet (king c q) = Unit {0}
-
-unfoldable pub Reversible : {b e : Board} → Line b e → Type 0
-Reversible done = Unit {0}
-Reversible (then m y p l) = Quiet p × Reversible l
-
--- the measure after a ply: level at a quiet king move, else smaller
-pub ply-measure : (b : Board) (m : Move) → Accepted b → Playable b m → Ply b m → Smaller (successor b m) b ⊎ Level (successor b m) b
-ply-measure b m a y (capture h) = inl (fewer (capture-falls b m a y h))
-ply-measure b m a y (man e q l) = let f = man-falls b m a y e q l in inl (nearer (f .0) (f .1))
-ply-measure b m a y (king e q) = inr (king-stays b m a y e q)
-
--- nothing but reversible plies, or the measure has fallen
-fallen : {b e : Board} → Accepted b → (l : Line b e) → (Reversible l × Level e b) ⊎ Smaller e b
-unfolding Reversible Quiet
-fallen {b} a done = inl (tt, level-refl b)
-fallen {b} {e} a (then m y p l) = step p (fallen (successor-accepted b m a y) l)
-  where
-    step : (p : Ply b m) → (Reversible l × Level e (successor b m)) ⊎ Smaller e (successor b m) → ((Quiet p × Reversible l) × Level e b) ⊎ Smaller e b
-    step (capture h) (inl r) = inr (level-smaller (r .1) (fewer (capture-falls b m a y h)))
-    step (capture h) (inr s) = inr (smaller-trans s (fewer (capture-falls b m a y h)))
-    step (man c q h) (inl r) = let f = man-falls b m a y c q h in inr (level-smaller (r .1) (nearer (f .0) (f .1)))
-    step (man c q h) (inr s) = let f = man-falls b m a y c q h in inr (smaller-trans s (nearer (f .0) (f .1)))
-    step (king c q) (inl r) = inl ((tt, r .0), level-trans (r .1) (king-stays b m a y c q))
-    step (king c q) (inr s) = inr (smaller-level s (king-stays b m a y c q))
-
--- a board that comes back had only reversible plies between
-pub comes-back : {b e : Board} → Accepted b → (l : Line b e) → b ≡ e → Reversible l
-comes-back {b} {e} a l p = go (fallen a l)
-  where
-    go : (Reversible l × Level e b) ⊎ Smaller e b → Reversible l
-    go (inl r) = r .0
-    go (inr s) = absurd (not-smaller (sym p) s)

@@ -9,7 +9,7 @@ use Rattle.squares.specs.Sets.{has, without}
 use Rattle.squares.specs.Squares.{promotion, firstOf, onBoard, squaresOnly}
 use Rattle.squares.specs.declared.piece.Color.{Color}
 use Rattle.squares.specs.declared.piece.Color.the-variants.{White, Black}
-use Rattle.squares.specs.declared.refusal.Refusal.the-variants.{NoSuchSquare, Overlap, ManOnPromotionRow}
+use Rattle.squares.specs.Refusals.{refusal, refusalAt}
 use Rattle.positions.specs.Boards.{Board, board, boardOf}
 use Rattle.positions.specs.Hash.{hashOf, positionOf}
 use Rattle.positions.specs.declared.position.Position.{Position}
@@ -53,12 +53,12 @@ unfoldable pub placeOf : ℕ → ℕ → ℕ → Color → Placed
 placeOf white black kings side =
     cond (eqb (bitAnd white black) 0)
     (cond (eqb (misplaced white black kings) 0) (placed.Position (positionOf (board white black kings side)))
-    (placed.Refused (ManOnPromotionRow (firstOf (misplaced white black kings)))))
-    (placed.Refused (Overlap (firstOf (bitAnd white black))))
+    (placed.Refused (refusalAt 8 (firstOf (misplaced white black kings)))))
+    (placed.Refused (refusalAt 7 (firstOf (bitAnd white black))))
 
 -- kings on empty squares are dropped; 11 before all else
 unfoldable pub fromPartsOf : ℕ → ℕ → ℕ → Color → Placed
 fromPartsOf white black kings side =
     cond (squaresOnly white && (squaresOnly black && squaresOnly kings))
     (placeOf white black (bitAnd kings (bitOr white black)) side)
-    (placed.Refused NoSuchSquare)
+    (placed.Refused (refusal 11))

@@ -10,7 +10,7 @@ use Rattle.squares.specs.declared.piece.Color.{Color}
 use Rattle.squares.specs.declared.piece.Color.the-variants.{White, Black}
 use Rattle.squares.specs.declared.piece.PieceKind.{PieceKind}
 use Rattle.squares.specs.declared.piece.PieceKind.the-variants.{Man, King}
-use Rattle.squares.specs.declared.refusal.Refusal.the-variants.{NoSuchSquare}
+use Rattle.squares.specs.Refusals.{refusal}
 use Rattle.positions.specs.declared.position.Position.{Position}
 use Rattle.positions.specs.declared.position.Standing.{Standing}
 use Rattle.positions.specs.declared.position.Standing.the-variants as standing
@@ -86,4 +86,4 @@ pieceAtOf b n =
     cond (isSquare n)
     (cond (containsOf (b .white) n) (standingOf White (containsOf (b .kings) n))
     (cond (containsOf (b .black) n) (standingOf Black (containsOf (b .kings) n)) standing.Nothing))
-    (standing.Refused NoSuchSquare)
+    (standing.Refused (refusal 11))

@@ -5,10 +5,8 @@ use Rattle.positions.specs.Boards.{ofKind, pieces, empty, sameBoard, pie
 use Rattle.positions.specs.Hash.{colorKey, hashOf}
 use Rattle.positions.specs.Acceptance.{misplaced, acceptedSets, accepted, sound, placeOf, fromPartsOf}
 use Rattle.positions.specs.Successor.{promotes, endsAsKing, ownAfter, enemyAfter, kingsAfter, successor, takenKey, kingsPlayed, movedKey, playOf}
-use Rattle.positions.specs.Standing.{promoted, menTaken, kingsTaken}
-use Rattle.positions.specs.Measure.{piecesOn, rowsBefore, rowsAhead}
 use Rattle.positions.specs.Flip.{rotated, flip, flippedOf}
 
 unfoldable pub computed : Unit {0}
-unfolding squares.computed isCapture squaresOf same ofKind pieces empty sameBoard pieceAtOf colorKey hashOf misplaced acceptedSets accepted sound placeOf fromPartsOf promotes endsAsKing ownAfter enemyAfter kingsAfter successor takenKey kingsPlayed movedKey playOf promoted menTaken kingsTaken piecesOn rowsBefore rowsAhead rotated flip flippedOf
+unfolding squares.computed isCapture squaresOf same ofKind pieces empty sameBoard pieceAtOf colorKey hashOf misplaced acceptedSets accepted sound placeOf fromPartsOf promotes endsAsKing ownAfter enemyAfter kingsAfter successor takenKey kingsPlayed movedKey playOf rotated flip flippedOf
 computed = tt

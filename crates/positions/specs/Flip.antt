@@ -4,7 +4,7 @@ use mathlib.Core.Bool.{cond}
 use Rattle.squares.specs.Squares.{squareAtBit, single}
 use Rattle.squares.specs.Folds.{unionOver}
 use Rattle.squares.specs.Pieces.{other}
-use Rattle.squares.specs.declared.refusal.Refusal.the-variants.{BadPosition}
+use Rattle.squares.specs.Refusals.{refusal}
 use Rattle.positions.specs.Boards.{Board, board, boardOf}
 use Rattle.positions.specs.Hash.{positionOf}
 use Rattle.positions.specs.Acceptance.{sound}
@@ -20,4 +20,4 @@ unfoldable pub flip : Board → Board
 flip b = board (rotated (b .black)) (rotated (b .white)) (rotated (b .kings)) (other (b .side))
 
 unfoldable pub flippedOf : Position → Placed
-flippedOf p = cond (sound p) (placed.Position (positionOf (flip (boardOf p)))) (placed.Refused BadPosition)
+flippedOf p = cond (sound p) (placed.Position (positionOf (flip (boardOf p)))) (placed.Refused (refusal 12))

@@ -3,7 +3,5 @@ pub mod Boards
 pub mod Hash
 pub mod Acceptance
 pub mod Successor
-pub mod Standing
-pub mod Measure
 pub mod Flip
 pub mod Computed

@@ -19,7 +19,7 @@ use Rattle.positions.specs.Acceptance.{sound}
 use Rattle.positions.specs.Boards.{boardOf}
 use Rattle.positions.specs.Computed as positions
 use Rattle.positions.specs.Hash.{positionOf}
-use Rattle.positions.specs.Measure.{piecesOn}
+use Rattle.positions.proofs.Measure.{piecesOn}
 use Rattle.positions.specs.Moves.{squaresOf}
 use Rattle.positions.specs.Successor.{successor}
 use Rattle.positions.specs.declared.moves.Move.{Move}

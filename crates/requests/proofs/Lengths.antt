@@ -34,7 +34,7 @@ use Rattle.texts.proofs.Writers.{joined-short}
 use Rattle.notation.proofs.MoveTexts.{move-short}
 use Rattle.movegen.specs.declared.movegen.Listed.{Listed}
 use Rattle.movegen.specs.declared.perft.Divided.{Divided}
-use Rattle.wording.specs.Output.{places, decimal, hex, hash, signed, refusal, bad}
+use Rattle.wording.specs.Output.{places, decimal, hex, hash, signed, refusalText, bad}
 use Rattle.requests.specs.Answers.{fenWord, hubWord, moveWord, movesText, countsText, answering, listAnswer, dividedAnswer}
 
 -- ---- numbers
@@ -89,8 +89,8 @@ unfolding signed
 signed-most (pos n) = omega (arith, decimal-most n)
 signed-most (negsuc n) = omega (arith, decimal-most (suc n))
 
-pub refusal-most : (e : Refusal) → length (refusal e) ≤ 45
-unfolding refusal
+pub refusal-most : (e : Refusal) → length (refusalText e) ≤ 45
+unfolding refusalText
 refusal-most e = omega (arith, length-append (decimal (numberOf e)) (32 ∷ decimal (squareOf e)), decimal-most (numberOf e), decimal-most (squareOf e))
 
 pub bad-length : length bad ≡ 11

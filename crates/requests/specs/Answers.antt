@@ -30,7 +30,7 @@ use Rattle.texts.specs.Bytes.{bytes}
 use Rattle.texts.specs.Fen.{fenText}
 use Rattle.texts.specs.Hub.{hubText}
 use Rattle.notation.specs.MoveText.{moveText}
-use Rattle.wording.specs.Output.{decimal, hex, hash, signed, refusal}
+use Rattle.wording.specs.Output.{decimal, hex, hash, signed, refusalText}
 use Rattle.requests.specs.declared.answers.Asked.{Asked}
 use Rattle.requests.specs.declared.answers.Asked.the-variants as asked
 
@@ -63,11 +63,11 @@ bitsAnswer p = ok (setWord (p .white) ++ (setWord (p .black) ++ (setWord (p .kin
 
 abbrev pub placedAnswer : Placed → List ℕ
 placedAnswer (placed.Position p) = fenAnswer p
-placedAnswer (placed.Refused e) = refusal e
+placedAnswer (placed.Refused e) = refusalText e
 
 abbrev pub scoredAnswer : Scored → List ℕ
 scoredAnswer (scored.Score z) = ok (signed z)
-scoredAnswer (scored.Refused e) = refusal e
+scoredAnswer (scored.Refused e) = refusalText e
 
 abbrev pub yesNo : Bool → ℕ
 yesNo true = code "1"
@@ -75,11 +75,11 @@ yesNo false = code "0"
 
 abbrev pub testedAnswer : Tested → List ℕ
 testedAnswer (tested.Is b) = ok (yesNo b ∷ [])
-testedAnswer (tested.Refused e) = refusal e
+testedAnswer (tested.Refused e) = refusalText e
 
 abbrev pub countedAnswer : Counted → List ℕ
 countedAnswer (counted.Count n) = ok (decimal n)
-countedAnswer (counted.Refused e) = refusal e
+countedAnswer (counted.Refused e) = refusalText e
 
 -- ---- moves
 
@@ -100,7 +100,7 @@ countsText l c (suc n) = countsText l c n ++ (code " " ∷ (moveWord (getD l n b
 -- how many there are, then each
 abbrev pub answering : Answer → List ℕ → List ℕ
 answering answer.Done t = ok t
-answering (answer.Refused e) t = refusal e
+answering (answer.Refused e) t = refusalText e
 
 unfoldable pub listAnswer : Listed → List ℕ
 listAnswer l = answering (l .answer) (decimal (l .list .len) ++ movesText (l .list .moves) (min (l .list .len) 256))
@@ -118,7 +118,7 @@ moveAnswer m = ok (moveWord m ++ (code " " ∷ recordWord m))
 
 abbrev pub afterAnswer : Placed → List ℕ
 afterAnswer (placed.Position p) = fenAnswer p ++ (code " " ∷ hash (p .hash))
-afterAnswer (placed.Refused e) = refusal e
+afterAnswer (placed.Refused e) = refusalText e
 
 -- ---- by what is asked
 abbrev pub answerTo : Asked → Position → List ℕ

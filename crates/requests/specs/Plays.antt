@@ -6,7 +6,7 @@ use mathlib.Core.Bool.{Bool, true, false, cond, _&&_}
 use Rattle.squares.specs.Refusals.{answerNumberOf}
 use Rattle.squares.specs.declared.refusal.Answer.{Answer}
 use Rattle.squares.specs.declared.refusal.Answer.the-variants as answer
-use Rattle.squares.specs.declared.refusal.Refusal.the-variants.{BadMoveText}
+use Rattle.squares.specs.Refusals.{refusal}
 use Rattle.positions.specs.Moves.{move}
 use Rattle.positions.specs.declared.position.Placed.{Placed}
 use Rattle.positions.specs.declared.position.Placed.the-variants as placed
@@ -74,14 +74,14 @@ allReadable h (w ∷ ws) = readableOf h w && allReadable h ws
 -- ---- a play; a word that can not be read is not played, since such a request is broken
 abbrev pub playPlain : Game → Plain → Played
 playPlain g (text t) = playStrOf g t
-playPlain g (broken t) = refusedPlay g BadMoveText
+playPlain g (broken t) = refusedPlay g (refusal 9)
 
 unfoldable pub playTextOf : Game → List ℕ → Played
 playTextOf g w = playPlain g (plain w)
 
 abbrev pub playMove : Game → Recorded → Played
 playMove g (recorded.Move m) = playOf g m
-playMove g recorded.Bad = refusedPlay g BadMoveText
+playMove g recorded.Bad = refusedPlay g (refusal 9)
 
 unfoldable pub playRecordOf : Game → List ℕ → Played
 playRecordOf g w = playMove g (recordOf w)

@@ -15,7 +15,7 @@ use Rattle.squares.specs.declared.piece.Sided.{Sided}
 use Rattle.squares.specs.declared.piece.Sided.the-variants as sided
 use Rattle.squares.specs.declared.square.Numbered.{Numbered}
 use Rattle.squares.specs.declared.square.Numbered.the-variants as numbered
-use Rattle.squares.specs.declared.refusal.Refusal.the-variants.{NoSide}
+use Rattle.squares.specs.Refusals.{refusal}
 use Rattle.positions.specs.Acceptance.{fromPartsOf}
 use Rattle.scores.specs.Score.{evaluateOf}
 use Rattle.scores.specs.declared.eval.Classical.{Classical}
@@ -24,7 +24,7 @@ use Rattle.positions.specs.declared.position.Position.{Position}
 use Rattle.movegen.specs.Lists.{legalMovesOf, afterOf}
 use Rattle.movegen.specs.Counts.{perftOf, divideOf}
 use Rattle.texts.specs.Bytes.{bytes}
-use Rattle.wording.specs.Output.{decimal, refusal, bad}
+use Rattle.wording.specs.Output.{decimal, refusalText, bad}
 use Rattle.wording.specs.Words.{sameText, firstWord, afterWord, wordAt, blanksIn}
 use Rattle.wording.specs.Numbers.{unsignedOf, setOf, signedOf}
 use Rattle.requests.specs.Heard.{positionOf, listedMoveOf, squareOf}
@@ -54,12 +54,12 @@ use Rattle.wording.specs.declared.numbers.Signed.the-variants as signed
 -- ---- what goes on with what was read
 abbrev pub onHeard : Heard → (Position → List ℕ) → List ℕ
 onHeard (heard.Position p) k = k p
-onHeard (heard.Refused e) k = refusal e
+onHeard (heard.Refused e) k = refusalText e
 onHeard heard.Bad k = bad
 
 abbrev pub onMeant : Meant → (Move → List ℕ) → List ℕ
 onMeant (meant.Move m) k = k m
-onMeant (meant.Refused e) k = refusal e
+onMeant (meant.Refused e) k = refusalText e
 onMeant meant.Bad k = bad
 
 abbrev pub onParsed : Parsed → (ℕ → List ℕ) → List ℕ
@@ -139,7 +139,7 @@ numberWord (numbered.Refused e) = []
 abbrev pub placingAnswer : Placing → List ℕ
 placingAnswer (placing.Square n) =
     ok (decimal n ++ (code " " ∷ (numberWord (ofSquare n (bitOf n)) ++ (code " " ∷ numberWord (ofSquare n (rowOf (bitOf n)))))))
-placingAnswer (placing.Refused e) = refusal e
+placingAnswer (placing.Refused e) = refusalText e
 placingAnswer placing.Bad = bad
 
 unfoldable pub squareAnswer : List ℕ → List ℕ
@@ -147,9 +147,9 @@ squareAnswer arg = placingAnswer (squareOf arg)
 
 -- parts: three sets and the side, W or B alone
 unfoldable pub sideOf : List ℕ → Sided
-sideOf [] = sided.Refused NoSide
+sideOf [] = sided.Refused (refusal 2)
 sideOf (c ∷ []) = colorFromCharOf c
-sideOf (c ∷ (d ∷ s)) = sided.Refused NoSide
+sideOf (c ∷ (d ∷ s)) = sided.Refused (refusal 2)
 
 unfoldable pub setsAnswer : List ℕ → List ℕ
 setsAnswer arg =

@@ -9,7 +9,7 @@ use Rattle.squares.specs.Refusals.{numberOf, squareOf}
 use Rattle.squares.specs.Squares.{single}
 use Rattle.squares.specs.declared.piece.Color.the-variants.{White, Black}
 use Rattle.squares.specs.declared.refusal.Refusal.{Refusal}
-use Rattle.squares.specs.declared.refusal.Refusal.the-variants.{SeveralFit, TooManyMoves}
+use Rattle.squares.specs.Refusals.{refusal}
 use Rattle.squares.specs.declared.refusal.Answer.the-variants as answer
 use Rattle.positions.specs.Boards.{Board, board}
 use Rattle.positions.specs.Hash.{positionOf, initialOf}
@@ -132,7 +132,7 @@ p2-p5 =
 abbrev pub p6-p9 : List Row
 p6-p9 =
     moves "W:W28:B22,23" 256 (these (takes 28 17 (22 ∷ []) ∷ takes 28 19 (23 ∷ []) ∷ []))
-    ∷ moves "W:W28:B22,23" 1 (refusedList TooManyMoves)
+    ∷ moves "W:W28:B22,23" 1 (refusedList (refusal 17))
     ∷ moves "W:W28:B13,22,23" 256 (these (takes 28 8 (13 ∷ 23 ∷ []) ∷ []))
     ∷ moves "W:W11:B7,8" 256 (these (takes 11 13 (7 ∷ 8 ∷ []) ∷ []))
     ∷ after "W:W11:B7,8" (takes 11 13 (7 ∷ 8 ∷ [])) (at (board (single 13) 0 0 Black))
@@ -143,7 +143,7 @@ abbrev pub p10-p11 : List Row
 p10-p11 =
     moves "W:WK46:B37" 256 (these (takes 46 32 (37 ∷ []) ∷ takes 46 28 (37 ∷ []) ∷ takes 46 23 (37 ∷ []) ∷ takes 46 19 (37 ∷ []) ∷ takes 46 14 (37 ∷ []) ∷ takes 46 10 (37 ∷ []) ∷ takes 46 5 (37 ∷ []) ∷ []))
     ∷ moves "W:WK46:B12,22,27,37" 256 (these (takes 46 8 (12 ∷ 27 ∷ 37 ∷ []) ∷ takes 46 3 (12 ∷ 27 ∷ 37 ∷ []) ∷ takes 46 8 (12 ∷ 22 ∷ 37 ∷ []) ∷ takes 46 3 (12 ∷ 22 ∷ 37 ∷ []) ∷ []))
-    ∷ means "W:WK46:B12,22,27,37" "46x8" (found.Refused SeveralFit)
+    ∷ means "W:WK46:B12,22,27,37" "46x8" (found.Refused (refusal 16))
     ∷ means "W:WK46:B12,22,27,37" "46x8x12x27x37" (found.Move (takes 46 8 (12 ∷ 27 ∷ 37 ∷ []))) ∷ []
 
 abbrev pub p12 : List Row

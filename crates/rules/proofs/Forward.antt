@@ -14,7 +14,7 @@ use Rattle.squares.specs.Squares.{onBoard, squareAtBit, rowOf}
 use Rattle.squares.proofs.Numbers.{square-range, bit-square}
 use Rattle.squares.proofs.Shifts.{up, moved, next-row}
 use Rattle.positions.specs.Boards.{Board, sameColor}
-use Rattle.positions.specs.Measure.{rowsBefore}
+use Rattle.positions.proofs.Measure.{rowsBefore}
 use Rattle.rules.specs.Rules.{BitMove, forward, Quiet, manStep, kingFlight, Fair}
 use Rattle.rules.proofs.Boards.{empty-on, of-king, piece-on}
 

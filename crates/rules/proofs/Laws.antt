@@ -4,7 +4,7 @@ use Prim.Native.Nat.{ℕ, _+_, _≤_}
 use native.Mathlib.Omega.{arith}
 use mathlib.Core.Bool.{true, false, not, true≢false, false≢true}
 use mathlib.Core.List.{[], map, foldl}
-use mathlib.Core.Logic.{_↔_}
+use mathlib.Core.Logic.{inl, inr, _↔_}
 use borrow.Author.Tests.{eq-eqb, ne-eqb}
 use Rattle.squares.specs.declared.piece.PieceKind.{PieceKind}
 use Rattle.squares.specs.declared.piece.PieceKind.the-variants.{King}
@@ -15,23 +15,25 @@ use Rattle.squares.proofs.Numbers.{bit-back}
 use Rattle.squares.proofs.Sizes.{size-zero}
 use Rattle.positions.specs.Acceptance.{Accepted}
 use Rattle.positions.specs.Boards.{Board, pieces}
-use Rattle.positions.specs.Measure.{rowsBefore}
+use Rattle.positions.proofs.Measure.{rowsBefore}
 use Rattle.positions.specs.Moves.{isCapture, squaresOf, same}
 use Rattle.positions.specs.Successor.{Playable}
-use Rattle.rules.specs.Lists.{times}
+use Rattle.rules.specs.Lists.{some, times}
 use Rattle.rules.specs.Ordered.{sequences, count, captures, quiets, sameBits, legal, listed}
-use Rattle.rules.specs.Rules.{BitMove, bitMove, numbered, Sequence, Capture, AtMost, NoJump, Quiet, BitLegal, capture, quiet, Legal, Fair}
+use Rattle.rules.specs.Rules.{BitMove, bitMove, numbered, Sequence, Capture, AtMost, Open, NoJump, Quiet, BitLegal, capture, quiet, Legal, Fair}
 use Rattle.rules.proofs.Agreement.{bits-none}
-use Rattle.rules.proofs.Captures.{open-of, shut-law}
+use Rattle.rules.proofs.Captures.{opened, of-open, open-of, of-captures, in-captures, shut-law}
 use Rattle.rules.proofs.Fold.{Found, note}
 use Rattle.rules.proofs.Forward.{quiet-row}
+use Rattle.rules.proofs.Lists.{of-some, some-in}
 use Rattle.rules.proofs.Numbered.{legal-distinct, member-sound, member-complete}
 use Rattle.rules.proofs.Paths.{capture-some}
 use Rattle.rules.proofs.Places.{Goes, legal-goes, from-on, to-on, goes-playable, goes-squares}
-use Rattle.rules.proofs.Quiets.{quiet-none}
+use Rattle.rules.proofs.Quiets.{quiet-none, of-quiets, in-quiets}
 use Rattle.rules.proofs.Same.{same-refl, same-true, listed-member}
 use Rattle.rules.proofs.Shortcut.{kingTried, king-law}
 use Rattle.rules.proofs.Times.{times-most, times-some}
+use Rattle.rules.proofs.Tree.{Reached}
 
 -- a position that refusal 12 lets pass is accepted, and an accepted board is fair
 pub fair-of-accepted : (b : Board) → Accepted b → Fair b
@@ -138,6 +140,18 @@ module _ (b : Board) (fair : Fair b) where
   -- no jump is open exactly where the list of captures is empty
   pub no-jump : (captures b ≡ []) ↔ NoJump b
   no-jump = shut-law b fair
+
+  -- the list of captures has an entry exactly where a jump is open
+  pub some-open : (some (captures b) ≡ true) ↔ Open b
+  some-open = ((λ e. let r = of-some (captures b) e in open-of (r .0) (of-captures b fair (r .0) (r .1))), (λ o. go (in-captures b fair (opened o) (of-open o))))
+    where
+      go : {w : BitMove} → Reached count w (captures b) → some (captures b) ≡ true
+      go (inl k) = some-in (captures b) k
+      go (inr k) = some-in (captures b) (k .1)
+
+  -- the list of quiet moves has one exactly where there is a quiet move
+  pub some-quiet : (some (quiets b) ≡ true) ↔ ((w : BitMove) × Quiet b w)
+  some-quiet = ((λ e. let r = of-some (quiets b) e in (r .0, of-quiets b fair (r .0) (r .1))), (λ q. some-in (quiets b) (in-quiets b fair (q .1))))
 
   -- ---- the search of the code: the king's shortcut, for whatever was found before, with room for any number
   pub king-shortcut : (i : ℕ) → has (pieces b King) i ≡ true → (s : Found BitMove)

@@ -1,6 +1,6 @@
 -- Membership in a list made of lists, of images, of the entries that pass.
 use mathlib.Core.Path.{_≡_, refl, sym, ap, _∙_, subst}
-use mathlib.Core.Bool.{Bool, true, false, cond, _||_, true≢false}
+use mathlib.Core.Bool.{Bool, true, false, cond, _||_, true≢false, false≢true}
 use mathlib.Core.List.{List, [], _∷_, _++_, map, append-assoc, List·Memᴰ as Member, List·Memᴰ·head as head, List·Memᴰ·tail as tail, List·Memᴰ·not-nil as not-nil, List·Memᴰ·cases-cons as cases-cons, Memᴰ·append-left as in-left, Memᴰ·append-right as in-right, List·Memᴰ·append-cases as in-cases}
 use mathlib.Core.Logic.{_⊎_, inl, inr}
 use Rattle.rules.specs.Lists.{concatMap, keep, some}
@@ -20,6 +20,11 @@ module _ {A : Type 0} where
   unfolding some
   some-in [] m = absurd (not-nil m)
   some-in (y ∷ l) m = refl
+
+  pub of-some : (l : List A) → some l ≡ true → (x : A) × Member x l
+  unfolding some
+  of-some [] e = absurd (false≢true e)
+  of-some (x ∷ xs) e = (x, head refl)
 
   pub some-append : (xs ys : List A) → some (xs ++ ys) ≡ (some xs || some ys)
   unfolding some

@@ -13,7 +13,7 @@ use Rattle.squares.specs.Folds.{sumOver}
 use Rattle.squares.specs.Pieces.{other}
 use Rattle.squares.specs.declared.piece.Color.{Color}
 use Rattle.squares.specs.declared.piece.Color.the-variants.{White, Black}
-use Rattle.squares.specs.declared.refusal.Refusal.the-variants.{BeyondLimit, BadPosition}
+use Rattle.squares.specs.Refusals.{refusal}
 use Rattle.positions.specs.Boards.{Board, boardOf, colored, menOf, kingsOf}
 use Rattle.positions.specs.Acceptance.{sound}
 use Rattle.positions.specs.declared.position.Position.{Position}
@@ -100,8 +100,8 @@ weightsFit w =
 unfoldable pub evaluateOf : Classical → Position → Scored
 evaluateOf w p =
     cond (sound p)
-    (cond (weightsFit w) (scored.Score (score w (boardOf p))) (scored.Refused BeyondLimit))
-    (scored.Refused BadPosition)
+    (cond (weightsFit w) (scored.Score (score w (boardOf p))) (scored.Refused (refusal 10)))
+    (scored.Refused (refusal 12))
 
 -- with the default weights every score lies from -15,100 to 15,100
 abbrev pub defaultLimit : ℕ

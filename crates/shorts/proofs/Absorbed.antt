@@ -17,9 +17,9 @@ use Rattle.positions.specs.declared.moves.Move.{Move}
 use Rattle.positions.specs.Moves.{move, same}
 use Rattle.captures.specs.declared.movegen.Captures.{Captures}
 use Rattle.captures.specs.Lists.{noMoves, entries, listed, pushOf}
-use Rattle.captures.specs.Record.{Ending, listIn, holding, anewBy, moreBy, addOf, noteOf, Kept}
+use Rattle.captures.specs.Record.{Ending, listIn, holding, anewBy, moreBy, addOf, noteOf}
 use Rattle.captures.proofs.Listed.{listed-snoc}
-use Rattle.captures.proofs.Recorded.{kept-refl, kept-trans, added-anew, added-stored, added-marked, record-is}
+use Rattle.captures.proofs.Recorded.{Kept, kept-refl, kept-trans, added-anew, added-stored, added-marked, record-is}
 use Rattle.shorts.specs.declared.short.Short.{Short}
 use Rattle.shorts.specs.Noted.{few, shortOf, moveFrom, alone, appended, marked, noteShort}
 

@@ -16,3 +16,4 @@ pub mod OneBit
 pub mod Keys
 pub mod Characters
 pub mod Product
+pub mod Refusals

@@ -12,7 +12,7 @@ use Rattle.squares.specs.declared.piece.Sided.{Sided}
 use Rattle.squares.specs.declared.piece.Sided.the-variants as sided
 use Rattle.squares.specs.declared.piece.Known.{Known}
 use Rattle.squares.specs.declared.piece.Known.the-variants as known
-use Rattle.squares.specs.declared.refusal.Refusal.the-variants.{NoSide, BadHubByte}
+use Rattle.squares.specs.Refusals.{refusal}
 
 -- the opposite colour
 abbrev pub other : Color → Color
@@ -26,7 +26,7 @@ colorChar Black = code "B"
 unfoldable pub colorFromCharOf : ℕ → Sided
 colorFromCharOf c =
     cond (eqb c (code "W")) (sided.Side White)
-    (cond (eqb c (code "B")) (sided.Side Black) (sided.Refused NoSide))
+    (cond (eqb c (code "B")) (sided.Side Black) (sided.Refused (refusal 2)))
 
 abbrev pub charOf : Color → PieceKind → ℕ
 charOf White Man = code "w"
@@ -45,4 +45,4 @@ pieceFromCharOf c =
     cond (eqb c (code "w")) (knownAs White Man)
     (cond (eqb c (code "b")) (knownAs Black Man)
     (cond (eqb c (code "W")) (knownAs White King)
-    (cond (eqb c (code "B")) (knownAs Black King) (known.Refused BadHubByte))))
+    (cond (eqb c (code "B")) (knownAs Black King) (known.Refused (refusal 5)))))

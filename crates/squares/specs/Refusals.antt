@@ -1,5 +1,7 @@
 -- The number and the square that each refusal comes back with (document 01, "Turned back because of the input", "of the state").
 use Prim.Native.Nat.{ℕ}
+use mathlib.Core.Bool.{cond}
+use lib.Dec.{eqb}
 use Rattle.squares.specs.declared.refusal.Refusal.{Refusal}
 use Rattle.squares.specs.declared.refusal.Refusal.the-variants.{TextTooLong, NoSide, NoColor, BadSquare, BadHubByte, NotFifty, Overlap, ManOnPromotionRow, BadMoveText, BeyondLimit, NoSuchSquare, BadPosition, BadGame, GameOver, NoMoveFits, SeveralFit, TooManyMoves, FenTooLong, SpaceTooShort}
 use Rattle.squares.specs.declared.refusal.Answer.{Answer}
@@ -52,3 +54,29 @@ squareOf SpaceTooShort = 0
 abbrev pub answerNumberOf : Answer → ℕ
 answerNumberOf Done = 0
 answerNumberOf (Refused e) = numberOf e
+
+-- the refusal with this number; 7 and 8 come with a square
+abbrev pub refusalAt : ℕ → ℕ → Refusal
+refusalAt n square =
+    cond (eqb n 1) TextTooLong
+    (cond (eqb n 2) NoSide
+    (cond (eqb n 3) NoColor
+    (cond (eqb n 4) BadSquare
+    (cond (eqb n 5) BadHubByte
+    (cond (eqb n 6) NotFifty
+    (cond (eqb n 7) (Overlap square)
+    (cond (eqb n 8) (ManOnPromotionRow square)
+    (cond (eqb n 9) BadMoveText
+    (cond (eqb n 10) BeyondLimit
+    (cond (eqb n 11) NoSuchSquare
+    (cond (eqb n 12) BadPosition
+    (cond (eqb n 13) BadGame
+    (cond (eqb n 14) GameOver
+    (cond (eqb n 15) NoMoveFits
+    (cond (eqb n 16) SeveralFit
+    (cond (eqb n 17) TooManyMoves
+    (cond (eqb n 18) FenTooLong
+    SpaceTooShort)))))))))))))))))
+
+abbrev pub refusal : ℕ → Refusal
+refusal n = refusalAt n 0

@@ -10,7 +10,7 @@ use Rattle.squares.specs.declared.square.Numbered.{Numbered}
 use Rattle.squares.specs.declared.square.Numbered.the-variants as numbered
 use Rattle.squares.specs.declared.piece.Color.{Color}
 use Rattle.squares.specs.declared.piece.Color.the-variants.{White, Black}
-use Rattle.squares.specs.declared.refusal.Refusal.the-variants.{NoSuchSquare}
+use Rattle.squares.specs.Refusals.{refusal}
 
 -- n is the number of a square
 unfoldable pub isSquare : ℕ → Bool
@@ -52,7 +52,7 @@ fileOf i = 2 * ((squareAtBit i - 1) % 5) + (1 - rowOf i % 2)
 
 -- x, where n is a square; any other number is none, refusal 11
 unfoldable pub ofSquare : ℕ → ℕ → Numbered
-ofSquare n x = cond (isSquare n) (numbered.Number x) (numbered.Refused NoSuchSquare)
+ofSquare n x = cond (isSquare n) (numbered.Number x) (numbered.Refused (refusal 11))
 
 -- the set of square n alone; empty where n is no square
 unfoldable pub single : ℕ → ℕ
@@ -76,4 +76,4 @@ squaresOnly s = eqb (without s all) 0
 
 -- the set of these bits; refusal 11 where one of them is no square
 unfoldable pub fromBitsOf : ℕ → Gathered
-fromBitsOf s = cond (squaresOnly s) (gathered.Set s) (gathered.Refused NoSuchSquare)
+fromBitsOf s = cond (squaresOnly s) (gathered.Set s) (gathered.Refused (refusal 11))

@@ -9,7 +9,7 @@ use lib.Dec.{ltb, leb, eqb}
 use Rattle.squares.specs.Squares.{isSquare}
 use Rattle.squares.specs.declared.square.Numbered.{Numbered}
 use Rattle.squares.specs.declared.square.Numbered.the-variants as numbered
-use Rattle.squares.specs.declared.refusal.Refusal.the-variants.{TextTooLong, BadSquare}
+use Rattle.squares.specs.Refusals.{refusal}
 
 -- the bytes of an ASCII text
 abbrev pub bytes : String → List ℕ
@@ -102,17 +102,17 @@ strip c (b ∷ s) = cond (eqb b c) s (b ∷ s)
 
 -- ---- the number of a square
 unfoldable pub inRange : ℕ → Numbered
-inRange v = cond (isSquare v) (numbered.Number v) (numbered.Refused BadSquare)
+inRange v = cond (isSquare v) (numbered.Number v) (numbered.Refused (refusal 4))
 
 -- the number v followed by digits
 unfoldable pub digitsFrom : ℕ → List ℕ → Numbered
 digitsFrom v [] = inRange v
 digitsFrom v (b ∷ s) =
-    cond (leb (code "0") b && leb b (code "9")) (digitsFrom (v * 10 + (b - code "0")) s) (numbered.Refused BadSquare)
+    cond (leb (code "0") b && leb b (code "9")) (digitsFrom (v * 10 + (b - code "0")) s) (numbered.Refused (refusal 4))
 
 -- one digit or more, leading zeros allowed
 unfoldable pub number : List ℕ → Numbered
-number [] = numbered.Refused BadSquare
+number [] = numbered.Refused (refusal 4)
 number (b ∷ s) = digitsFrom 0 (b ∷ s)
 
 -- a square's text: an optional +, then digits, value 1 to 50
@@ -121,7 +121,7 @@ readSquare s = number (strip (code "+") s)
 
 -- the same as an entry: 1, then 4
 unfoldable pub fromStrOf : List ℕ → Numbered
-fromStrOf s = cond (readable s) (readSquare s) (numbered.Refused TextTooLong)
+fromStrOf s = cond (readable s) (readSquare s) (numbered.Refused (refusal 1))
 
 -- a number below 100 in decimal
 unfoldable pub digits : ℕ → List ℕ

@@ -15,7 +15,7 @@ use Rattle.squares.specs.declared.piece.Sided.the-variants as sided
 use Rattle.squares.specs.declared.square.Numbered.{Numbered}
 use Rattle.squares.specs.declared.square.Numbered.the-variants as numbered
 use Rattle.squares.specs.declared.refusal.Refusal.{Refusal}
-use Rattle.squares.specs.declared.refusal.Refusal.the-variants.{TextTooLong, NoSide, NoColor, BadPosition, FenTooLong}
+use Rattle.squares.specs.Refusals.{refusal}
 use Rattle.positions.specs.Boards.{Board, boardOf}
 use Rattle.positions.specs.Acceptance.{sound}
 use Rattle.positions.specs.declared.position.Position.{Position}
@@ -61,8 +61,8 @@ unfoldable pub fenOf : Position → List ℕ → Wrote
 fenOf p out =
     let t = fenText (boardOf p) in
     cond (sound p)
-    (cond (leb (length t) 200) (emitOf t out) (wrote.Refused FenTooLong))
-    (wrote.Refused BadPosition)
+    (cond (leb (length t) 200) (emitOf t out) (wrote.Refused (refusal 18)))
+    (wrote.Refused (refusal 12))
 
 -- the lent bytes afterwards
 unfoldable pub fenLent : Position → List ℕ → List ℕ
@@ -83,7 +83,7 @@ atColon = is (code ":")
 unfoldable pub fenColorOf : ℕ → Sided
 fenColorOf c =
     cond (eqb c (code "W") || eqb c (code "w")) (sided.Side White)
-    (cond (eqb c (code "B") || eqb c (code "b")) (sided.Side Black) (sided.Refused NoSide))
+    (cond (eqb c (code "B") || eqb c (code "b")) (sided.Side Black) (sided.Refused (refusal 2)))
 
 -- goes on with the colour, or is refused e
 abbrev pub onColor : Refusal → Sided → (Color → Reading) → Reading
@@ -119,21 +119,21 @@ itemsOf c = readEach (itemOf c)
 
 -- a trimmed field: its colour, then items split at commas
 unfoldable pub fieldOf : Parts → List ℕ → Reading
-fieldOf p [] = reading.Refused NoColor
-fieldOf p (x ∷ s) = onColor NoColor (fenColorOf x) (λ c. itemsOf c p (splitOn atComma s))
+fieldOf p [] = reading.Refused (refusal 3)
+fieldOf p (x ∷ s) = onColor (refusal 3) (fenColorOf x) (λ c. itemsOf c p (splitOn atComma s))
 
 abbrev pub fieldsOf : Parts → List (List ℕ) → Reading
 fieldsOf = readEach fieldOf
 
 -- a trimmed first field: the side alone
 unfoldable pub sideOf : List ℕ → Sided
-sideOf [] = sided.Refused NoSide
+sideOf [] = sided.Refused (refusal 2)
 sideOf (x ∷ []) = fenColorOf x
-sideOf (x ∷ (y ∷ s)) = sided.Refused NoSide
+sideOf (x ∷ (y ∷ s)) = sided.Refused (refusal 2)
 
 unfoldable pub fenFields : List (List ℕ) → Reading
-fenFields [] = reading.Refused NoSide
-fenFields (f ∷ fs) = onColor NoSide (sideOf (trim blank f)) (λ c. fieldsOf (begun c) fs)
+fenFields [] = reading.Refused (refusal 2)
+fenFields (f ∷ fs) = onColor (refusal 2) (sideOf (trim blank f)) (λ c. fieldsOf (begun c) fs)
 
 -- blanks are trimmed at both ends, then every quote at both ends, then every dot at the end
 unfoldable pub body : List ℕ → List ℕ
@@ -144,4 +144,4 @@ fenParts s = fenFields (splitOn atColon (body s))
 
 -- 1, then 2 to 4 in reading order, 7, 8
 unfoldable pub fromFenOf : List ℕ → Placed
-fromFenOf s = cond (readable s) (placing (fenParts s)) (placed.Refused TextTooLong)
+fromFenOf s = cond (readable s) (placing (fenParts s)) (placed.Refused (refusal 1))

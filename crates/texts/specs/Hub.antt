@@ -10,7 +10,7 @@ use Rattle.squares.specs.declared.piece.PieceKind.{PieceKind}
 use Rattle.squares.specs.declared.piece.PieceKind.the-variants.{Man, King}
 use Rattle.squares.specs.declared.piece.Known.{Known}
 use Rattle.squares.specs.declared.piece.Known.the-variants as known
-use Rattle.squares.specs.declared.refusal.Refusal.the-variants.{TextTooLong, NoSide, NotFifty, BadPosition}
+use Rattle.squares.specs.Refusals.{refusal}
 use Rattle.squares.specs.declared.piece.Color.the-variants.{White, Black}
 use Rattle.positions.specs.Boards.{Board, boardOf, standingOf, pieceAtOf}
 use Rattle.positions.specs.Acceptance.{sound}
@@ -53,7 +53,7 @@ hubText b = colorChar (b .side) ∷ map (hubChar b) (squaresFrom 50 1)
 
 -- the answer: 12, then 19
 unfoldable pub hubOf : Position → List ℕ → Wrote
-hubOf p out = cond (sound p) (emitOf (hubText (boardOf p)) out) (wrote.Refused BadPosition)
+hubOf p out = cond (sound p) (emitOf (hubText (boardOf p)) out) (wrote.Refused (refusal 12))
 
 -- the lent bytes afterwards
 unfoldable pub hubLent : Position → List ℕ → List ℕ
@@ -76,14 +76,14 @@ hubByteOf n x p = cond (eqb x (code "e")) (reading.Parts p) (knownOn n p (pieceF
 -- k squares from n on, and nothing after them
 unfoldable pub hubFrom : ℕ → ℕ → Parts → List ℕ → Reading
 hubFrom zero n p [] = reading.Parts p
-hubFrom zero n p (x ∷ s) = reading.Refused NotFifty
-hubFrom (suc k) n p [] = reading.Refused NotFifty
+hubFrom zero n p (x ∷ s) = reading.Refused (refusal 6)
+hubFrom (suc k) n p [] = reading.Refused (refusal 6)
 hubFrom (suc k) n p (x ∷ s) = andThen (hubByteOf n x p) (λ q. hubFrom k (n + 1) q s)
 
 unfoldable pub hubParts : List ℕ → Reading
-hubParts [] = reading.Refused NoSide
-hubParts (x ∷ s) = onColor NoSide (colorFromCharOf x) (λ c. hubFrom 50 1 (begun c) s)
+hubParts [] = reading.Refused (refusal 2)
+hubParts (x ∷ s) = onColor (refusal 2) (colorFromCharOf x) (λ c. hubFrom 50 1 (begun c) s)
 
 -- 1, 2, 5 (among the first 50 squares), 6, 7, 8
 unfoldable pub fromHubOf : List ℕ → Placed
-fromHubOf s = cond (readable s) (placing (hubParts s)) (placed.Refused TextTooLong)
+fromHubOf s = cond (readable s) (placing (hubParts s)) (placed.Refused (refusal 1))

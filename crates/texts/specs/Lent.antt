@@ -5,13 +5,13 @@ use mathlib.Core.List.{List, _++_}
 use mathlib.Core.Bool.{cond}
 use lib.ListN.{length, take, drop}
 use lib.Dec.{leb}
-use Rattle.squares.specs.declared.refusal.Refusal.the-variants.{SpaceTooShort}
+use Rattle.squares.specs.Refusals.{refusal}
 use Rattle.texts.specs.declared.bytes.Wrote.{Wrote}
 use Rattle.texts.specs.declared.bytes.Wrote.the-variants as wrote
 
 -- the answer for the text t and the lent bytes out: the length, or 19
 unfoldable pub emitOf : List ℕ → List ℕ → Wrote
-emitOf t out = cond (leb (length t) (length out)) (wrote.Length (length t)) (wrote.Refused SpaceTooShort)
+emitOf t out = cond (leb (length t) (length out)) (wrote.Length (length t)) (wrote.Refused (refusal 19))
 
 -- the lent bytes afterwards
 unfoldable pub emitted : List ℕ → List ℕ → List ℕ

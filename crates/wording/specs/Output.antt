@@ -33,8 +33,8 @@ signed (pos n) = decimal n
 signed (negsuc n) = code "-" ∷ decimal (suc n)
 
 -- ---- answers that say no
-unfoldable pub refusal : Refusal → List ℕ
-refusal e = bytes "err " ++ (decimal (numberOf e) ++ (code " " ∷ decimal (squareOf e)))
+unfoldable pub refusalText : Refusal → List ℕ
+refusalText e = bytes "err " ++ (decimal (numberOf e) ++ (code " " ∷ decimal (squareOf e)))
 
 unfoldable pub bad : List ℕ
 bad = bytes "bad request"

@@ -2,7 +2,7 @@
 use squares::refusal::Refusal;
 pub use texts::bytes::put_byte;
 ghost use Rattle.texts.specs.Lent.{Adds};
-ghost use Rattle.wording.specs.Output.{decimal, hex, hash, signed, refusal, bad};
+ghost use Rattle.wording.specs.Output.{decimal, hex, hash, signed, refusalText, bad};
 
 pub fn put(out: &mut [u8], at: usize, s: &[u8]) -> usize
     ensures { λ r. ⌜ Adds (now (s .entry)) (now (out .entry)) at (now (out .exit)) r ⌝ }
@@ -55,7 +55,7 @@ pub fn put_hash(out: &mut [u8], at: usize, n: u64) -> usize
 
 // `err`, the number of the refusal and its square.
 pub fn put_refusal(out: &mut [u8], at: usize, e: Refusal) -> usize
-    ensures { λ r. ⌜ Adds (refusal e) (now (out .entry)) at (now (out .exit)) r ⌝ }
+    ensures { λ r. ⌜ Adds (refusalText e) (now (out .entry)) at (now (out .exit)) r ⌝ }
 {
     let k = put(out, at, b"err ");
     let l = put_decimal(out, k, e.number() as u64);

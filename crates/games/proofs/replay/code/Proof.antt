@@ -1,5 +1,5 @@
 -- No refusal has a number above 19.
-use Rattle.games.proofs.Runs.{number-fits}
+use Rattle.squares.proofs.Refusals.{answer-fits}
 use borrow.Author.Needs.{needs}
 use native.Mathlib.Omega.{arith}
 use Rattle.games.proofs.replay.code.Statement.{statement}
@@ -9,7 +9,7 @@ number-requires : tie.Need-number-requires
 number-requires c κs = search needs
 
 cast-result : tie.Need-cast-result
-cast-result c = omega (arith, number-fits (c .before .args .a), c .number .ensures)
+cast-result c = omega (arith, answer-fits (c .before .args .a), c .number .ensures)
 
 returns : tie.Need-returns
 returns c = search needs

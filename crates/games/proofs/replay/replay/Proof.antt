@@ -2,11 +2,12 @@
 use mathlib.Core.Path.{_≡_, sym, ap, _∙_}
 use borrow.Author.Tests.{eq-eqb, ne-eqb, le-leb, lt-leb}
 use Rattle.squares.specs.declared.refusal.Refusal.the-variants.{NoSuchSquare, BadPosition, SpaceTooShort}
+use Rattle.squares.proofs.Refusals.{not-done}
 use Rattle.games.specs.Play.{freshOf, playOf}
 use Rattle.games.specs.Demand3.{gameAfter}
 use Rattle.games.specs.Replay.{movesIn, replayOf, writtenOf}
 use Rattle.games.specs.declared.game.Begun.{Begun}
-use Rattle.games.proofs.Replays.{demand-held, not-done}
+use Rattle.games.proofs.Replays.{demand-held}
 use borrow.Author.Needs.{needs}
 use Rattle.games.proofs.replay.replay.Statement.{statement}
 use Rattle.games.proofs.replay.replay.Tie as tie

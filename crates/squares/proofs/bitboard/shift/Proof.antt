@@ -53,10 +53,14 @@ module _ (s : ℕ) where
   unfolding shifted
   down5 = four (λ (d : ℕ). entry d ≡ 5 → (s * 2 ^ 5) % 2 ^ 64 ≡ shifted (directionAt d) s) (λ e. absurd (omega arith)) (λ e. absurd (omega arith)) (λ e. refl) (λ e. absurd (omega arith))
 
-  down6 : (d : ℕ) → d < 4 → (entry d ≡ 4294967290 → ⊥) → (entry d ≡ 4294967291 → ⊥) → (entry d ≡ 5 → ⊥) → (s * 2 ^ 6) % 2 ^ 64 ≡ shifted (directionAt d) s
+  down6 : (d : ℕ) → d < 4 → entry d ≡ 6 → (s * 2 ^ 6) % 2 ^ 64 ≡ shifted (directionAt d) s
   unfolding shifted
-  down6 = four (λ (d : ℕ). (entry d ≡ 4294967290 → ⊥) → (entry d ≡ 4294967291 → ⊥) → (entry d ≡ 5 → ⊥) → (s * 2 ^ 6) % 2 ^ 64 ≡ shifted (directionAt d) s)
-      (λ e f g. absurd (e refl)) (λ e f g. absurd (f refl)) (λ e f g. absurd (g refl)) (λ e f g. refl)
+  down6 = four (λ (d : ℕ). entry d ≡ 6 → (s * 2 ^ 6) % 2 ^ 64 ≡ shifted (directionAt d) s) (λ e. absurd (omega arith)) (λ e. absurd (omega arith)) (λ e. absurd (omega arith)) (λ e. refl)
+
+-- there is no other entry
+no-other : (d : ℕ) → d < 4 → (entry d ≡ 4294967290 → ⊥) → (entry d ≡ 4294967291 → ⊥) → (entry d ≡ 5 → ⊥) → (entry d ≡ 6 → ⊥) → ⊥
+no-other = four (λ (d : ℕ). (entry d ≡ 4294967290 → ⊥) → (entry d ≡ 4294967291 → ⊥) → (entry d ≡ 5 → ⊥) → (entry d ≡ 6 → ⊥) → ⊥)
+    (λ e f g h. e refl) (λ e f g h. f refl) (λ e f g h. g refl) (λ e f g h. h refl)
 
 mul-step : tie.Need-mul-step
 mul-step c = record { fits = omega (arith, index-lt (c .before)) }
@@ -82,9 +86,13 @@ returns-3 c =
 returns-4 : tie.Need-returns-4
 returns-4 c =
     let j = c .before .before .before in
-    rw (← same-direction j)
-    (down6 (j .before .args .set) (j .if1 .at) (index-lt j) (c .match .rest .0 .0 .1) (c .match .rest .0 .1) (c .match .rest .1))
+    rw (← same-direction j) (down6 (j .before .args .set) (j .if1 .at) (index-lt j) (c .match .keys4))
+
+returns-5 : tie.Need-returns-5
+returns-5 c =
+    let j = c .before .before .before in
+    absurd (no-other (j .if1 .at) (index-lt j) (c .match .rest .0 .0 .0 .1) (c .match .rest .0 .0 .1) (c .match .rest .0 .1) (c .match .rest .1))
 
 pub shift-spec : {M : Type 1} → statement M
 shift-spec =
-    tie.close (tie.spec mul-step array-copy-out-step returns returns-2 returns-3 returns-4)
+    tie.close (tie.spec mul-step array-copy-out-step returns returns-2 returns-3 returns-4 returns-5)

@@ -1,7 +1,7 @@
 -- Piece by piece.
 use mathlib.Core.Path.{ap}
 use Rattle.texts.proofs.Pieces as laws
-use Rattle.wording.specs.Output.{refusal, decimal}
+use Rattle.wording.specs.Output.{refusalText, decimal}
 use borrow.Author.Needs.{needs}
 use Rattle.wording.proofs.output.put_refusal.Statement.{statement}
 use Rattle.wording.proofs.output.put_refusal.Tie as tie
@@ -37,7 +37,7 @@ same-length : tie.Need-same-length
 same-length c = search needs
 
 returns : tie.Need-returns
-unfolding refusal
+unfolding refusalText
 returns c =
     let e = c .before .before .before .before .before .before .before .before .before .before .before .before .number in
     let f = c .before .before .before .square in

@@ -1,7 +1,7 @@
 -- Either kind.
 use borrow.Author.Needs.{needs}
-use Rattle.positions.proofs.playing.mover_key.Statement.{statement}
-use Rattle.positions.proofs.playing.mover_key.Tie as tie
+use Rattle.movegen.proofs.playing.mover_key.Statement.{statement}
+use Rattle.movegen.proofs.playing.mover_key.Tie as tie
 
 piece-key-requires : tie.Need-piece-key-requires
 piece-key-requires c κs = search needs

@@ -7,13 +7,13 @@ use Rattle.squares.specs.Squares.{single}
 use Rattle.squares.specs.Pieces.{other}
 use Rattle.squares.specs.Keys.{sideKey}
 use Rattle.squares.specs.declared.piece.Color.{Color}
 use Rattle.positions.specs.Boards.{boardOf, colored}
 use Rattle.positions.specs.Successor.{takenKey, movedKey, kingsPlayed, positionAfter, playOf}
 use Rattle.positions.specs.declared.moves.Move.{Move}
 use Rattle.positions.specs.declared.position.Position.{Position}
 use borrow.Author.Needs.{needs}
-use Rattle.positions.proofs.position.Position.play.Statement.{statement}
-use Rattle.positions.proofs.position.Position.play.Tie as tie
+use Rattle.movegen.proofs.position.play.Statement.{statement}
+use Rattle.movegen.proofs.position.play.Tie as tie
 
 played : (p : Position) (m : Move) {them : Color} {kept us f t foe enemy taken moved side kings : ℕ} {r : Position}
     → them ≡ other (p .side) → kept ≡ without (p .kings) (m .captured)
@@ -64,7 +64,7 @@ turn-requires c κs = search needs
 
 returns : tie.Need-returns
 returns c =
-    played (c .before .before .before .before .before .before .before .before .before .before .before .before .before .args .self) (c .before .before .before .before .before .before .before .before .before .before .before .before .before .args .mv) (c .before .before .before .before .before .before .before .before .before .before .before .before .not .ensures) (c .before .before .before .before .before .before .before .before .before .before .before .difference .ensures) (c .before .before .before .before .before .before .before .before .before .before .pieces .ensures) (c .before .before .before .before .before .before .before .before .before .bitboard .ensures) (c .before .before .before .before .before .before .before .before .bitboard2 .ensures) (c .before .before .before .before .before .before .before .pieces2 .ensures) (c .before .before .before .before .before .before .difference2 .ensures) (c .before .before .before .before .before .taken-key .ensures) (c .before .before .before .moved-key .ensures) (c .before .before .side-key .ensures) (c .before .kings-played .ensures) (c .turn .ensures)
+    played (c .before .before .before .before .before .before .before .before .before .before .before .before .before .args .p) (c .before .before .before .before .before .before .before .before .before .before .before .before .before .args .mv) (c .before .before .before .before .before .before .before .before .before .before .before .before .not .ensures) (c .before .before .before .before .before .before .before .before .before .before .before .difference .ensures) (c .before .before .before .before .before .before .before .before .before .before .pieces .ensures) (c .before .before .before .before .before .before .before .before .before .bitboard .ensures) (c .before .before .before .before .before .before .before .before .bitboard2 .ensures) (c .before .before .before .before .before .before .before .pieces2 .ensures) (c .before .before .before .before .before .before .difference2 .ensures) (c .before .before .before .before .before .taken-key .ensures) (c .before .before .before .moved-key .ensures) (c .before .before .side-key .ensures) (c .before .kings-played .ensures) (c .turn .ensures)
 
 pub play-spec : {M : Type 1} → statement M
 play-spec =

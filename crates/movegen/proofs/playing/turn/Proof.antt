@@ -1,7 +1,7 @@
 -- Either side.
 use borrow.Author.Needs.{needs}
-use Rattle.positions.proofs.playing.turn.Statement.{statement}
-use Rattle.positions.proofs.playing.turn.Tie as tie
+use Rattle.movegen.proofs.playing.turn.Statement.{statement}
+use Rattle.movegen.proofs.playing.turn.Tie as tie
 
 enum-told : tie.Need-enum-told
 enum-told c = search needs

@@ -4,10 +4,10 @@ use mathlib.Core.Bool.{Bool, _||_}
 use Prim.Native.Nat.{ℕ}
 use lib.Bits.{bitXor}
 use Rattle.squares.specs.Squares.{containsOf}
 use Rattle.positions.specs.Successor.{moverKey, movedKey}
 use borrow.Author.Needs.{needs}
-use Rattle.positions.proofs.playing.moved_key.Statement.{statement}
-use Rattle.positions.proofs.playing.moved_key.Tie as tie
+use Rattle.movegen.proofs.playing.moved_key.Statement.{statement}
+use Rattle.movegen.proofs.playing.moved_key.Tie as tie
 
 contains-requires : tie.Need-contains-requires
 contains-requires c κs = search needs

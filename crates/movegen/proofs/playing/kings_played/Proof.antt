@@ -3,10 +3,10 @@ use mathlib.Core.Path.{sym, ap, ap₂, _∙_}
 use Prim.Native.Nat.{ℕ}
 use lib.Bits.{bitOr, bitXor}
 use Rattle.squares.specs.Squares.{containsOf}
 use Rattle.positions.specs.Successor.{kingsPlayed}
 use borrow.Author.Needs.{needs}
-use Rattle.positions.proofs.playing.kings_played.Statement.{statement}
-use Rattle.positions.proofs.playing.kings_played.Tie as tie
+use Rattle.movegen.proofs.playing.kings_played.Statement.{statement}
+use Rattle.movegen.proofs.playing.kings_played.Tie as tie
 
 contains-requires : tie.Need-contains-requires
 contains-requires c κs = search needs

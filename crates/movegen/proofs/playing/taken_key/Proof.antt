@@ -3,10 +3,10 @@ use mathlib.Core.Path.{ap, ap₂, _∙_}
 use lib.Bits.{bitXor}
 use Rattle.squares.specs.Keys.{setKeyOf}
 use Rattle.squares.specs.declared.piece.PieceKind.the-variants.{Man}
 use Rattle.positions.specs.Successor.{takenKey}
 use borrow.Author.Needs.{needs}
-use Rattle.positions.proofs.playing.taken_key.Statement.{statement}
-use Rattle.positions.proofs.playing.taken_key.Tie as tie
+use Rattle.movegen.proofs.playing.taken_key.Statement.{statement}
+use Rattle.movegen.proofs.playing.taken_key.Tie as tie
 
 difference-requires : tie.Need-difference-requires
 difference-requires c κs = search needs
