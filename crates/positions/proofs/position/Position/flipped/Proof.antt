@@ -16,7 +16,7 @@ flips : (p : Position) {w b k : ℕ} {s : Color} {r : Position}
     → w ≡ rotated (p .black) → b ≡ rotated (p .white) → k ≡ rotated (p .kings) → s ≡ other (p .side) → r ≡ positionOf (board w b k s)
     → r ≡ positionOf (flip (boardOf p))
 unfolding flip
-flips p e1 e2 e3 e4 e5 = rw (e5, e4, e3, e2, e1)
+flips p e1 e2 e3 e4 e5 = e5 ∙ (λ i. positionOf (board (e1 i) (e2 i) (e3 i) (e4 i)))
 
 sound-requires : tie.Need-sound-requires
 sound-requires c κs = search needs
