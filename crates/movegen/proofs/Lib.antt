@@ -5,6 +5,7 @@ pub mod Divided
 pub mod LastPly
 pub mod Answers
 pub mod Says
+pub mod Orders
 pub mod Plies
 pub mod Taken
 pub mod Rows

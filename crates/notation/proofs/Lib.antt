@@ -8,3 +8,4 @@ pub mod MoveSays
 pub mod MoveTrip
 pub mod MoveRows
 pub mod MoveRoom
+pub mod Orders

@@ -1,4 +1,5 @@
 pub mod Notation
 pub mod Choice
+pub mod Told
 pub mod Computed
 pub mod MoveText

@@ -5,3 +5,4 @@ pub mod ScoreBounds
 pub mod ScoreSums
 pub mod ScoreFlip
 pub mod ScoreRows
+pub mod Orders

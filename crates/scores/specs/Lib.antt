@@ -1,2 +1,3 @@
 pub mod Score
+pub mod Told
 pub mod Computed

@@ -17,3 +17,4 @@ pub mod Keys
 pub mod Characters
 pub mod Product
 pub mod Refusals
+pub mod Orders

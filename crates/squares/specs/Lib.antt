@@ -5,4 +5,5 @@ pub mod Squares
 pub mod Directions
 pub mod Folds
 pub mod Keys
+pub mod Told
 pub mod Computed

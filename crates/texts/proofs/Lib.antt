@@ -11,3 +11,4 @@ pub mod Clean
 pub mod FenTrip
 pub mod HubTrip
 pub mod ReadBack
+pub mod Orders

@@ -3,4 +3,5 @@ pub mod Parts
 pub mod Lent
 pub mod Fen
 pub mod Hub
+pub mod Told
 pub mod Computed

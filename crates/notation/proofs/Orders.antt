@@ -1,0 +1,89 @@
+-- What the entries answer, in the paper's numbers and order: a move text on a position 12, 1, 9, 17, 15, 16; the writers 11, 19.
+use mathlib.Core.Path.{_≡_, refl, sym, ap₂}
+use mathlib.Core.Bool.{Bool, true, false, not, cond}
+use mathlib.Core.List.{List, [], _∷_}
+use Prim.Native.Nat.{ℕ}
+use native.Mathlib.Omega.{arith}
+use lib.Dec.{eqb, leb, ltb}
+use lib.ListN.{length, getD}
+use borrow.Author.Tests.{ne-eqb, lt-ltb}
+use Rattle.squares.specs.Refusals.{numberOf, squareOf, refusal}
+use Rattle.squares.specs.Told.{Told, when, whenAt, inOrder}
+use Rattle.squares.specs.declared.refusal.Refusal.{Refusal}
+use Rattle.positions.specs.Acceptance.{sound}
+use Rattle.positions.specs.Boards.{boardOf}
+use Rattle.positions.specs.Moves.{squaresOf}
+use Rattle.positions.specs.declared.moves.Move.{Move}
+use Rattle.positions.specs.declared.position.Position.{Position}
+use Rattle.captures.specs.Lists.{blank}
+use Rattle.rules.specs.Ordered.{legal}
+use Rattle.texts.specs.Lent.{emitOf}
+use Rattle.texts.specs.Told.{wroteTold}
+use Rattle.texts.specs.declared.bytes.Wrote.the-variants as wrote
+use Rattle.notation.specs.Choice.{fitting, only, fitOf, fitHeard, parseMoveOf}
+use Rattle.notation.specs.MoveText.{moveText, toHubOf}
+use Rattle.notation.specs.Notation.{readMoveOf}
+use Rattle.notation.specs.Told.{foundTold}
+use Rattle.notation.specs.declared.notation.Found.{Found}
+use Rattle.notation.specs.declared.notation.Found.the-variants as found
+use Rattle.notation.specs.declared.notation.Heard.the-variants as heard
+use Rattle.notation.specs.declared.notation.Said.{Said}
+
+-- what was read fits none, several, or one of the moves
+only-told : (l : List Move) → foundTold (only l) ≡ inOrder (when 15 (eqb (length l) 0) ∷ when 16 (ltb 1 (length l)) ∷ []) (getD l 0 blank)
+unfolding only inOrder
+only-told [] = refl
+only-told (m ∷ []) = refl
+only-told (m ∷ (n ∷ l)) =
+    sym (ap₂ (λ (x y : Bool). inOrder (when 15 x ∷ when 16 y ∷ []) m) (ne-eqb (length (m ∷ (n ∷ l))) 0 (λ e. omega arith)) (lt-ltb 1 (length (m ∷ (n ∷ l))) (omega arith)))
+
+-- 12, 17, 15, 16 of what was read
+pub fit-told : (p : Position) (h : Said)
+    → foundTold (fitOf p h)
+    ≡ (let fits = fitting h (legal (boardOf p)) in
+    inOrder
+    (when 12 (not (sound p)) ∷ when 17 (not (leb (length (legal (boardOf p))) 256)) ∷ when 15 (eqb (length fits) 0) ∷ when 16 (ltb 1 (length fits)) ∷ [])
+    (getD fits 0 blank))
+unfolding fitOf inOrder
+fit-told p h = go (sound p) (leb (length (legal (boardOf p))) 256) (fitting h (legal (boardOf p)))
+  where
+    go : (s t : Bool) (l : List Move)
+        → foundTold (cond s (cond t (only l) (found.Refused (refusal 17))) (found.Refused (refusal 12)))
+        ≡ inOrder (when 12 (not s) ∷ when 17 (not t) ∷ when 15 (eqb (length l) 0) ∷ when 16 (ltb 1 (length l)) ∷ []) (getD l 0 blank)
+    go false t l = refl
+    go true false l = refl
+    go true true l = only-told l
+
+-- 12, then 1 or 9
+pub parse-refused-told : (p : Position) (s : List ℕ) (e : Refusal) → readMoveOf s ≡ heard.Refused e
+    → foundTold (parseMoveOf p s) ≡ inOrder (when 12 (not (sound p)) ∷ whenAt (numberOf e) (squareOf e) true ∷ []) blank
+unfolding parseMoveOf inOrder
+parse-refused-told p s e r = rw r (go (sound p))
+  where
+    go : (t : Bool) → foundTold (cond t (found.Refused e) (found.Refused (refusal 12))) ≡ inOrder (when 12 (not t) ∷ whenAt (numberOf e) (squareOf e) true ∷ []) blank
+    go true = refl
+    go false = refl
+
+-- a text that was read means what was read: 12, 17, 15, 16
+pub parse-read-told : (p : Position) (s : List ℕ) (h : Said) → readMoveOf s ≡ heard.Said h → foundTold (parseMoveOf p s) ≡ foundTold (fitOf p h)
+unfolding parseMoveOf fitOf
+parse-read-told p s h r = rw r (go (sound p))
+  where
+    go : (t : Bool)
+        → foundTold (cond t (cond t (cond (leb (length (legal (boardOf p))) 256) (only (fitting h (legal (boardOf p)))) (found.Refused (refusal 17))) (found.Refused (refusal 12))) (found.Refused (refusal 12)))
+        ≡ foundTold (cond t (cond (leb (length (legal (boardOf p))) 256) (only (fitting h (legal (boardOf p)))) (found.Refused (refusal 17))) (found.Refused (refusal 12)))
+    go true = refl
+    go false = refl
+
+-- 11, 19
+pub to-hub-told : (m : Move) (out : List ℕ)
+    → wroteTold (toHubOf m out) ≡ inOrder (when 11 (not (squaresOf m)) ∷ when 19 (not (leb (length (moveText m)) (length out))) ∷ []) (length (moveText m))
+unfolding toHubOf emitOf inOrder
+to-hub-told m out = go (squaresOf m) (leb (length (moveText m)) (length out)) (length (moveText m))
+  where
+    go : (s t : Bool) (n : ℕ)
+        → wroteTold (cond s (cond t (wrote.Length n) (wrote.Refused (refusal 19))) (wrote.Refused (refusal 11)))
+        ≡ inOrder (when 11 (not s) ∷ when 19 (not t) ∷ []) n
+    go false t n = refl
+    go true false n = refl
+    go true true n = refl
