@@ -9,6 +9,5 @@ pub mod Men
 pub mod Kings
 pub mod Boards
 pub mod Loops
-pub mod Rows
 pub mod Some
 pub mod Shut

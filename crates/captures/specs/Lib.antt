@@ -5,4 +5,3 @@ pub mod Record
 pub mod Walks
 pub mod Men
 pub mod Kings
-pub mod Computed

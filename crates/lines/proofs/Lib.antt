@@ -3,4 +3,3 @@ pub mod LineLaws
 pub mod StepLaws
 pub mod RunLaws
 pub mod Buffers
-pub mod Rows

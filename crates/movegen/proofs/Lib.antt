@@ -8,5 +8,4 @@ pub mod Says
 pub mod Orders
 pub mod Plies
 pub mod Taken
-pub mod Rows
 pub mod ShortLists

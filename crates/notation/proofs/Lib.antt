@@ -1,4 +1,3 @@
-pub mod Rows
 pub mod Reading
 pub mod Search
 pub mod Fitted
@@ -6,6 +5,5 @@ pub mod Chosen
 pub mod MoveTexts
 pub mod MoveSays
 pub mod MoveTrip
-pub mod MoveRows
 pub mod MoveRoom
 pub mod Orders

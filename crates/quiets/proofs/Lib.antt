@@ -2,4 +2,3 @@ pub mod Some
 pub mod Added
 pub mod Forward
 pub mod Counts
-pub mod Rows

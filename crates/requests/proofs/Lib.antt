@@ -4,7 +4,6 @@ pub mod Table
 pub mod Sides
 pub mod PlayLaws
 pub mod PlayedGames
-pub mod Rows
 pub mod Lengths
 pub mod Falling
 pub mod Room

@@ -3,4 +3,3 @@ pub mod Answers
 pub mod States
 pub mod Plays
 pub mod Requests
-pub mod Computed

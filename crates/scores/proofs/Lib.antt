@@ -4,5 +4,4 @@ pub mod Scores
 pub mod ScoreBounds
 pub mod ScoreSums
 pub mod ScoreFlip
-pub mod ScoreRows
 pub mod Orders

@@ -2,4 +2,3 @@ pub mod Output
 pub mod Words
 pub mod Numbers
 pub mod Escapes
-pub mod Computed
