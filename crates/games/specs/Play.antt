@@ -9,7 +9,6 @@ use lib.ListN.{replicate}
 use Rattle.squares.specs.declared.piece.Color.the-variants.{White, Black}
 use Rattle.squares.specs.declared.refusal.Refusal.{Refusal}
 use Rattle.squares.specs.Refusals.{refusal}
-use Rattle.squares.specs.declared.refusal.Answer.{Answer}
 use Rattle.squares.specs.declared.refusal.Answer.the-variants as answer
 use Rattle.positions.specs.Acceptance.{sound}
 use Rattle.positions.specs.Boards.{boardOf}
@@ -19,9 +18,8 @@ use Rattle.positions.specs.declared.moves.Move.{Move}
 use Rattle.positions.specs.declared.position.Position.{Position}
 use Rattle.positions.specs.declared.position.Placed.{Placed}
 use Rattle.positions.specs.declared.position.Placed.the-variants as placed
-use Rattle.captures.specs.Lists.{noMoves}
 use Rattle.movegen.specs.Lists as movegen
-use Rattle.movegen.specs.Lists.{refusedList, afterOf}
+use Rattle.movegen.specs.Lists.{noList, refusedList, afterOf}
 use Rattle.movegen.specs.declared.movegen.Listed.{Listed}
 use Rattle.movegen.specs.declared.movegen.Tested.{Tested}
 use Rattle.movegen.specs.declared.movegen.Tested.the-variants as tested
@@ -110,10 +108,6 @@ repetitionsOf g = cond (valid g) (counted.Count (stood g)) (counted.Refused (ref
 
 unfoldable pub reversiblePliesOf : Game → Counted
 reversiblePliesOf g = cond (valid g) (counted.Count (g .reversible)) (counted.Refused (refusal 13))
-
--- every entry blank
-abbrev pub noList : Answer → Listed
-noList a = record { answer = a; list = noMoves }
 
 -- no moves once there is an outcome; else the list of the current position, at most that many, or 17
 unfoldable pub legalMovesOf : Game → ℕ → Listed

@@ -7,6 +7,7 @@ use lib.Dec.{leb, ltb}
 use lib.ListN.{length}
 use Rattle.squares.specs.declared.refusal.Refusal.{Refusal}
 use Rattle.squares.specs.Refusals.{refusal}
+use Rattle.squares.specs.declared.refusal.Answer.{Answer}
 use Rattle.squares.specs.declared.refusal.Answer.the-variants as answer
 use Rattle.positions.specs.Acceptance.{sound}
 use Rattle.positions.specs.Boards.{boardOf}
@@ -24,6 +25,10 @@ use Rattle.rules.specs.Lists.{some}
 use Rattle.movegen.specs.declared.movegen.Listed.{Listed}
 use Rattle.movegen.specs.declared.movegen.Tested.{Tested}
 use Rattle.movegen.specs.declared.movegen.Tested.the-variants as tested
+
+-- no moves, every entry blank
+abbrev pub noList : Answer → Listed
+noList a = record { answer = a; list = noMoves }
 
 -- refused: no moves, every entry blank
 abbrev pub refusedList : Refusal → Listed

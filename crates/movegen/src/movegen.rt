@@ -21,7 +21,7 @@ ghost use Rattle.quiets.specs.Quiets.{listing};
 ghost use Rattle.shorts.specs.Noted.{few};
 ghost use Rattle.positions.specs.Boards.{boardOf};
 ghost use Rattle.movegen.specs.Generate.{viewOf, longCapturesOf, generateOf};
-ghost use Rattle.movegen.specs.Lists.{refusedList, withinOf, legalMovesOf, hasCapturesOf, hasQuietMovesOf, afterOf};
+ghost use Rattle.movegen.specs.Lists.{noList, refusedList, withinOf, legalMovesOf, hasCapturesOf, hasQuietMovesOf, afterOf};
 
 // With at most so many kings the captures are first looked for by a short list.
 const FEW_KINGS: u32 = 3;
@@ -126,6 +126,17 @@ pub(crate) fn generate(v: View) -> Listing
         };
     }
     quiets::quiets::quiet_moves(men, kings, empty, side)
+}
+
+// No moves, with this answer beside them.
+pub fn no_moves(answer: Answer) -> Listed
+    ensures { λ r. ⌜ r ≡ noList answer ⌝ }
+{
+    let list = MoveList::new();
+    Listed {
+        answer: answer,
+        list: list,
+    }
 }
 
 fn refused(e: Refusal) -> Listed

@@ -3,10 +3,9 @@ use mathlib.Core.Path.{_≡_}
 use mathlib.Core.List.{_++_}
 use Prim.Native.Nat.{_≤_, _<_, _-_}
 use lib.ListN.{length, take, replicate}
-use Rattle.captures.proofs.Listed.{length-of-map}
 use Rattle.games.specs.Games.{blankPosition, windowOf}
 use Rattle.games.specs.Play.{appendedOf}
-use Rattle.games.proofs.Window.{fill-copy, fill-last}
+use Rattle.games.proofs.Window.{length-of-map, fill-copy, fill-last}
 use borrow.Author.Needs.{needs}
 use native.Mathlib.Omega.{arith}
 use Rattle.games.proofs.keeping.appended.Statement.{statement}

@@ -4,12 +4,11 @@ use mathlib.Core.Logic.{⊎-elim}
 use mathlib.Core.Bool.{true, false}
 use Prim.Native.Nat.{_≤_, _<_, _-_}
 use lib.ListN.{length, take}
-use Rattle.captures.proofs.Listed.{length-of-map}
 use Rattle.rules.specs.Lists.{times}
 use Rattle.rules.proofs.Times.{times-nil}
 use Rattle.games.specs.Games.{blankPosition, windowOf, lastOf, samePosition, stood}
 use Rattle.games.proofs.Valid.{valid-says}
-use Rattle.games.proofs.Window.{times-more}
+use Rattle.games.proofs.Window.{length-of-map, times-more}
 use borrow.Author.Needs.{needs}
 use native.Mathlib.Omega.{arith}
 use Rattle.games.proofs.keeping.stood.Statement.{statement}

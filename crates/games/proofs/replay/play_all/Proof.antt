@@ -4,7 +4,8 @@ use mathlib.Core.List.{_++_}
 use Prim.Native.Nat.{_≤_, _<_, _-_, _+_, _*_, _/_}
 use lib.ListN.{length, take, drop, getD, length-set}
 use lib.Seq.{take-all, length-take-le}
-use Rattle.captures.specs.Lists.{blank}
+use Rattle.positions.specs.Moves.{move}
+use Rattle.positions.specs.declared.moves.Move.{Move}
 use Rattle.games.specs.Play.{playOf}
 use Rattle.games.specs.Demand3.{answersTo, gameAfter}
 use Rattle.games.specs.Replay.{movesIn}
@@ -13,6 +14,9 @@ use borrow.Author.Needs.{needs}
 use native.Mathlib.Omega.{arith}
 use Rattle.games.proofs.replay.play_all.Statement.{statement}
 use Rattle.games.proofs.replay.play_all.Tie as tie
+
+abbrev blank : Move
+blank = move 0 0 0
 
 abbrev Inv-loop : tie.InvT-loop
 Inv-loop moves answers₀ n g₀ i₀ answers g i =

@@ -1,7 +1,7 @@
 -- The new list is empty.
 use borrow.Author.Needs.{needs}
-use Rattle.games.proofs.game.no_moves.Statement.{statement}
-use Rattle.games.proofs.game.no_moves.Tie as tie
+use Rattle.movegen.proofs.movegen.no_moves.Statement.{statement}
+use Rattle.movegen.proofs.movegen.no_moves.Tie as tie
 
 new-requires : tie.Need-new-requires
 new-requires c κs = search needs
