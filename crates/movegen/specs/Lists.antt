@@ -32,7 +32,7 @@ noList a = record { answer = a; list = noMoves }
 
 -- refused: no moves, every entry blank
 abbrev pub refusedList : Refusal → Listed
-refusedList e = record { answer = answer.Refused e; list = noMoves }
+refusedList e = noList (answer.Refused e)
 
 -- at most that many moves, then blanks; else 17
 unfoldable pub listedOf : ℕ → List Move → Listed

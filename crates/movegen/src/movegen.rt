@@ -142,11 +142,7 @@ pub fn no_moves(answer: Answer) -> Listed
 fn refused(e: Refusal) -> Listed
     ensures { λ r. ⌜ r ≡ refusedList e ⌝ }
 {
-    let list = MoveList::new();
-    Listed {
-        answer: Answer::Refused(e),
-        list: list,
-    }
+    no_moves(Answer::Refused(e))
 }
 
 // The list where it has at most that many moves, else 17.
