@@ -5,13 +5,13 @@ use mathlib.Core.List.{List, [], _∷_, _++_, append-assoc}
 use mathlib.Core.Bool.{Bool, true, false, cond}
 use native.Mathlib.Omega.{arith}
 use lib.ListN.{length, take, drop, length-append}
-use lib.Seq.{take-all, length-take-le}
+use lib.Seq.{take-all, take-append-add, length-take-le}
 use lib.Dec.{eqb, ltb, leb}
 use borrow.Author.Tests.{lt-ltb, leb-true, leb-false}
 use Rattle.texts.specs.Bytes.{is, indexOf, consHead, partsAt}
 use Rattle.wording.specs.Output.{bad}
 use Rattle.requests.specs.Requests.{longest, answerOf}
-use Rattle.lines.specs.Lines.{linesOf, answersTo, outputOf, wholeOf}
+use Rattle.lines.specs.Lines.{linesOf, answersTo, outputOf, wholeOf, wholeLines}
 
 -- ---- how many bytes whole lines take
 pub whole-cons : (b : ℕ) (s : List ℕ) → 0 < wholeOf s → wholeOf (b ∷ s) ≡ suc (wholeOf s)
@@ -109,6 +109,11 @@ open-part (b ∷ s) = go (split (wholeOf s)) (open-part s)
     go : Split (wholeOf s) → wholeOf (drop (wholeOf s) s) ≡ 0 → wholeOf (drop (wholeOf (b ∷ s)) (b ∷ s)) ≡ 0
     go (none z) h = ap (λ (k : ℕ). wholeOf (drop k (b ∷ s))) (whole-byte b s z) ∙ byte z (eqb b 10) refl
     go (some p) h = ap (λ (k : ℕ). wholeOf (drop k (b ∷ s))) (whole-cons b s p) ∙ h
+
+-- no line feed, no whole line
+pub none-whole : (s : List ℕ) → wholeOf s ≡ 0 → wholeLines s ≡ []
+unfolding wholeLines
+none-whole s e = rw e
 
 -- ---- the first line
 pub no-feed : (s : List ℕ) → indexOf (is 10) s ≡ length s → wholeOf s ≡ 0
@@ -280,3 +285,27 @@ kept-output t x e = go (leb (length t) (longest + 1)) refl
         ap answersTo (lines-open (take (longest + 1) t) x (open-take (longest + 1) t e) (omega (arith, k)))
         ∙ both-bad (take (longest + 1) t) t (linesOf x) (omega (arith, k)) (omega arith)
         ∙ ap answersTo (sym (lines-open t x e (omega arith)))
+
+-- that holds of whole lines alone, too
+open-append : (t x : List ℕ) → wholeOf t ≡ 0 → wholeOf x ≡ 0 → wholeOf (t ++ x) ≡ 0
+open-append [] x e z = z
+open-append (b ∷ t) x e z =
+    let o = open-byte b t e in
+    whole-byte b (t ++ x) (open-append t x (o .0) z) ∙ ap (λ (q : Bool). cond q 1 0) (o .1)
+
+before-whole : (t x : List ℕ) → 0 < wholeOf x → wholeOf (t ++ x) ≡ length t + wholeOf x
+before-whole [] x h = omega arith
+before-whole (b ∷ t) x h = let i = before-whole t x h in whole-cons b (t ++ x) (omega (arith, i)) ∙ omega (arith, i)
+
+before-lines : (t x : List ℕ) → 0 < wholeOf x → wholeLines (t ++ x) ≡ t ++ wholeLines x
+unfolding wholeLines
+before-lines t x h = ap (λ (n : ℕ). take n (t ++ x)) (before-whole t x h) ∙ take-append-add t x (wholeOf x)
+
+pub kept-whole : (t x : List ℕ) → wholeOf t ≡ 0 → outputOf (wholeLines (take (longest + 1) t ++ x)) ≡ outputOf (wholeLines (t ++ x))
+kept-whole t x e = go (split (wholeOf x))
+  where
+    go : Split (wholeOf x) → outputOf (wholeLines (take (longest + 1) t ++ x)) ≡ outputOf (wholeLines (t ++ x))
+    go (none z) =
+        ap outputOf
+        (none-whole (take (longest + 1) t ++ x) (open-append (take (longest + 1) t) x (open-take (longest + 1) t e) z) ∙ sym (none-whole (t ++ x) (open-append t x e z)))
+    go (some p) = ap outputOf (before-lines (take (longest + 1) t) x p) ∙ kept-output t (wholeLines x) e ∙ ap outputOf (sym (before-lines t x p))

@@ -2,9 +2,14 @@
 //
 // What the outside gets is in no contract, since those of read and write do not speak of it. So all but a few lines is pure:
 // `answer_lines` puts answers into the output buffer, `carry` keeps the line that is not whole yet, `last_answer` answers it at
-// the end of the input, and their contracts say what bytes stand in the buffers then. What is written so, turn by turn, is the
-// output for the whole input, however it is cut into reads (law `run-law`). `read_more`, `write_answers`, `feed` and `serve`
-// only read, call these and write what they put into the buffer.
+// the end of the input, `what_came` tells the end of the input from a read that failed; their contracts say what bytes the
+// buffers contain then. What is written so, turn by turn, is the output for the whole input, however it is cut into reads (law
+// `run-law`); and what a run has written that stops is a beginning of it (`stop-law`, `read-stop-law`). `read_more`,
+// `write_answers`, `write_last`, `feed` and `serve` only read, call these and write what they put into the buffer.
+//
+// A read or write fails where the C library answers -1, or a write takes nothing. Why is not asked: a call that a signal
+// interrupts, or one that would have to wait on a descriptor that must not, counts as one that failed.
+use libc::STDERR_FILENO;
 use libc::STDIN_FILENO;
 use libc::STDOUT_FILENO;
 use requests::requests as asked;
@@ -15,7 +20,7 @@ ghost use Prim.Native.Nat.{_≤_, _<_, _-_, _+_, min};
 ghost use lib.ListN.{length, take, drop};
 ghost use Rattle.requests.specs.Requests.{longest, answerRoom, answerOf};
 ghost use Rattle.lines.specs.Lines.{wholeOf, carriedOf, lastAnswer};
-ghost use Rattle.lines.specs.Steps.{Answered};
+ghost use Rattle.lines.specs.Steps.{Answered, cameOf, CameIn, SentOf};
 
 // The room that is kept for an answer and its line feed: no answer is longer (law `answer-short`).
 const ROOM: usize = 23 * asked::LONGEST;
@@ -26,7 +31,27 @@ struct Step {
     put: usize,
 }
 
-// The answer to a line at a place of out, with its line feed; the place behind it.
+// What came of a read: so many bytes, the end of the input, or nothing, since it failed.
+enum Came {
+    Bytes(usize),
+    End,
+    Failed,
+}
+
+// What became of the answers to whole lines: all were written, and how many bytes the lines take; or a write failed.
+enum Sent {
+    Whole(usize),
+    Failed,
+}
+
+// How a run ends: the whole input was answered, a read failed, or a write failed.
+enum Ended {
+    Whole,
+    Read,
+    Write,
+}
+
+// The answer to a line at a place of out, with its line feed; the place after it.
 fn answer_at(line: &[u8], out: &mut [u8], at: usize) -> usize
     requires { ⌜ at + answerRoom ≤ length (now out) ⌝ }
     ensures { λ r. ⌜ r ≤ length (now (out .exit)) ⌝ }
@@ -102,54 +127,107 @@ fn carry(buf: &mut [u8], used: usize, full: usize) -> usize
     n
 }
 
-// Reads once, behind the bytes that were carried over, which stay; how many there are then.
-fn read_more(buf: &mut [u8], have: usize) -> usize
+// What the answer of a read says, for a space of so many bytes: negative, the read failed.
+fn what_came(got: isize, space: &[u8]) -> Came
+    ensures { λ r. ⌜ r ≡ cameOf got (length (now (space .entry))) ⌝ }
+{
+    if got < 0 {
+        return Came::Failed;
+    }
+    if got == 0 {
+        return Came::End;
+    }
+    Came::Bytes(io::count(got, space))
+}
+
+// Reads once, after the bytes that were carried over, which stay; how many came.
+fn read_more(buf: &mut [u8], have: usize) -> Came
     requires { ⌜ have < length (now buf) ⌝ }
-    ensures { λ r. ⌜ (have ≤ r) × (r ≤ length (now (buf .exit))) ⌝ }
+    ensures { λ r. ⌜ CameIn (length (now (buf .exit)) - have) r ⌝ }
     ensures { λ r. ⌜ take have (now (buf .exit)) ≡ take have (now (buf .entry)) ⌝ }
 {
     let got = libc::read(STDIN_FILENO, &mut buf[have..]);
-    have + io::count(got, &buf[have..])
+    what_came(got, &buf[have..])
 }
 
-// Writes the answers to the whole lines; how many bytes those take.
-fn write_answers(s: &[u8], out: &mut [u8]) -> usize
+// Writes the answers to the whole lines; how many bytes those lines take. At the first write that fails it stops.
+fn write_answers(s: &[u8], out: &mut [u8]) -> Sent
     requires { ⌜ answerRoom ≤ length (now out) ⌝ }
-    ensures { λ r. ⌜ (r ≤ length (now (s .entry))) × (r ≡ wholeOf (now (s .entry))) ⌝ }
+    ensures { λ r. ⌜ SentOf (now (s .entry)) r ⌝ }
 {
     let mut at = 0;
     let mut t = answer_lines(s, 0, out);
     while at < t.at {
         let put = t.put;
-        io::write_all(STDOUT_FILENO, &out[..put]);
-        at = t.at;
-        t = answer_lines(s, at, out);
+        if io::write_all(STDOUT_FILENO, &out[..put]) {
+            at = t.at;
+            t = answer_lines(s, at, out);
+        } else {
+            return Sent::Failed;
+        }
     }
-    at
+    Sent::Whole(at)
 }
 
-// Each turn reads once and answers what lines are whole then; a turn that reads nothing is at the end of the input.
-fn feed(buf: &mut [u8], out: &mut [u8])
+// At the end of the input: writes the answer to the last line, which has no line feed, if there is one.
+fn write_last(line: &[u8], out: &mut [u8]) -> Ended
+    requires { ⌜ answerRoom ≤ length (now out) ⌝ }
+{
+    let put = last_answer(line, out);
+    if io::write_all(STDOUT_FILENO, &out[..put]) {
+        return Ended::Whole;
+    }
+    Ended::Write
+}
+
+// Each turn reads once and answers what lines are whole then. The first read or write that fails is the last: nothing more
+// is answered or written. So it is after as many turns as can be counted, which no run takes.
+fn feed(buf: &mut [u8], out: &mut [u8]) -> Ended
     requires { ⌜ (longest + 1 < length (now buf)) × (answerRoom ≤ length (now out)) ⌝ }
 {
     let mut have = 0;
     let mut turns = u64::MAX;
     while turns > 0 {
-        let full = read_more(buf, have);
-        if full == have {
-            let put = last_answer(&buf[..have], out);
-            io::write_all(STDOUT_FILENO, &out[..put]);
-            return;
+        match read_more(buf, have) {
+            Came::Bytes(n) => {
+                let full = have + n;
+                match write_answers(&buf[..full], out) {
+                    Sent::Whole(used) => {
+                        have = carry(buf, used, full);
+                        turns -= 1;
+                    }
+                    Sent::Failed => {
+                        return Ended::Write;
+                    }
+                }
+            }
+            Came::End => {
+                return write_last(&buf[..have], out);
+            }
+            Came::Failed => {
+                return Ended::Read;
+            }
         }
-        let used = write_answers(&buf[..full], out);
-        have = carry(buf, used, full);
-        turns -= 1;
+    }
+    Ended::Read
+}
+
+// A program has no exit status of its own: that it stopped is said by a line on standard error.
+fn report(end: Ended) {
+    match end {
+        Ended::Whole => {}
+        Ended::Read => {
+            io::write_all(STDERR_FILENO, b"a read failed\n");
+        }
+        Ended::Write => {
+            io::write_all(STDERR_FILENO, b"a write failed\n");
+        }
     }
 }
 
-// Answers standard input, line by line, to its end.
+// Answers standard input, line by line, to its end, or up to the first read or write that fails.
 pub fn serve() {
     let mut buf = [0u8; 131072];
     let mut out = [0u8; 1572864];
-    feed(&mut buf, &mut out);
+    report(feed(&mut buf, &mut out));
 }

@@ -280,7 +280,7 @@ module _ (g : Game) (r : Good g) where
 
       by-plain : (p : Plain) → plain w ≡ p → Text g w
       by-plain (text t) p = by-heard t p (readMoveOf t) refl
-      by-plain (broken t) p = leaves BadMoveText (ap (playPlain g) p)
+      by-plain broken p = leaves BadMoveText (ap (playPlain g) p)
 
   text-refused : (w : List ℕ) (e : Refusal) (a : Played) → a ≡ refusedPlay g e → Word g (textTold g w a) (a .game)
   unfolding textTold numberWord

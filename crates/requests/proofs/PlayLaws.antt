@@ -19,14 +19,14 @@ use Rattle.games.specs.declared.game.Begun.{Begun}
 use Rattle.games.specs.declared.game.Game.{Game}
 use Rattle.games.specs.declared.game.Played.{Played}
 use Rattle.gametexts.specs.Texts.{playStrOf}
-use Rattle.wording.specs.Escapes.{Plain, text, broken, plain, undoneOf, Undid}
+use Rattle.wording.specs.Escapes.{Plain, text, broken, plain, isPlain, undoneOf, Undid}
 use Rattle.wording.specs.Numbers.{unsignedOf, setOf}
 use Rattle.wording.specs.Output.{bad}
 use Rattle.wording.specs.Words.{firstWord, afterWord}
 use Rattle.wording.specs.declared.escapes.Undone.{Undone}
 use Rattle.wording.specs.declared.escapes.Undone.the-variants as undone
 use Rattle.wording.specs.declared.numbers.Parsed.the-variants as parsed
-use Rattle.requests.specs.Plays.{wordsOf, recordOf, isPlain, isTextOf, readableOf, allReadable, playPlain, playTextOf, playWordOf, wordTold, gameText, playsAnswer}
+use Rattle.requests.specs.Plays.{wordsOf, recordOf, isTextOf, readableOf, allReadable, playPlain, playTextOf, playWordOf, wordTold, gameText, playsAnswer}
 use Rattle.requests.specs.States.{endText}
 use Rattle.requests.specs.declared.plays.Given.{Given}
 use Rattle.requests.specs.declared.plays.Recorded.the-variants as recorded
@@ -161,7 +161,7 @@ module _ (s o out : List ℕ) (r : Undone) (u : Undid s o out r) where
     where
       go : (p : Plain) → plain s ≡ p → true ≡ isPlain (plain s)
       go (text t) e = rw e
-      go (broken t) e = absurd (let w : undone.Length n ≡ undone.Bad = sym q ∙ u .answer ∙ ap (undoneOf (length o)) e in let z : _≡_ {A = ℕ} 0 1 = cc in omega arith)
+      go broken e = absurd (let w : undone.Length n ≡ undone.Bad = sym q ∙ u .answer ∙ ap (undoneOf (length o)) e in let z : _≡_ {A = ℕ} 0 1 = cc in omega arith)
 
   pub is-broken : r ≡ undone.Bad → false ≡ isTextOf s
   unfolding isTextOf
@@ -169,7 +169,7 @@ module _ (s o out : List ℕ) (r : Undone) (u : Undid s o out r) where
     where
       go : (p : Plain) → plain s ≡ p → false ≡ isPlain (plain s)
       go (text t) e = absurd (let w : undone.Bad ≡ undoneOf (length o) (text t) = sym q ∙ u .answer ∙ ap (undoneOf (length o)) e in let z : _≡_ {A = ℕ} 0 1 = cc in omega arith)
-      go (broken t) e = rw e
+      go broken e = rw e
 
 module _ (s o out : List ℕ) (r : Undone) (long : length o ≡ 4097) (u : Undid s o out r) where
   pub text-played : (g : Game) (n : ℕ) (a : Played) → r ≡ undone.Length n → a ≡ playStrOf g (take n out) → a ≡ playTextOf g s

@@ -88,7 +88,7 @@ text-plays g t = go (valid g)
 
 plain-plays : (g : Game) (p : Plain) → Plays g (playPlain g p)
 plain-plays g (text t) = text-plays g t
-plain-plays g (broken t) = leaves refl
+plain-plays g broken = leaves refl
 
 pub word-plays : (g : Game) (w : List ℕ) → Plays g (playTextOf g w)
 unfolding playTextOf

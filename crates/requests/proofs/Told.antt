@@ -22,7 +22,7 @@ use Rattle.positions.specs.declared.position.Placed.the-variants as placed
 use Rattle.positions.proofs.Accepts.{sound-says}
 use Rattle.texts.specs.Bytes.{readable, fromStrOf, is, indexOf}
 use Rattle.texts.specs.Parts.{placing}
-use Rattle.texts.specs.Lent.{emitOf, emitted, Holds}
+use Rattle.texts.specs.Lent.{emitOf, emitted}
 use Rattle.texts.proofs.Pieces.{part-of}
 use Rattle.texts.specs.Fen.{fenText, fenOf, fenLent, fromFenOf}
 use Rattle.texts.specs.Hub.{hubText, hubOf, hubLent, fromHubOf}
@@ -36,7 +36,7 @@ use Rattle.notation.specs.Choice.{parseMoveOf}
 use Rattle.notation.specs.declared.notation.Found.{Found}
 use Rattle.notation.specs.declared.notation.Found.the-variants as found
 use Rattle.notation.proofs.MoveTexts.{move-short}
-use Rattle.wording.specs.Escapes.{Plain, text, broken, plain, undoneOf, undoneText, Undid}
+use Rattle.wording.specs.Escapes.{Plain, text, broken, plain, undoneOf, undoneBytes, Undid}
 use Rattle.requests.specs.Heard.{heardOf, eitherOf, readOf, heardText, positionOf, meantOf, meantText, listedMoveOf, placingOf, placingText, squareOf}
 use Rattle.requests.specs.Answers.{fenWord, hubWord, moveWord}
 use Rattle.wording.specs.declared.escapes.Undone.{Undone}
@@ -198,22 +198,22 @@ spelt s o out n u = go (plain s) refl
     go : (p : Plain) → plain s ≡ p → Spelt s o out n
     go (text t) e =
         let q : n ≡ min (length t) (length o) = (let w : undone.Length n ≡ undone.Length (min (length t) (length o)) = u .answer ∙ ap (undoneOf (length o)) e in cc) in
-        let w = ap (λ (i : ℕ). take i out) q ∙ part-of (subst (λ (x : Plain). Holds o (undoneText x) out (min (length (undoneText x)) (length o))) e (u .bytes)) in
+        let w = ap (λ (i : ℕ). take i out) q ∙ part-of (record { bytes = u .bytes ∙ ap (λ (x : Plain). undoneBytes x o) e; place = refl }) in
         record { done = t; whole = e; part = w; within = omega (arith, q, ap length w, length-take n out, length-take (length o) t) }
-    go (broken t) e = absurd (let w : undone.Length n ≡ undone.Bad = u .answer ∙ ap (undoneOf (length o)) e in let z : _≡_ {A = ℕ} 0 1 = cc in omega arith)
+    go broken e = absurd (let w : undone.Length n ≡ undone.Bad = u .answer ∙ ap (undoneOf (length o)) e in let z : _≡_ {A = ℕ} 0 1 = cc in omega arith)
 
-broken-said : (s o out : List ℕ) → Undid s o out undone.Bad → plain s ≡ broken (undoneText (plain s))
+broken-said : (s o out : List ℕ) → Undid s o out undone.Bad → plain s ≡ broken
 broken-said s o out u = go (plain s) refl
   where
-    go : (p : Plain) → plain s ≡ p → plain s ≡ broken (undoneText (plain s))
+    go : (p : Plain) → plain s ≡ p → plain s ≡ broken
     go (text t) e = absurd (let w : undone.Bad ≡ undone.Length (min (length t) (length o)) = u .answer ∙ ap (undoneOf (length o)) e in let z : _≡_ {A = ℕ} 0 1 = cc in omega arith)
-    go (broken t) e = e ∙ ap (λ (x : Plain). broken (undoneText x)) (sym e)
+    go broken e = e
 
 module _ (s o out : List ℕ) (r : Undone) (long : length o ≡ 4097) (u : Undid s o out r) where
   pub said : (n : ℕ) → r ≡ undone.Length n → Spelt s o out n
   said n q = spelt s o out n (subst (λ (x : Undone). Undid s o out x) q u)
 
-  pub said-broken : r ≡ undone.Bad → plain s ≡ broken (undoneText (plain s))
+  pub said-broken : r ≡ undone.Bad → plain s ≡ broken
   said-broken q = broken-said s o out (subst (λ (x : Undone). Undid s o out x) q u)
 
   pub cut-part : (n : ℕ) (w : Spelt s o out n) → take n out ≡ take 4097 (w .done)

@@ -41,7 +41,7 @@ readOf form.Either t = eitherOf t
 
 abbrev pub heardText : Form → Plain → Heard
 heardText f (text t) = heardOf (readOf f t)
-heardText f (broken t) = heard.Bad
+heardText f broken = heard.Bad
 
 unfoldable pub positionOf : Form → List ℕ → Heard
 positionOf f s = heardText f (plain s)
@@ -53,7 +53,7 @@ meantOf (found.Refused e) = meant.Refused e
 
 abbrev pub meantText : Position → Plain → Meant
 meantText p (text t) = meantOf (parseMoveOf p t)
-meantText p (broken t) = meant.Bad
+meantText p broken = meant.Bad
 
 unfoldable pub listedMoveOf : Position → List ℕ → Meant
 listedMoveOf p s = meantText p (plain s)
@@ -65,7 +65,7 @@ placingOf (numbered.Refused e) = placing.Refused e
 
 abbrev pub placingText : Plain → Placing
 placingText (text t) = placingOf (fromStrOf t)
-placingText (broken t) = placing.Bad
+placingText broken = placing.Bad
 
 unfoldable pub squareOf : List ℕ → Placing
 squareOf s = placingText (plain s)

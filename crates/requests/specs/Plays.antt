@@ -18,7 +18,7 @@ use Rattle.games.specs.declared.game.Played.{Played}
 use Rattle.gametexts.specs.Texts.{playStrOf}
 use Rattle.wording.specs.Output.{decimal, bad}
 use Rattle.wording.specs.Numbers.{unsignedOf, setOf}
-use Rattle.wording.specs.Escapes.{Plain, text, broken, plain}
+use Rattle.wording.specs.Escapes.{Plain, text, broken, plain, isPlain}
 use Rattle.requests.specs.Heard.{listedMoveOf}
 use Rattle.requests.specs.Answers.{ok, moveWord}
 use Rattle.requests.specs.States.{judgedWord, stateText, numberWord, endText}
@@ -49,10 +49,6 @@ recordOf s =
     onNumber (setOf (afterFirst (code ",") (afterFirst (code ",") s))) (λ c. recorded.Move (move f t c))))
 
 -- every escape of the word is one
-abbrev pub isPlain : Plain → Bool
-isPlain (text t) = true
-isPlain (broken t) = false
-
 unfoldable pub isTextOf : List ℕ → Bool
 isTextOf s = isPlain (plain s)
 
@@ -74,7 +70,7 @@ allReadable h (w ∷ ws) = readableOf h w && allReadable h ws
 -- ---- a play; a word that can not be read is not played, since such a request is broken
 abbrev pub playPlain : Game → Plain → Played
 playPlain g (text t) = playStrOf g t
-playPlain g (broken t) = refusedPlay g (refusal 9)
+playPlain g broken = refusedPlay g (refusal 9)
 
 unfoldable pub playTextOf : Game → List ℕ → Played
 playTextOf g w = playPlain g (plain w)

@@ -2,7 +2,7 @@
 use Prim.Native.Nat.{ℕ, zero, suc, _+_, _-_, _*_, _≤_, _<_, min}
 use mathlib.Core.Path.{_≡_, refl, ap, sym, _∙_, subst}
 use mathlib.Core.List.{List, [], _∷_, _++_, append-assoc, append-nil}
-use mathlib.Core.Bool.{Bool, true, false, cond, _&&_}
+use mathlib.Core.Bool.{Bool, true, false, cond, _&&_, true≢false, false≢true}
 use native.Mathlib.Omega.{arith}
 use lib.ListN.{length, take, drop, getD, length-drop, drop-of-length-le}
 use lib.Seq.{drop-drop}
@@ -12,7 +12,7 @@ use Rattle.texts.proofs.Cuts.{drop-next, rest}
 use Rattle.texts.proofs.Pieces.{start}
 use Rattle.texts.specs.Lent.{Holds, Adds}
 use Rattle.wording.specs.Numbers.{digitOf}
-use Rattle.wording.specs.Escapes.{Plain, text, broken, highOf, hexEscape, escapeOf, UsedIn, before, onEscape, undo, plain, undoneOf, undoneText, Undid}
+use Rattle.wording.specs.Escapes.{Plain, text, broken, highOf, hexEscape, escapeOf, UsedIn, before, onEscape, undo, plain, isPlain, undoneOf, undoneBytes, Undid}
 use Rattle.wording.specs.declared.escapes.Escape.{Escape}
 use Rattle.wording.specs.declared.escapes.Escape.the-variants as escape
 use Rattle.wording.specs.declared.escapes.Undone.the-variants as undone
@@ -93,12 +93,12 @@ undo-skip (suc n) [] = refl
 undo-skip (suc n) (b ∷ s) = undo-skip n s
 
 plain-byte : (b : ℕ) (t : List ℕ) (q : Bool) → q ≡ false → elim q [ true ↦ onEscape (escapeOf t) (λ x n. before x (undo n t)) | false ↦ before b (undo 0 t) ] ≡ before b (undo 0 t)
-plain-byte b t true e = absurd (mathlib.Core.Bool.true≢false e)
+plain-byte b t true e = absurd (true≢false e)
 plain-byte b t false e = refl
 
 escape-byte : (b : ℕ) (t : List ℕ) (q : Bool) → q ≡ true → elim q [ true ↦ onEscape (escapeOf t) (λ x n. before x (undo n t)) | false ↦ before b (undo 0 t) ] ≡ onEscape (escapeOf t) (λ x n. before x (undo n t))
 escape-byte b t true e = refl
-escape-byte b t false e = absurd (mathlib.Core.Bool.false≢true e)
+escape-byte b t false e = absurd (false≢true e)
 
 undo-byte : (b : ℕ) (t : List ℕ) → (b ≡ 92 → ⊥) → undo 0 (b ∷ t) ≡ before b (undo 0 t)
 unfolding undo
@@ -118,7 +118,7 @@ undo-escape s i x n h e f =
     ∙ ap (λ (p : Escape). onEscape p (λ y m. before y (undo m (drop (i + 1) s)))) f
     ∙ ap (before x) (undo-skip n (drop (i + 1) s) ∙ ap (undo 0) (drop-drop n (i + 1) s))
 
-pub undo-broken : (s : List ℕ) (i : ℕ) → i < length s → getD s i 0 ≡ 92 → escapeOf (drop (i + 1) s) ≡ escape.Bad → undo 0 (drop i s) ≡ broken []
+pub undo-broken : (s : List ℕ) (i : ℕ) → i < length s → getD s i 0 ≡ 92 → escapeOf (drop (i + 1) s) ≡ escape.Bad → undo 0 (drop i s) ≡ broken
 undo-broken s i h e f =
     ap (undo 0) (drop-next s i h) ∙ undo-slash (getD s i 0) (drop (i + 1) s) e
     ∙ ap (λ (p : Escape). onEscape p (λ y m. before y (undo m (drop (i + 1) s)))) f
@@ -127,15 +127,28 @@ pub undo-end : (s : List ℕ) (i : ℕ) → length s ≤ i → undo 0 (drop i s)
 unfolding undo
 undo-end s i h = rw (drop-of-length-le s h)
 
+-- whether it is plain, place by place
+before-plain : (b : ℕ) (p : Plain) → isPlain (before b p) ≡ isPlain p
+before-plain b (text t) = refl
+before-plain b broken = refl
+
+pub plain-start : (s : List ℕ) → isPlain (plain s) ≡ isPlain (undo 0 (drop 0 s))
+unfolding plain
+plain-start s = refl
+
+pub plain-next : (s : List ℕ) (i j b : ℕ) → isPlain (plain s) ≡ isPlain (undo 0 (drop i s)) → undo 0 (drop i s) ≡ before b (undo 0 (drop j s))
+    → isPlain (plain s) ≡ isPlain (undo 0 (drop j s))
+plain-next s i j b w e = w ∙ ap isPlain e ∙ before-plain b (undo 0 (drop j s))
+
 -- bytes before what is left
 unfoldable pub behind : List ℕ → Plain → Plain
 behind d (text t) = text (d ++ t)
-behind d (broken t) = broken (d ++ t)
+behind d broken = broken
 
 behind-byte : (d : List ℕ) (b : ℕ) (p : Plain) → behind d (before b p) ≡ behind (d ++ (b ∷ [])) p
 unfolding behind
 behind-byte d b (text t) = ap text (sym (append-assoc d (b ∷ []) t))
-behind-byte d b (broken t) = ap broken (sym (append-assoc d (b ∷ []) t))
+behind-byte d b broken = refl
 
 -- the bytes before the place i of the word were undone: what they stand for was written
 pub record Undoing (s o out : List ℕ) (i at : ℕ) : Type 0 where
@@ -149,7 +162,7 @@ undoing-start s o = record { done = []; whole = go (undo 0 s); held = start o }
   where
     go : (p : Plain) → p ≡ behind [] p
     go (text t) = refl
-    go (broken t) = refl
+    go broken = refl
 
 pub undoing-byte : {s o out new : List ℕ} {i at end : ℕ} (j b : ℕ) → Undoing s o out i at → Adds (b ∷ []) out at new end
     → undo 0 (drop i s) ≡ before b (undo 0 (drop j s)) → Undoing s o new j end
@@ -160,15 +173,18 @@ undoing-byte {s} {o} {out} {new} {i} {at} {end} j b u a e =
       held = a .held o (u .done) (u .held);
     }
 
-held-as : {s o out : List ℕ} {i at : ℕ} (u : Undoing s o out i at) (t : List ℕ) → u .done ≡ t → Holds o t out (min (length t) (length o))
-held-as {s} {o} {out} {i} {at} u t q =
-    subst (λ (x : List ℕ). Holds o x out (min (length x) (length o))) q (subst (λ (n : ℕ). Holds o (u .done) out n) (u .held .place) (u .held))
+-- where an escape is none, nothing was written
+pub undid-none : (s o : List ℕ) → isPlain (plain s) ≡ false → Undid s o o undone.Bad
+undid-none s o q = go (plain s) refl
+  where
+    go : (p : Plain) → plain s ≡ p → Undid s o o undone.Bad
+    go (text t) e = absurd (true≢false (sym (ap isPlain e) ∙ q))
+    go broken e = record { answer = sym (ap (undoneOf (length o)) e); bytes = sym (ap (λ (p : Plain). undoneBytes p o) e) }
 
-pub undoing-broken : {s o out : List ℕ} {i at : ℕ} → Undoing s o out i at → undo 0 (drop i s) ≡ broken [] → Undid s o out undone.Bad
+-- that was seen before anything was written
+pub undoing-never : {s o out : List ℕ} {i at : ℕ} → Undoing s o out i at → isPlain (plain s) ≡ true → undo 0 (drop i s) ≡ broken → ⊥
 unfolding behind
-undoing-broken {s} {o} u e =
-    let w : plain s ≡ broken (u .done) = u .whole ∙ ap (behind (u .done)) e ∙ ap broken (append-nil (u .done)) in
-    record { answer = sym (ap (undoneOf (length o)) w); bytes = held-as u (undoneText (plain s)) (sym (ap undoneText w)) }
+undoing-never u q e = true≢false (sym q ∙ ap isPlain (u .whole ∙ ap (behind (u .done)) e))
 
 pub undoing-end : {s o out : List ℕ} {i at : ℕ} → Undoing s o out i at → undo 0 (drop i s) ≡ text [] → Undid s o out (undone.Length at)
 unfolding behind
@@ -176,5 +192,5 @@ undoing-end {s} {o} u e =
     let w : plain s ≡ text (u .done) = u .whole ∙ ap (behind (u .done)) e ∙ ap text (append-nil (u .done)) in
     record {
       answer = ap undone.Length (u .held .place) ∙ sym (ap (undoneOf (length o)) w);
-      bytes = held-as u (undoneText (plain s)) (sym (ap undoneText w));
+      bytes = u .held .bytes ∙ sym (ap (λ (p : Plain). undoneBytes p o) w);
     }

@@ -3,32 +3,32 @@ use mathlib.Core.Path.{_≡_}
 use Prim.Native.Nat.{ℕ, zero, suc, _+_, _*_, _≤_, min}
 use Prim.Native.Char.{code}
 use mathlib.Core.List.{List, [], _∷_}
-use mathlib.Core.Bool.{true, false, cond, _&&_}
+use mathlib.Core.Bool.{Bool, true, false, cond, _&&_}
 use lib.ListN.{length}
 use lib.Dec.{eqb, leb}
-use Rattle.texts.specs.Lent.{Holds}
+use Rattle.texts.specs.Lent.{written}
 use Rattle.wording.specs.Numbers.{digitOf}
 use Rattle.wording.specs.declared.escapes.Escape.{Escape}
 use Rattle.wording.specs.declared.escapes.Escape.the-variants as escape
 use Rattle.wording.specs.declared.escapes.Undone.{Undone}
 use Rattle.wording.specs.declared.escapes.Undone.the-variants as undone
 
--- a word with its escapes undone; where one of them is none, what stands before that one
+-- a word with its escapes undone, or that one of them is none
 pub data Plain : Type 0 where
   text : List ℕ → Plain
-  broken : List ℕ → Plain
+  broken : Plain
 
 -- the first of two hexadecimal digits may be a sign, as Rust reads it
 unfoldable pub highOf : ℕ → ℕ
 highOf b = cond (eqb b (code "+")) 0 (digitOf b)
 
--- the byte of the digits behind \x, and the bytes behind the backslash
+-- the byte of the digits after \x, and how many bytes there are after the backslash
 unfoldable pub hexEscape : List ℕ → Escape
 hexEscape [] = escape.Bad
 hexEscape (a ∷ []) = escape.Bad
 hexEscape (a ∷ (b ∷ s)) = cond (leb (highOf a) 15 && leb (digitOf b) 15) (escape.Byte (highOf a * 16 + digitOf b) 3) escape.Bad
 
--- the escape of which s stands behind the backslash
+-- the escape after a backslash: s is what follows it
 unfoldable pub escapeOf : List ℕ → Escape
 escapeOf [] = escape.Bad
 escapeOf (c ∷ s) =
@@ -39,7 +39,7 @@ escapeOf (c ∷ s) =
     (cond (eqb c (code "r")) (escape.Byte 13 1)
     (cond (eqb c (code "x")) (hexEscape s) escape.Bad)))))
 
--- an escape lies within the bytes behind the backslash
+-- an escape lies within the bytes after the backslash
 abbrev pub UsedIn : Escape → ℕ → Type 0
 UsedIn (escape.Byte b n) k = n ≤ k
 UsedIn escape.Bad k = Unit
@@ -47,11 +47,11 @@ UsedIn escape.Bad k = Unit
 -- a byte before what is left
 abbrev pub before : ℕ → Plain → Plain
 before b (text t) = text (b ∷ t)
-before b (broken t) = broken (b ∷ t)
+before b broken = broken
 
 abbrev pub onEscape : Escape → (ℕ → ℕ → Plain) → Plain
 onEscape (escape.Byte b n) k = k b n
-onEscape escape.Bad k = broken []
+onEscape escape.Bad k = broken
 
 -- the text of a word of which k bytes more belong to an escape
 unfoldable pub undo : ℕ → List ℕ → Plain
@@ -64,17 +64,22 @@ undo zero (b ∷ s) =
 unfoldable pub plain : List ℕ → Plain
 plain s = undo 0 s
 
--- what undoing tells of lent bytes of this length
+-- whether every escape of the word is one
+abbrev pub isPlain : Plain → Bool
+isPlain (text t) = true
+isPlain broken = false
+
+-- the answer for lent bytes of this length
 abbrev pub undoneOf : ℕ → Plain → Undone
 undoneOf room (text t) = undone.Length (min (length t) room)
-undoneOf room (broken t) = undone.Bad
+undoneOf room broken = undone.Bad
 
--- what was undone, up to an escape that is none
-abbrev pub undoneText : Plain → List ℕ
-undoneText (text t) = t
-undoneText (broken t) = t
+-- the lent bytes o afterwards: the text over their start, or all as it was
+abbrev pub undoneBytes : Plain → List ℕ → List ℕ
+undoneBytes (text t) o = written t o
+undoneBytes broken o = o
 
--- the text of the word s was written over the lent bytes o; where an escape is none, what stands before that one was
+-- the text of the word s was written over the lent bytes o, or nothing was
 pub record Undid (s o out : List ℕ) (r : Undone) : Type 0 where
   pub answer : r ≡ undoneOf (length o) (plain s)
-  pub bytes : Holds o (undoneText (plain s)) out (min (length (undoneText (plain s))) (length o))
+  pub bytes : out ≡ undoneBytes (plain s) o

@@ -3,9 +3,9 @@ use crate::numbers;
 use crate::output;
 ghost use mathlib.Core.Path.{_≡_};
 ghost use lib.ListN.{length};
-ghost use Rattle.wording.specs.Escapes.{highOf, hexEscape, escapeOf, UsedIn, Undid};
+ghost use Rattle.wording.specs.Escapes.{highOf, hexEscape, escapeOf, UsedIn, plain, isPlain, Undid};
 
-// What an escape stands for, and how many bytes it has behind the backslash.
+// What an escape stands for, and how many bytes it has after the backslash.
 pub(crate) enum Escape {
     Byte(u8, usize),
     Bad,
@@ -24,7 +24,7 @@ fn high(b: u8) -> u8
     if b == b'+' { 0 } else { numbers::digit(b) }
 }
 
-// The byte of the two digits behind `\x`.
+// The byte of the two digits after `\x`.
 fn hex_escape(s: &[u8]) -> Escape
     ensures { λ r. ⌜ r ≡ hexEscape (now (s .entry)) ⌝ }
 {
@@ -42,7 +42,7 @@ fn hex_escape(s: &[u8]) -> Escape
     Escape::Byte(a * 16 + b, 3)
 }
 
-// The escape of which this stands behind the backslash.
+// The escape after a backslash.
 fn read_escape(s: &[u8]) -> Escape
     ensures { λ r. ⌜ (r ≡ escapeOf (now (s .entry))) × UsedIn r (length (now (s .entry))) ⌝ }
 {
@@ -60,10 +60,35 @@ fn read_escape(s: &[u8]) -> Escape
     }
 }
 
-// The text of a word, in lent bytes, up to an escape that is none; what has no room is left out.
+// Whether every escape of a word is one.
+fn is_plain(s: &[u8]) -> bool
+    ensures { λ r. ⌜ r ≡ isPlain (plain (now (s .entry))) ⌝ }
+{
+    let mut i = 0;
+    while i < s.len() {
+        let b = s[i];
+        i += 1;
+        if b == b'\\' {
+            match read_escape(&s[i..]) {
+                Escape::Byte(_, n) => {
+                    i += n;
+                }
+                Escape::Bad => {
+                    return false;
+                }
+            }
+        }
+    }
+    true
+}
+
+// The text of a word, in lent bytes; what has no room is left out. Where an escape is none, nothing is written.
 pub fn unescape(s: &[u8], out: &mut [u8]) -> Undone
     ensures { λ r. ⌜ Undid (now (s .entry)) (now (out .entry)) (now (out .exit)) r ⌝ }
 {
+    if !is_plain(s) {
+        return Undone::Bad;
+    }
     let mut i = 0;
     let mut at = 0;
     while i < s.len() {

@@ -1,4 +1,4 @@
--- Step by step, up to the last whole line.
+-- Step by step, up to the last whole line, or to a write that fails.
 use mathlib.Core.Path.{_≡_, sym}
 use Prim.Native.Nat.{_-_}
 use lib.ListN.{length, take}
@@ -40,13 +40,19 @@ loop-less : tie.Need-loop-less Inv-loop μ-loop
 loop-less c = search needs
 
 loop-again : tie.Need-loop-again Inv-loop μ-loop
-loop-again c = let l = c .before .before .before .before .before .before .before .before .loop in (search needs, laws.onward-whole (l .inv .1) (l .inv .2), c .before .before .answer-lines2 .ensures)
+loop-again c = let l = c .before .before .before .before .before .before .before .before .before .loop in (search needs, laws.onward-whole (l .inv .1) (l .inv .2), c .before .before .answer-lines2 .ensures)
 
 same-length : tie.Need-same-length Inv-loop μ-loop
 same-length c = search needs
 
 returns : tie.Need-returns Inv-loop μ-loop
-returns c = let l = c .before .before .loop in (omega arith, laws.all-whole (l .inv .1) (l .inv .2) (omega arith))
+returns c = search needs
+
+same-length-2 : tie.Need-same-length-2 Inv-loop μ-loop
+same-length-2 c = search needs
+
+returns-2 : tie.Need-returns-2 Inv-loop μ-loop
+returns-2 c = let l = c .before .before .loop in (omega arith, laws.all-whole (l .inv .1) (l .inv .2) (omega arith))
 
 pub write-answers-spec : {M : Type 1} → statement M
 write-answers-spec =
@@ -63,4 +69,6 @@ write-answers-spec =
     loop-less
     loop-again
     same-length
-    returns)
+    returns
+    same-length-2
+    returns-2)
