@@ -1,4 +1,4 @@
--- What stands in the two buffers: an answer behind those before it, and the start of a line that was carried over.
+-- What the two buffers contain: an answer after those before it, and the start of a line that was carried over.
 use Prim.Native.Nat.{ℕ, suc, _+_, _-_, _≤_, min}
 use mathlib.Core.Path.{_≡_, refl, ap, sym, _∙_}
 use mathlib.Core.List.{List, [], _∷_, _++_, append-assoc}

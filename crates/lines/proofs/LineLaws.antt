@@ -1,4 +1,4 @@
--- Whole lines and the line behind them, one after the other; what their answers are.
+-- Whole lines and the line after them, one after the other; what their answers are.
 use Prim.Native.Nat.{ℕ, zero, suc, _+_, _≤_, _<_}
 use mathlib.Core.Path.{_≡_, refl, ap, sym, _∙_}
 use mathlib.Core.List.{List, [], _∷_, _++_, append-assoc}
@@ -69,7 +69,7 @@ tail-whole b c t e = go (split (wholeOf (c ∷ t)))
     go (none z) = absurd (last (eqb b 10) (sym (whole-byte b (c ∷ t) z) ∙ e))
     go (some p) = omega (arith, whole-cons b (c ∷ t) p)
 
--- nothing behind the bytes that are whole changes them
+-- nothing after the bytes that are whole changes them
 pub whole-append : (t x : List ℕ) → wholeOf t ≡ length t → wholeOf (t ++ x) ≡ length t + wholeOf x
 whole-append [] x e = omega arith
 whole-append (b ∷ []) x e = go (split (wholeOf x))
@@ -81,7 +81,7 @@ whole-append (b ∷ (c ∷ t)) x e =
     let i = whole-append (c ∷ t) x (tail-whole b c t e) in
     whole-cons b ((c ∷ t) ++ x) (omega (arith, i)) ∙ omega (arith, i)
 
--- the whole lines, and the line behind them
+-- the whole lines, and the line after them
 pub whole-part : (s : List ℕ) → wholeOf (take (wholeOf s) s) ≡ wholeOf s
 whole-part [] = ap (λ (k : ℕ). wholeOf (take k [])) whole-nil
 whole-part (b ∷ s) = go (split (wholeOf s)) (whole-part s)
@@ -175,7 +175,7 @@ module _ (t : List ℕ) (n : ℕ) (e : n ≡ indexOf (is 10) t) (h : n < length 
       let k : n + 1 ≡ suc (indexOf (is 10) t) = omega (arith, e) in
       ap (λ (m : ℕ). answersTo (linesOf (take m t))) k ∙ ap answersTo (first-line t (omega (arith, e))) ∙ ap (λ (m : ℕ). answerOf (take m t) ++ (10 ∷ [])) (sym e)
 
--- ---- lines behind whole lines
+-- ---- lines after whole lines
 some-line : (c : ℕ) (t : List ℕ) → 0 < length (linesOf (c ∷ t))
 unfolding partsAt consHead
 some-line c t = go (eqb c 10) (linesOf t)

@@ -51,7 +51,7 @@ module _ (s : List ℕ) (from : ℕ) (out : List ℕ) (at put : ℕ) (g : Answer
           let z : take put out ≡ [] = g .answers ∙ ap (λ (k : ℕ). outputOf (between from k s)) e ∙ ap outputOf (nothing-between from s) ∙ output-nil in
           omega (arith, ap length z, length-take-le put out (g .fits))
 
-  -- t is what stands behind the lines so far
+  -- t is what comes after the lines so far
   module _ (t : List ℕ) (q : t ≡ drop at s) (n : ℕ) (e : n ≡ indexOf (is 10) t) where
     pub finished : n ≡ length t → Answered s from out at put
     finished l = ends (λ k. ap (λ (m : ℕ). wholeOf (drop m s)) (sym k) ∙ ap wholeOf (sym q) ∙ no-feed t (sym e ∙ l))

@@ -9,11 +9,11 @@ use Rattle.requests.specs.Requests.{longest, answerOf}
 
 -- ---- a whole input
 
--- the lines of some bytes: a line feed (10) ends a line; the last line may lack it; behind a line feed at the end there is no line
+-- the lines of some bytes: a line feed (10) ends a line; the last line may lack it; after a line feed at the end there is no line
 abbrev pub linesOf : List ℕ → List (List ℕ)
 linesOf s = partsAt 10 s
 
--- the answer to each line, in order, a line feed behind each
+-- the answer to each line, in order, a line feed after each
 unfoldable pub answersTo : List (List ℕ) → List ℕ
 answersTo [] = []
 answersTo (line ∷ lines) = answerOf line ++ (10 ∷ answersTo lines)
@@ -29,7 +29,7 @@ unfoldable pub wholeOf : List ℕ → ℕ
 wholeOf [] = 0
 wholeOf (b ∷ s) = let n = wholeOf s in cond (ltb 0 n) (suc n) (cond (eqb b 10) 1 0)
 
--- the bytes of its whole lines, and those of the line behind them, which has no line feed yet
+-- the bytes of its whole lines, and those of the line after them, which has no line feed yet
 unfoldable pub wholeLines : List ℕ → List ℕ
 wholeLines s = take (wholeOf s) s
 

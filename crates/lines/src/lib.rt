@@ -181,7 +181,7 @@ fn write_last(line: &[u8], out: &mut [u8]) -> Ended
 }
 
 // Each turn reads once and answers what lines are whole then. The first read or write that fails is the last: nothing more
-// is answered or written. So it is after as many turns as can be counted, which no run takes.
+// is answered or written. After u64::MAX turns, which no run takes, it ends as if a read had failed.
 fn feed(buf: &mut [u8], out: &mut [u8]) -> Ended
     requires { ⌜ (longest + 1 < length (now buf)) × (answerRoom ≤ length (now out)) ⌝ }
 {

@@ -12,11 +12,11 @@ sameText [] (b ∷ t) = false
 sameText (a ∷ s) [] = false
 sameText (a ∷ s) (b ∷ t) = eqb a b && sameText s t
 
--- what stands before the first space, the whole where there is none
+-- what comes before the first space, the whole where there is none
 unfoldable pub firstWord : List ℕ → List ℕ
 firstWord s = upTo (code " ") s
 
--- what stands behind it, nothing where there is none
+-- what comes after it, nothing where there is none
 unfoldable pub afterWord : List ℕ → List ℕ
 afterWord s = afterFirst (code " ") s
 

@@ -1,4 +1,4 @@
-// An answer is written piece by piece into lent bytes, each piece behind the one before; what has no room is left out.
+// An answer is written piece by piece into lent bytes, each piece after the one before; what has no room is left out.
 use squares::refusal::Refusal;
 pub use texts::bytes::put_byte;
 ghost use Rattle.texts.specs.Lent.{Adds};

@@ -26,7 +26,7 @@ pub fn first(s: &[u8]) -> &[u8]
     bytes::up_to(s, b' ')
 }
 
-// What stands behind the first word and its space: nothing where there is none.
+// What comes after the first word and its space: nothing where there is none.
 pub fn rest(s: &[u8]) -> &[u8]
     ensures { λ r. ⌜ now r ≡ afterWord (now (s .entry)) ⌝ }
 {

@@ -4,7 +4,6 @@ use mathlib.Core.Path.{_≡_, sym}
 use mathlib.Core.List.{List}
 use lib.ListN.{length, replicate, length-replicate}
 use Rattle.requests.specs.Requests.{longest, answerRoom}
-use borrow.Author.Needs.{needs}
 use native.Mathlib.Omega.{arith}
 use Rattle.lines.proofs.serve.Statement.{statement}
 use Rattle.lines.proofs.serve.Tie as tie
