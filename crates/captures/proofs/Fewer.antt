@@ -1,14 +1,16 @@
 -- What a jump takes leaves fewer untaken enemies.
-use mathlib.Core.Path.{_≡_, refl, sym, ap, _∙_}
+use mathlib.Core.Path.{_≡_, refl, sym, ap, _∙_, subst}
 use Prim.Native.Nat.{ℕ, _-_, _^_, _<_}
 use native.Mathlib.Omega.{arith}
 use mathlib.Core.Bool.{Bool, true, false, not, _&&_, _||_}
 use lib.Bits.{bitAnd, bitOr, and-le-r, or-lt}
 use Rattle.squares.specs.Sets.{has, size, without, lowest}
+use Rattle.squares.specs.Directions.{Direction, shifted}
 use Rattle.squares.proofs.Bools.{at3, imp, imp-elim, and-right, tested}
 use Rattle.squares.proofs.Pointwise.{has-and, has-or, has-without, without-lt}
 use Rattle.squares.proofs.Members.{lowest-in, lowest-lt}
 use Rattle.squares.proofs.Sizes.{size-lt}
+use Rattle.captures.proofs.Steps.{no-land}
 
 -- x meets the untaken of t in something: they are fewer once that is taken too
 pub fewer : (x t c : ℕ) → t < 2 ^ 64 → c < 2 ^ 64 → (bitAnd x (without t c) ≡ 0 → ⊥)
@@ -56,3 +58,10 @@ fewer x t c ht hc ne = size-lt (without t c) (without t (bitOr c o)) j (without-
         none true false = refl
         none false true = refl
         none false false = refl
+
+-- the same of a jump as the code computes it, over whatever lies ahead: where there is a landing, fewer are untaken
+pub jump-fewer : (them empty c : ℕ) (d : Direction) (u x y : ℕ) → u ≡ without them c → y ≡ shifted d (bitAnd x u) → them < 2 ^ 64 → c < 2 ^ 64
+    → (bitAnd y empty ≡ 0 → ⊥) → size (without them (bitOr c (bitAnd x u))) < size (without them c)
+jump-fewer them empty c d u x y eu ey ht hc ne =
+    subst (λ (w : ℕ). size (without them (bitOr c (bitAnd x w))) < size (without them c)) (sym eu)
+    (fewer x them c ht hc (λ z. ne (ap (λ (v : ℕ). bitAnd v empty) ey ∙ no-land d (bitAnd x u) empty (ap (bitAnd x) eu ∙ z))))

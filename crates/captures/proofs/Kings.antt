@@ -1,5 +1,5 @@
 -- A king's sequences: what one landing, one direction and all four come to, however an ending is noted.
-use mathlib.Core.Path.{_≡_, refl, sym, ap, ap₂, _∙_, subst}
+use mathlib.Core.Path.{_≡_, refl, sym, ap, ap₂, _∙_}
 use mathlib.Core.Logic.{_⊎_, inl, inr, ⊎-elim}
 use mathlib.Core.Bool.{Bool, true, false, not, cond, _&&_, _||_}
 use mathlib.Core.List.{List, [], foldl, foldl-append, flatMap}
@@ -18,8 +18,7 @@ use Rattle.captures.specs.Rays.{far, slideOf, landings}
 use Rattle.captures.specs.Record.{Ending, ending}
 use Rattle.captures.specs.Walks.{upTo, anyUpTo}
 use Rattle.captures.specs.Kings.{skipOf, kingOver, kingLand, kingJumps, kingEndings, King}
-use Rattle.captures.proofs.Fewer.{fewer}
-use Rattle.captures.proofs.Steps.{Enough, enough-0, enough-step, enough-and, no-land}
+use Rattle.captures.proofs.Steps.{Enough, enough-0, enough-step, enough-and}
 use Rattle.captures.proofs.Rays.{enough-far}
 use Rattle.captures.proofs.Walks.{or-yes, or-no, none-added}
 
@@ -34,13 +33,6 @@ pub jumped : (them empty at c d u x y : ℕ) → u ≡ without them c → x ≡ 
 jumped them empty at c d u x y eu ex ey =
     let o : bitAnd x u ≡ kingOver them empty at c d = ap₂ bitAnd ex eu in
     record { over-is = o; first-is = ap (λ (z : ℕ). bitAnd z empty) (ey ∙ ap (shifted (directionAt d)) o) }
-
--- it leaves fewer untaken enemies
-pub jump-fewer : (them empty at c d over first : ℕ) → Jumped them empty at c d over first → them < 2 ^ 64 → c < 2 ^ 64 → (first ≡ 0 → ⊥)
-    → size (without them (bitOr c over)) < size (without them c)
-jump-fewer them empty at c d over first j ht hc ne =
-    subst (λ (o : ℕ). size (without them (bitOr c o)) < size (without them c)) (sym (j .over-is))
-    (fewer (slideOf (directionAt d) empty at) them c ht hc (λ z. ne (j .first-is ∙ no-land (directionAt d) _ empty z)))
 
 -- ---- along the landings
 -- the sequences that go on from the landing l, after a jump over o whose first landing is n

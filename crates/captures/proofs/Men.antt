@@ -1,8 +1,8 @@
 -- A man's sequences: what one direction adds, and what all four come to, however an ending is noted.
-use mathlib.Core.Path.{_≡_, refl, sym, ap, ap₂, _∙_, subst}
+use mathlib.Core.Path.{_≡_, refl, sym, ap, ap₂, _∙_}
 use mathlib.Core.Bool.{Bool, true, false, not, cond}
 use mathlib.Core.List.{List, [], foldl, foldl-append}
-use Prim.Native.Nat.{ℕ, zero, suc, _+_, _-_, _≤_, _<_, _^_}
+use Prim.Native.Nat.{ℕ, zero, suc, _+_, _≤_, _<_}
 use native.Mathlib.Nat.{not-suc-le-zero}
 use native.Mathlib.Numerals.{add-one}
 use native.Mathlib.Omega.{arith}
@@ -14,8 +14,6 @@ use Rattle.captures.specs.Record.{Ending, ending}
 use Rattle.captures.specs.Walks.{upTo, anyUpTo}
 use Rattle.captures.specs.Open.{manJump}
 use Rattle.captures.specs.Men.{manOver, manLand, manJumps, manEndings, Man}
-use Rattle.captures.proofs.Fewer.{fewer}
-use Rattle.captures.proofs.Steps.{no-land}
 use Rattle.captures.proofs.Walks.{or-yes, or-no, none-added}
 
 -- what the direction of index d adds
@@ -33,13 +31,6 @@ pub jumped : (them empty at c d u x y : ℕ) → u ≡ without them c → x ≡ 
 jumped them empty at c d u x y eu ex ey =
     let o : bitAnd x u ≡ manOver them empty at c d = ap₂ bitAnd ex eu in
     record { over-is = o; land-is = ap (λ (z : ℕ). bitAnd z empty) (ey ∙ ap (shifted (directionAt d)) o) }
-
--- a jump leaves fewer untaken enemies
-pub jump-fewer : (them empty at c d over land : ℕ) → Jumped them empty at c d over land → them < 2 ^ 64 → c < 2 ^ 64 → (land ≡ 0 → ⊥)
-    → size (without them (bitOr c over)) < size (without them c)
-jump-fewer them empty at c d over land j ht hc ne =
-    subst (λ (o : ℕ). size (without them (bitOr c o)) < size (without them c)) (sym (j .over-is))
-    (fewer (shifted (directionAt d) at) them c ht hc (λ z. ne (j .land-is ∙ no-land (directionAt d) _ empty z)))
 
 -- ---- over the directions
 module _ {S : Type 0} (note : S → Ending → S) (them empty : ℕ) where
@@ -67,11 +58,10 @@ module _ {S : Type 0} (note : S → Ending → S) (them empty : ℕ) where
         }
 
     -- a jump adds the sequences of the man that jumped
-    pub walked-jump : (r : S) → them < 2 ^ 64 → c < 2 ^ 64 → (land ≡ 0 → ⊥) → Man note them empty s land (bitOr c over) r → Walked s₀ at c (d + 1) r true
+    pub walked-jump : (r : S) → size (without them (bitOr c over)) < size (without them c) → (land ≡ 0 → ⊥) → Man note them empty s land (bitOr c over) r → Walked s₀ at c (d + 1) r true
     unfolding anyUpTo upTo
-    walked-jump r ht hc ne m =
+    walked-jump r less ne m =
         let yes : manJumps them empty at c d ≡ true = ap not (ne-eqb _ _ (λ z. ne (j .land-is ∙ z))) in
-        let less = jump-fewer them empty at c d over land j ht hc ne in
         record {
           within = omega arith;
           any = rw add-one (or-yes (anyUpTo (manJumps them empty at c) d) (manJumps them empty at c d) yes);

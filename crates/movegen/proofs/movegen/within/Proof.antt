@@ -21,7 +21,7 @@ refused-requires : tie.Need-refused-requires
 refused-requires c κs = search needs
 
 returns : tie.Need-returns
-returns c = c .refused .ensures ∙ tested _ _ _ (c .before .if1 .taken)
+returns c = let a = c .before .before .before .before .before .args in c .refused .ensures ∙ tested (a .l) (a .limit) _ (c .before .if1 .taken)
 
 returns-2 : tie.Need-returns-2
 returns-2 c = tested _ _ _ (c .if1 .left)

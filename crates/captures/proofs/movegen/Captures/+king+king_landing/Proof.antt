@@ -21,7 +21,8 @@ use Rattle.captures.proofs.Steps.{rank, ray-falls}
 use Rattle.captures.specs.Record.{noteOf}
 use Rattle.captures.proofs.Recorded.{kept-trans}
 use Rattle.captures.proofs.Boards.{king-kept, king-on, ray-kept}
-use Rattle.captures.proofs.Kings.{jumped, jump-fewer, Rayed, ray-start, ray-first, ray-step, Walked, walked-none, walked-skip, walked-ray, walked-out, walked-end}
+use Rattle.captures.proofs.Fewer.{jump-fewer}
+use Rattle.captures.proofs.Kings.{jumped, Rayed, ray-start, ray-first, ray-step, Walked, walked-none, walked-skip, walked-ray, walked-out, walked-end}
 use Rattle.captures.proofs.movegen.Captures.king.Reads as king
 use Rattle.captures.proofs.movegen.Captures.king.Kinds as king-kinds
 use Rattle.captures.proofs.movegen.Captures.+king+king_landing.Lts-king as king-lts
@@ -113,8 +114,7 @@ module _ (t : ℕ) where
       let d = head .loop .d in
       let kept = king-kept _ _ _ _ _ _ _ _ _ (head .loop .inv) in
       let on = ray-kept _ _ _ _ _ _ _ _ _ _ _ (at2 .loop2 .inv) in
-      let j = jumped (a .self .them) (a .self .empty) (a .at) (a .captured) d _ _ _ (head .before .difference .ensures) (sh .before .slide .ensures) (sh .shift .ensures) in
-      let less = jump-fewer (a .self .them) (a .self .empty) (a .at) (a .captured) d _ _ j (head .loop .inv .fits) (start .fits .captured .fits) (ray-first noteOf _ _ _ _ _ _ _ _ _ _ _ (at2 .loop2 .inv) (c .loop2-test .taken)) in
+      let less = jump-fewer (a .self .them) (a .self .empty) (a .captured) _ (head .before .difference .result) (sh .before .slide .result) (sh .shift .result) (head .before .difference .ensures) (sh .shift .ensures) (head .loop .inv .fits) (start .fits .captured .fits) (ray-first noteOf _ _ _ _ _ _ _ _ _ _ _ (at2 .loop2 .inv) (c .loop2-test .taken)) in
       let over = bitAnd (sh .before .slide .result) (head .before .difference .result) in
       let below : size (without (at2 .loop2 .s .them) (bitOr (a .captured) over)) < size (without (a .self .them) (a .captured)) = rw (on .them ∙ kept .them) less in
       (omega (arith, start .pre .0), tt)
@@ -141,8 +141,7 @@ module _ (t : ℕ) where
       let d = head .loop .d in
       let kept = king-kept _ _ _ _ _ _ _ _ _ (head .loop .inv) in
       let on = ray-kept _ _ _ _ _ _ _ _ _ _ _ (at2 .loop2 .inv) in
-      let j = jumped (a .self .them) (a .self .empty) (a .at) (a .captured) d _ _ _ (head .before .difference .ensures) (sh .before .slide .ensures) (sh .shift .ensures) in
-      let less = jump-fewer (a .self .them) (a .self .empty) (a .at) (a .captured) d _ _ j (head .loop .inv .fits) (start .fits .captured .fits) (ray-first noteOf _ _ _ _ _ _ _ _ _ _ _ (at2 .loop2 .inv) ne) in
+      let less = jump-fewer (a .self .them) (a .self .empty) (a .captured) _ (head .before .difference .result) (sh .before .slide .result) (sh .shift .result) (head .before .difference .ensures) (sh .shift .ensures) (head .loop .inv .fits) (start .fits .captured .fits) (ray-first noteOf _ _ _ _ _ _ _ _ _ _ _ (at2 .loop2 .inv) ne) in
       ray-step noteOf _ _ _ _ _ _ _ _ _ _ _ (at2 .loop2 .inv) (c .shift2 .result) (c .before .king-landing .result) less ne (c .shift2 .ensures) (king-on (a .self) _ _ _ _ _ (kept-trans kept on) (c .before .king-landing .ensures))
 
   king-add-d : king-lts.Need-add-d (king-calls t) (king-at t) king.Post king-Inv-loop2 king-μ-loop2 king-Inv-loop king-μ-loop
@@ -219,8 +218,7 @@ module _ (t : ℕ) where
       let d = head .loop .turn in
       let kept = king-kept _ _ _ _ _ _ _ _ _ (head .loop .inv) in
       let on = ray-kept _ _ _ _ _ _ _ _ _ _ _ (at2 .loop2 .inv) in
-      let j = jumped (a .self .them) (a .self .empty) (a .at) (a .captured) d _ _ _ (head .before .difference .ensures) (sh .before .slide .ensures) (sh .shift .ensures) in
-      let less = jump-fewer (a .self .them) (a .self .empty) (a .at) (a .captured) d _ _ j (head .loop .inv .fits) (start .fits .captured .fits) (ray-first noteOf _ _ _ _ _ _ _ _ _ _ _ (at2 .loop2 .inv) (c .loop2-test .taken)) in
+      let less = jump-fewer (a .self .them) (a .self .empty) (a .captured) _ (head .before .difference .result) (sh .before .slide .result) (sh .shift .result) (head .before .difference .ensures) (sh .shift .ensures) (head .loop .inv .fits) (start .fits .captured .fits) (ray-first noteOf _ _ _ _ _ _ _ _ _ _ _ (at2 .loop2 .inv) (c .loop2-test .taken)) in
       let over = bitAnd (sh .before .slide .result) (head .before .difference .result) in
       let below : size (without (at2 .loop2 .s .them) (bitOr (a .captured) over)) < size (without (a .self .them) (a .captured)) = rw (on .them ∙ kept .them) less in
       (omega (arith, start .pre .0), tt)
@@ -247,8 +245,7 @@ module _ (t : ℕ) where
       let d = head .loop .turn in
       let kept = king-kept _ _ _ _ _ _ _ _ _ (head .loop .inv) in
       let on = ray-kept _ _ _ _ _ _ _ _ _ _ _ (at2 .loop2 .inv) in
-      let j = jumped (a .self .them) (a .self .empty) (a .at) (a .captured) d _ _ _ (head .before .difference .ensures) (sh .before .slide .ensures) (sh .shift .ensures) in
-      let less = jump-fewer (a .self .them) (a .self .empty) (a .at) (a .captured) d _ _ j (head .loop .inv .fits) (start .fits .captured .fits) (ray-first noteOf _ _ _ _ _ _ _ _ _ _ _ (at2 .loop2 .inv) ne) in
+      let less = jump-fewer (a .self .them) (a .self .empty) (a .captured) _ (head .before .difference .result) (sh .before .slide .result) (sh .shift .result) (head .before .difference .ensures) (sh .shift .ensures) (head .loop .inv .fits) (start .fits .captured .fits) (ray-first noteOf _ _ _ _ _ _ _ _ _ _ _ (at2 .loop2 .inv) ne) in
       ray-step noteOf _ _ _ _ _ _ _ _ _ _ _ (at2 .loop2 .inv) (c .shift2 .result) (c .before .king-landing .result) less ne (c .shift2 .ensures) (king-on (a .self) _ _ _ _ _ (kept-trans kept on) (c .before .king-landing .ensures))
 
   landing-add-turn : king-landing-lts.Need-add-turn (landing-calls t) (king-landing-at t) king-landing.Post landing-Inv-loop2 landing-μ-loop2 landing-Inv-loop landing-μ-loop

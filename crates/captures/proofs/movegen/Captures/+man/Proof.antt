@@ -5,12 +5,14 @@ use native.Mathlib.Omega.{arith}
 use borrow.Author.Needs.{needs}
 use borrow.Fn.Kinds.{In}
 use borrow.Fn.PlainCycle.{Measures, is, falls, and}
+use lib.Bits.{bitAnd, bitOr}
 use Rattle.squares.specs.Sets.{size, without}
 use Rattle.squares.proofs.bitboard.difference.Reads as difference-reads
 use Rattle.squares.proofs.bitboard.shift.Reads as shift-reads
 use Rattle.captures.specs.Record.{noteOf}
 use Rattle.captures.proofs.Boards.{man-kept, man-on}
-use Rattle.captures.proofs.Men.{Walked, walked-none, walked-past, walked-jump, walked-out, walked-end, man-ends, jumped, jump-fewer}
+use Rattle.captures.proofs.Fewer.{jump-fewer}
+use Rattle.captures.proofs.Men.{Walked, walked-none, walked-past, walked-jump, walked-out, walked-end, man-ends, jumped}
 use Rattle.captures.proofs.movegen.Captures.man.Reads as man
 use Rattle.captures.proofs.movegen.Captures.man.Kinds as man-kinds
 use Rattle.captures.proofs.movegen.Captures.+man.Lts-man as man-lts
@@ -64,10 +66,11 @@ module _ (t : ℕ) where
       let start = head .before .before in
       let a = start .args in
       let ht : a .self .them < 2 ^ 64 = search needs in
-      let j = jumped (a .self .them) (a .self .empty) (a .at) (a .captured) (head .loop .dir) _ _ _ (head .before .difference .ensures) (sh .before .shift .ensures) (sh .shift2 .ensures) in
-      let less = jump-fewer (a .self .them) (a .self .empty) (a .at) (a .captured) (head .loop .dir) _ _ j ht (start .fits .captured .fits) (c .before .before .before .if1 .taken) in
+      let less = jump-fewer (a .self .them) (a .self .empty) (a .captured) _ (head .before .difference .result) (sh .before .shift .result) (sh .shift2 .result) (head .before .difference .ensures) (sh .shift2 .ensures) ht (start .fits .captured .fits) (c .before .before .before .if1 .taken) in
       let kept = man-kept _ _ _ _ _ _ _ _ (head .loop .inv) in
-      (rw (kept .them, ← start .pre .0) less, tt)
+      let over = bitAnd (sh .before .shift .result) (head .before .difference .result) in
+      let below : size (without (head .loop .s .them) (bitOr (a .captured) over)) < size (without (a .self .them) (a .captured)) = rw (kept .them) less in
+      (omega (arith, start .pre .0), tt)
 
   record-requires : man-lts.Need-record-requires (calls t) (man-at t) man.Post Inv-loop μ-loop
   record-requires c κs = search needs
@@ -91,11 +94,12 @@ module _ (t : ℕ) where
       let lt : d < 4 = sh .before .before .loop-test .taken in
       let j = jumped (a .self .them) (a .self .empty) (a .at) (a .captured) d _ _ _ (head .before .difference .ensures) (sh .before .shift .ensures) (sh .shift2 .ensures) in
       let past = walked-past noteOf (a .self .them) (a .self .empty) (a .self) (a .at) (a .captured) d s (head .loop .extended) (head .loop .inv) lt _ _ j in
+      let less = jump-fewer (a .self .them) (a .self .empty) (a .captured) _ (head .before .difference .result) (sh .before .shift .result) (sh .shift2 .result) (head .before .difference .ensures) (sh .shift2 .ensures) ht (start .fits .captured .fits) in
       let jump = walked-jump noteOf (a .self .them) (a .self .empty) (a .self) (a .at) (a .captured) d s (head .loop .extended) (head .loop .inv) lt _ _ j in
       ⊎-elim
-      (λ w. rw (w .5, w .6) (jump (w .4 .result) ht (start .fits .captured .fits) (w .0 .taken) (man-on (a .self) s _ _ _ kept (w .4 .ensures))))
+      (λ w. rw (w .5, w .6) (jump (w .4 .result) (less (w .0 .taken)) (w .0 .taken) (man-on (a .self) s _ _ _ kept (w .4 .ensures))))
       (⊎-elim
-      (λ w. rw (w .5, w .6) (jump (w .4 .result) ht (start .fits .captured .fits) (w .0 .taken) (rw (w .4 .ensures) (man-ends noteOf _ _ s _ _ (rw (← w .1 .ensures, ← w .2 .ensures) (w .3 .left))))))
+      (λ w. rw (w .5, w .6) (jump (w .4 .result) (less (w .0 .taken)) (w .0 .taken) (rw (w .4 .ensures) (man-ends noteOf _ _ s _ _ (rw (← w .1 .ensures, ← w .2 .ensures) (w .3 .left))))))
       (λ w. rw (w .1, w .2) (past (w .0 .left))))
       (c .if1 .came)
 

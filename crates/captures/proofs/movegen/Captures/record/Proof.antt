@@ -1,9 +1,9 @@
 -- Each return is one case of the definition: too few, more than before, found already, one more, no room for one more.
 use borrow.Author.Needs.{needs}
-use mathlib.Core.Path.{_≡_, _∙_}
+use mathlib.Core.Path.{_≡_, ap₂, _∙_}
 use mathlib.Core.Bool.{true, false}
 use Rattle.positions.specs.Moves.{move}
-use Rattle.captures.specs.Lists.{noMoves, entries, listed, pushOf}
+use Rattle.captures.specs.Lists.{entries, listed, pushOf}
 use Rattle.captures.specs.Record.{listIn, recordOf, moveOf}
 use Rattle.captures.proofs.Recorded.{added-anew, added-there, added-stored, added-marked, record-is}
 use Rattle.captures.proofs.movegen.Captures.record.Statement.{statement}
@@ -33,7 +33,8 @@ returns-2 c =
     let longer = c .before .before .before in
     let one = longer .before .before .before in
     let a = one .before .before .args in
-    let anew : c .before .push .result ≡ pushOf noMoves (moveOf (a .self) (a .to) (a .captured)) = cc in
+    let made : move (longer .before .before .first .result) (longer .before .first2 .result) (a .captured) ≡ moveOf (a .self) (a .to) (a .captured) = cc in
+    let anew = c .before .push .ensures ∙ ap₂ pushOf (c .before .before .new .ensures) made in
     added-anew (a .self) (moveOf (a .self) (a .to) (a .captured)) (one .before .count .result) (one .before .count .ensures) (one .if1 .left) (c .before .push .result) (longer .if2 .taken) anew ∙ record-is (a .self) (a .to) (a .captured)
 
 list-requires : tie.Need-list-requires

@@ -18,7 +18,8 @@ use Rattle.squares.proofs.bitboard.shift.Reads as shift-reads
 use Rattle.captures.specs.Kings.{skipOf}
 use Rattle.captures.proofs.Steps.{rank, ray-falls}
 use Rattle.shorts.specs.Noted.{noteShort}
-use Rattle.captures.proofs.Kings.{jumped, jump-fewer, Rayed, ray-start, ray-first, ray-step, Walked, walked-none, walked-skip, walked-ray, walked-out, walked-end}
+use Rattle.captures.proofs.Fewer.{jump-fewer}
+use Rattle.captures.proofs.Kings.{jumped, Rayed, ray-start, ray-first, ray-step, Walked, walked-none, walked-skip, walked-ray, walked-out, walked-end}
 use Rattle.shorts.proofs.short.Short.king.Reads as king
 use Rattle.shorts.proofs.short.Short.king.Kinds as king-kinds
 use Rattle.shorts.proofs.short.Short.+king+king_landing.Lts-king as king-lts
@@ -108,8 +109,7 @@ module _ (t : ℕ) where
       let start = head .before .before in
       let a = start .args in
       let d = head .loop .d in
-      let j = jumped (a .them) (a .empty) (a .at) (a .captured) d _ _ _ (head .before .difference .ensures) (sh .before .slide .ensures) (sh .shift .ensures) in
-      let less = jump-fewer (a .them) (a .empty) (a .at) (a .captured) d _ _ j (head .loop .inv .fits) (start .fits .captured .fits) (ray-first noteShort _ _ _ _ _ _ _ _ _ _ _ (at2 .loop2 .inv) (c .loop2-test .taken)) in
+      let less = jump-fewer (a .them) (a .empty) (a .captured) _ (head .before .difference .result) (sh .before .slide .result) (sh .shift .result) (head .before .difference .ensures) (sh .shift .ensures) (head .loop .inv .fits) (start .fits .captured .fits) (ray-first noteShort _ _ _ _ _ _ _ _ _ _ _ (at2 .loop2 .inv) (c .loop2-test .taken)) in
       (omega (arith, start .pre .0), tt)
 
   king-shift-requires-2 : king-lts.Need-shift-requires-2 (king-calls t) (king-at t) king.Post king-Inv-loop2 king-μ-loop2 king-Inv-loop king-μ-loop
@@ -132,8 +132,7 @@ module _ (t : ℕ) where
       let start = head .before .before in
       let a = start .args in
       let d = head .loop .d in
-      let j = jumped (a .them) (a .empty) (a .at) (a .captured) d _ _ _ (head .before .difference .ensures) (sh .before .slide .ensures) (sh .shift .ensures) in
-      let less = jump-fewer (a .them) (a .empty) (a .at) (a .captured) d _ _ j (head .loop .inv .fits) (start .fits .captured .fits) (ray-first noteShort _ _ _ _ _ _ _ _ _ _ _ (at2 .loop2 .inv) ne) in
+      let less = jump-fewer (a .them) (a .empty) (a .captured) _ (head .before .difference .result) (sh .before .slide .result) (sh .shift .result) (head .before .difference .ensures) (sh .shift .ensures) (head .loop .inv .fits) (start .fits .captured .fits) (ray-first noteShort _ _ _ _ _ _ _ _ _ _ _ (at2 .loop2 .inv) ne) in
       ray-step noteShort _ _ _ _ _ _ _ _ _ _ _ (at2 .loop2 .inv) (c .shift2 .result) (c .before .king-landing .result) less ne (c .shift2 .ensures) (c .before .king-landing .ensures)
 
   king-add-d : king-lts.Need-add-d (king-calls t) (king-at t) king.Post king-Inv-loop2 king-μ-loop2 king-Inv-loop king-μ-loop
@@ -208,8 +207,7 @@ module _ (t : ℕ) where
       let start = head .before .before .before in
       let a = start .args in
       let d = head .loop .turn in
-      let j = jumped (a .them) (a .empty) (a .at) (a .captured) d _ _ _ (head .before .difference .ensures) (sh .before .slide .ensures) (sh .shift .ensures) in
-      let less = jump-fewer (a .them) (a .empty) (a .at) (a .captured) d _ _ j (head .loop .inv .fits) (start .fits .captured .fits) (ray-first noteShort _ _ _ _ _ _ _ _ _ _ _ (at2 .loop2 .inv) (c .loop2-test .taken)) in
+      let less = jump-fewer (a .them) (a .empty) (a .captured) _ (head .before .difference .result) (sh .before .slide .result) (sh .shift .result) (head .before .difference .ensures) (sh .shift .ensures) (head .loop .inv .fits) (start .fits .captured .fits) (ray-first noteShort _ _ _ _ _ _ _ _ _ _ _ (at2 .loop2 .inv) (c .loop2-test .taken)) in
       (omega (arith, start .pre .0), tt)
 
   landing-shift-requires-2 : king-landing-lts.Need-shift-requires-2 (landing-calls t) (king-landing-at t) king-landing.Post landing-Inv-loop2 landing-μ-loop2 landing-Inv-loop landing-μ-loop
@@ -232,8 +230,7 @@ module _ (t : ℕ) where
       let start = head .before .before .before in
       let a = start .args in
       let d = head .loop .turn in
-      let j = jumped (a .them) (a .empty) (a .at) (a .captured) d _ _ _ (head .before .difference .ensures) (sh .before .slide .ensures) (sh .shift .ensures) in
-      let less = jump-fewer (a .them) (a .empty) (a .at) (a .captured) d _ _ j (head .loop .inv .fits) (start .fits .captured .fits) (ray-first noteShort _ _ _ _ _ _ _ _ _ _ _ (at2 .loop2 .inv) ne) in
+      let less = jump-fewer (a .them) (a .empty) (a .captured) _ (head .before .difference .result) (sh .before .slide .result) (sh .shift .result) (head .before .difference .ensures) (sh .shift .ensures) (head .loop .inv .fits) (start .fits .captured .fits) (ray-first noteShort _ _ _ _ _ _ _ _ _ _ _ (at2 .loop2 .inv) ne) in
       ray-step noteShort _ _ _ _ _ _ _ _ _ _ _ (at2 .loop2 .inv) (c .shift2 .result) (c .before .king-landing .result) less ne (c .shift2 .ensures) (c .before .king-landing .ensures)
 
   landing-add-turn : king-landing-lts.Need-add-turn (landing-calls t) (king-landing-at t) king-landing.Post landing-Inv-loop2 landing-μ-loop2 landing-Inv-loop landing-μ-loop
