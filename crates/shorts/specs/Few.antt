@@ -9,7 +9,7 @@ use Rattle.captures.specs.Kings.{skipOf, kingEndings}
 use Rattle.shorts.specs.declared.short.Short.{Short}
 use Rattle.shorts.specs.Noted.{shortOf, noteShort}
 
--- the list set onto the piece on `at`
+-- the same list, now for the piece on `at`
 abbrev pub movingFrom : Short → ℕ → Short
 movingFrom t at = record { moves = t .moves; len = t .len; from = at; best = t .best; overflow = t .overflow }
 

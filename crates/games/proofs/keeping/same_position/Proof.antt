@@ -1,6 +1,5 @@
 -- What `same` ensures.
 use borrow.Author.Needs.{needs}
-use Rattle.games.specs.Games.{samePosition}
 use Rattle.games.proofs.keeping.same_position.Statement.{statement}
 use Rattle.games.proofs.keeping.same_position.Tie as tie
 
@@ -8,7 +7,6 @@ same-requires : tie.Need-same-requires
 same-requires c κs = search needs
 
 returns : tie.Need-returns
-unfolding samePosition
 returns c = rw (c .same .ensures)
 
 pub same-position-spec : {M : Type 1} → statement M

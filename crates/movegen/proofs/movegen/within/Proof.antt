@@ -1,6 +1,6 @@
 -- The mark and the length are tested as the definition does.
 use mathlib.Core.Path.{_≡_, sym, ap, _∙_}
-use mathlib.Core.Bool.{Bool, cond, _||_}
+use mathlib.Core.Bool.{Bool, true, cond, _||_}
 use Prim.Native.Nat.{ℕ}
 use lib.Dec.{ltb}
 use borrow.Author.Needs.{needs}
@@ -21,7 +21,7 @@ refused-requires : tie.Need-refused-requires
 refused-requires c κs = search needs
 
 returns : tie.Need-returns
-returns c = let a = c .before .before .before .before .before .args in c .refused .ensures ∙ tested (a .l) (a .limit) _ (c .before .if1 .taken)
+returns c = let a = c .before .before .before .before .before .args in c .refused .ensures ∙ tested (a .l) (a .limit) true (c .before .if1 .taken)
 
 returns-2 : tie.Need-returns-2
 returns-2 c = tested _ _ _ (c .if1 .left)

@@ -1,7 +1,6 @@
 -- Both by definition, a colour each.
 use mathlib.Core.Path.{refl}
 use borrow.Author.Needs.{needs}
-use Rattle.quiets.specs.Tests.{forwardOf}
 use Rattle.quiets.proofs.quiets.forward.Statement.{statement}
 use Rattle.quiets.proofs.quiets.forward.Tie as tie
 
@@ -12,11 +11,9 @@ enum-told-2 : tie.Need-enum-told-2
 enum-told-2 c = search needs
 
 returns : tie.Need-returns
-unfolding forwardOf
 returns c = rw (c .enum-told .given .1) refl
 
 returns-2 : tie.Need-returns-2
-unfolding forwardOf
 returns-2 c = rw (c .enum-told2 .given .1) refl
 
 pub forward-spec : {M : Type 1} → statement M
