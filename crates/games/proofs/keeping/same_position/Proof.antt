@@ -7,7 +7,7 @@ same-requires : tie.Need-same-requires
 same-requires c κs = search needs
 
 returns : tie.Need-returns
-returns c = rw (c .same .ensures)
+returns c = c .same .ensures
 
 pub same-position-spec : {M : Type 1} → statement M
 same-position-spec = tie.close (tie.spec same-requires returns)
