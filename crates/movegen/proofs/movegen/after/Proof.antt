@@ -1,5 +1,6 @@
 -- Refusals in the paper's order; a move of the list can be played, and what is played is the successor with its hash.
-use mathlib.Core.Path.{refl, sym, ap, _∙_}
+use mathlib.Core.Path.{_≡_, refl, sym, ap, _∙_}
+use mathlib.Core.Bool.{true}
 use Rattle.positions.specs.declared.position.Placed.the-variants as placed
 use Rattle.quiets.specs.declared.quiets.Listing.{Listing}
 use Rattle.movegen.specs.Lists.{afterOf}
@@ -53,8 +54,9 @@ returns-2 c =
     let q = sym (o .on-board .ensures) ∙ t .if2 .taken in
     let l = generated-is p e _ (g .before .of .ensures) _ (g .generate .ensures) in
     let f = sym (ap (λ (l : Listing). l .overflow) l) ∙ h .before .if3 .left in
+    let there : h .contains .result ≡ true = c .before .if4 .taken in
     ap placed.Position (c .play .ensures)
-    ∙ played-one p m e f (sym (found-law _ _ m l (h .before .if3 .left)) ∙ sym (h .contains .ensures) ∙ c .before .if4 .taken) ∙ after-at p m e q
+    ∙ played-one p m e f (sym (found-law _ _ m l (h .before .if3 .left)) ∙ sym (h .contains .ensures) ∙ there) ∙ after-at p m e q
 
 returns-3 : tie.Need-returns-3
 returns-3 c =

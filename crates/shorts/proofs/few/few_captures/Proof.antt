@@ -1,5 +1,5 @@
 -- The men's captures, then the kings'.
-use mathlib.Core.Path.{ap, _∙_}
+use mathlib.Core.Path.{_≡_, ap, _∙_}
 use borrow.Author.Needs.{needs}
 use Rattle.shorts.specs.declared.short.Short.{Short}
 use Rattle.shorts.specs.Few.{fewMenOf, fewKingsOf, fewCapturesOf}
@@ -19,7 +19,8 @@ returns : tie.Need-returns
 unfolding fewCapturesOf
 returns c =
     let a = c .before .before .before .args in
-    c .few-kings .ensures
+    let of-kings : c .few-kings .result ≡ fewKingsOf (c .before .few-men .result) (a .kings) (a .them) (a .empty) = c .few-kings .ensures in
+    of-kings
     ∙ ap (λ (t : Short). fewKingsOf t (a .kings) (a .them) (a .empty))
     (c .before .few-men .ensures ∙ ap (λ (t : Short). fewMenOf t (a .men) (a .them) (a .empty)) (c .before .before .new .ensures))
 
