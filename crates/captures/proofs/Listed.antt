@@ -1,11 +1,11 @@
 -- Search in a list of moves, entry by entry.
 use mathlib.Core.Path.{_≡_, refl, sym, ap, _∙_}
 use mathlib.Core.Bool.{Bool, true, false, _||_, or-assoc, or-true, or-false}
-use mathlib.Core.List.{List, [], _∷_, _++_, map}
+use mathlib.Core.List.{List, [], _∷_, _++_}
 use Prim.Native.Nat.{ℕ, zero, suc, _≤_, _<_, _+_}
 use native.Mathlib.Omega.{arith}
 use native.Mathlib.Numerals.{add-one}
-use lib.ListN.{length, take, getD, length-map}
+use lib.ListN.{length, take, getD}
 use lib.Seq.{take-suc, take-all}
 use Rattle.positions.specs.declared.moves.Move.{Move}
 use Rattle.positions.specs.Moves.{same}
@@ -35,7 +35,3 @@ listed-at (x ∷ l) (suc n) (suc i) m d h k e =
 -- past the end there is nothing more
 pub listed-all : (l : List Move) (n i : ℕ) (m : Move) → length l ≤ n → length l ≤ i → listed (take i l) m ≡ false → listed (take n l) m ≡ false
 listed-all l n i m h k p = ap (λ (x : List Move). listed x m) (take-all n l h ∙ sym (take-all i l k)) ∙ p
-
--- the length of an array in a struct
-pub length-of-map : (A B : Type 0) (f : A → B) (l : List A) (n : ℕ) → length (map f l) ≡ n → length l ≡ n
-length-of-map A B f l n p = sym (length-map l f) ∙ p

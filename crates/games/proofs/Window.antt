@@ -4,8 +4,8 @@ use Prim.Native.Nat.{ℕ, zero, suc, _+_, _-_, _<_, _≤_}
 use native.Mathlib.Omega.{arith}
 use native.Mathlib.Numerals.{add-one}
 use mathlib.Core.Bool.{Bool, true, false, cond, false≢true}
-use mathlib.Core.List.{List, [], _∷_, _++_, map}
-use lib.ListN.{length, take, getD, set, replicate, length-map}
+use mathlib.Core.List.{List, [], _∷_, _++_}
+use lib.ListN.{length, take, getD, set, replicate}
 use lib.Seq.{append-snoc, set-at, take-suc, length-take-le}
 use Rattle.squares.proofs.Bools.{and-left, and-right, not-so}
 use Rattle.positions.specs.Acceptance.{sound}
@@ -15,10 +15,6 @@ use Rattle.rules.proofs.Times.{times-append, times-one}
 use Rattle.games.specs.Games.{blankPosition, windowOf, lastOf, allSound, samePosition}
 use Rattle.games.specs.declared.game.Game.{Game}
 use Rattle.games.proofs.Valid.{Valid, sound-append, sound-one}
-
--- the length of an array in a struct
-pub length-of-map : (A B : Type 0) (f : A → B) (l : List A) (n : ℕ) → length (map f l) ≡ n → length l ≡ n
-length-of-map A B f l n p = sym (length-map l f) ∙ p
 
 -- ---- the kept positions are sound
 

@@ -1,12 +1,12 @@
--- A set has as many members as its list of members.
-use mathlib.Core.Path.{_≡_, refl}
+-- Lengths of lists: a set has as many members as its list of members.
+use mathlib.Core.Path.{_≡_, refl, sym, _∙_}
 use Prim.Native.Nat.{ℕ, zero, suc, _+_, _/_, _%_}
 use native.Mathlib.Nat.{mod-lt}
 use native.Mathlib.Omega.{arith}
 use mathlib.Core.Bool.{Bool, true, false, cond}
-use mathlib.Core.List.{_∷_}
+use mathlib.Core.List.{List, _∷_, map}
 use lib.Dec.{eqb}
-use lib.ListN.{length}
+use lib.ListN.{length, length-map}
 use lib.Count.{onesIn}
 use borrow.Author.Tests.{eqb-true, eqb-false}
 use Rattle.squares.specs.Sets.{size, membersFrom, members}
@@ -25,3 +25,7 @@ members-count (suc n) i s = go (members-count n (suc i) (s / 2)) (eqb (s % 2) 1)
 pub members-length : (s : ℕ) → length (members s) ≡ size s
 unfolding members size
 members-length s = members-count 64 0 s
+
+-- the length of an array in a struct
+pub length-of-map : (A B : Type 0) (f : A → B) (l : List A) (n : ℕ) → length (map f l) ≡ n → length l ≡ n
+length-of-map A B f l n p = sym (length-map l f) ∙ p

@@ -5,7 +5,8 @@ use Prim.Native.Nat.{_≤_, _<_, _-_}
 use lib.ListN.{length, take, replicate}
 use Rattle.games.specs.Games.{blankPosition, windowOf}
 use Rattle.games.specs.Play.{appendedOf}
-use Rattle.games.proofs.Window.{length-of-map, fill-copy, fill-last}
+use Rattle.squares.proofs.Lengths.{length-of-map}
+use Rattle.games.proofs.Window.{fill-copy, fill-last}
 use borrow.Author.Needs.{needs}
 use native.Mathlib.Omega.{arith}
 use Rattle.games.proofs.keeping.appended.Statement.{statement}

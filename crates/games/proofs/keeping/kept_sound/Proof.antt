@@ -4,7 +4,8 @@ use mathlib.Core.Bool.{true}
 use Prim.Native.Nat.{_≤_, _-_}
 use lib.ListN.{length, take}
 use Rattle.games.specs.Games.{blankPosition, windowOf, allSound}
-use Rattle.games.proofs.Window.{length-of-map, all-none, all-more, all-fails}
+use Rattle.squares.proofs.Lengths.{length-of-map}
+use Rattle.games.proofs.Window.{all-none, all-more, all-fails}
 use borrow.Author.Needs.{needs}
 use native.Mathlib.Omega.{arith}
 use Rattle.games.proofs.keeping.kept_sound.Statement.{statement}

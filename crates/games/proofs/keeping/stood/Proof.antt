@@ -8,7 +8,8 @@ use Rattle.rules.specs.Lists.{times}
 use Rattle.rules.proofs.Times.{times-nil}
 use Rattle.games.specs.Games.{blankPosition, windowOf, lastOf, samePosition, stood}
 use Rattle.games.proofs.Valid.{valid-says}
-use Rattle.games.proofs.Window.{length-of-map, times-more}
+use Rattle.squares.proofs.Lengths.{length-of-map}
+use Rattle.games.proofs.Window.{times-more}
 use borrow.Author.Needs.{needs}
 use native.Mathlib.Omega.{arith}
 use Rattle.games.proofs.keeping.stood.Statement.{statement}

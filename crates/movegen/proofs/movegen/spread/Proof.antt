@@ -11,7 +11,7 @@ use borrow.Author.Needs.{needs}
 use Rattle.positions.specs.declared.moves.Move.{Move}
 use Rattle.captures.specs.declared.moves.MoveList.{MoveList}
 use Rattle.captures.specs.Lists.{blank, listOf}
-use Rattle.captures.proofs.Listed.{length-of-map}
+use Rattle.squares.proofs.Lengths.{length-of-map}
 use Rattle.capture_laws.proofs.Stored.{store}
 use Rattle.quiets.specs.Quiets.{listing}
 use Rattle.movegen.proofs.movegen.spread.Statement.{statement}

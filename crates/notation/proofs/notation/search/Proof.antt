@@ -4,7 +4,7 @@ use Prim.Native.Nat.{ℕ, _≤_, _-_}
 use native.Mathlib.Omega.{arith}
 use lib.ListN.{take, length}
 use Rattle.captures.specs.Lists.{blank}
-use Rattle.captures.proofs.Listed.{length-of-map}
+use Rattle.squares.proofs.Lengths.{length-of-map}
 use Rattle.rules.specs.Lists.{keep}
 use Rattle.notation.specs.Choice.{fits, choiceOf}
 use Rattle.notation.proofs.Search.{search-turn, search-none, search-all}

@@ -12,7 +12,7 @@ use Rattle.squares.proofs.Loops.{Left, cleared, next-lt, turn, done}
 use Rattle.captures.specs.Kings.{kingCaptures, kingsCapturesOf}
 use Rattle.captures.specs.declared.movegen.Captures.{Captures}
 use Rattle.captures.proofs.Shut.{king-shut}
-use Rattle.captures.proofs.Listed.{length-of-map}
+use Rattle.squares.proofs.Lengths.{length-of-map}
 use Rattle.captures.proofs.Loops.{king-turn}
 use Rattle.shorts.proofs.Turns.{king-few, king-full}
 use Rattle.shorts.proofs.pieces.kings_captures.Statement.{statement}

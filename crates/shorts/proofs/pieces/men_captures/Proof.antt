@@ -12,7 +12,7 @@ use Rattle.squares.proofs.Loops.{Left, cleared, next-lt, turn, done}
 use Rattle.captures.specs.Men.{manCaptures, menCapturesOf}
 use Rattle.captures.specs.declared.movegen.Captures.{Captures}
 use Rattle.captures.proofs.Shut.{man-shut}
-use Rattle.captures.proofs.Listed.{length-of-map}
+use Rattle.squares.proofs.Lengths.{length-of-map}
 use Rattle.captures.proofs.Loops.{man-turn}
 use Rattle.shorts.proofs.Turns.{man-few, man-full}
 use Rattle.shorts.proofs.pieces.men_captures.Statement.{statement}

@@ -8,7 +8,8 @@ use lib.ListN.{length, take, getD}
 use borrow.Author.Needs.{needs}
 use borrow.Author.Tests.{not-true, not-false}
 use Rattle.captures.specs.Lists.{noMoves, listed, blank, pushOf}
-use Rattle.captures.proofs.Listed.{listed-none, length-of-map}
+use Rattle.squares.proofs.Lengths.{length-of-map}
+use Rattle.captures.proofs.Listed.{listed-none}
 use Rattle.captures.proofs.Recorded.{added-anew, added-there, added-stored, added-marked}
 use Rattle.shorts.proofs.Absorbed.{add-few}
 use Rattle.shorts.proofs.Merged.{looked, Merging, merging-none, merging-step, merging-end, seen-more}

@@ -6,7 +6,8 @@ use mathlib.Core.Bool.{false}
 use Prim.Native.Nat.{ℕ, _≤_, _-_}
 use lib.ListN.{take, length}
 use Rattle.captures.specs.Lists.{listed, blank}
-use Rattle.captures.proofs.Listed.{listed-none, listed-more, listed-at, listed-all, length-of-map}
+use Rattle.squares.proofs.Lengths.{length-of-map}
+use Rattle.captures.proofs.Listed.{listed-none, listed-more, listed-at, listed-all}
 use Rattle.captures.proofs.moves.MoveList.contains.Statement.{statement}
 use Rattle.captures.proofs.moves.MoveList.contains.Tie as tie
 

@@ -2,7 +2,7 @@
 use Rattle.captures.specs.Lists.{getOf, blank}
 use mathlib.Core.Path.{_≡_, refl, sym}
 use lib.ListN.{length, List·getD-eq-default}
-use Rattle.captures.proofs.Listed.{length-of-map}
+use Rattle.squares.proofs.Lengths.{length-of-map}
 use borrow.Author.Needs.{needs}
 use native.Mathlib.Omega.{arith}
 use Rattle.captures.proofs.moves.MoveList.get.Statement.{statement}

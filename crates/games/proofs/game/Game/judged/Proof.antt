@@ -3,7 +3,8 @@ use mathlib.Core.Path.{_≡_}
 use lib.ListN.{length}
 use Rattle.games.specs.Games.{judgedOf}
 use Rattle.games.proofs.Valid.{valid-says}
-use Rattle.games.proofs.Window.{length-of-map, last-sound}
+use Rattle.squares.proofs.Lengths.{length-of-map}
+use Rattle.games.proofs.Window.{last-sound}
 use borrow.Author.Needs.{needs}
 use Rattle.games.proofs.game.Game.judged.Statement.{statement}
 use Rattle.games.proofs.game.Game.judged.Tie as tie

@@ -6,7 +6,8 @@ use mathlib.Core.Bool.{false}
 use Prim.Native.Nat.{ℕ, _≤_, _-_}
 use lib.ListN.{take, length}
 use Rattle.captures.specs.Lists.{listed, blank}
-use Rattle.captures.proofs.Listed.{listed-none, listed-more, listed-at, listed-all, length-of-map}
+use Rattle.squares.proofs.Lengths.{length-of-map}
+use Rattle.captures.proofs.Listed.{listed-none, listed-more, listed-at, listed-all}
 use Rattle.shorts.proofs.short.Short.holds.Statement.{statement}
 use Rattle.shorts.proofs.short.Short.holds.Tie as tie
 
