@@ -7,7 +7,7 @@ use Prim.Native.Nat.{ℕ}
 use lib.Dec.{leb, ltb}
 use lib.ListN.{length}
 use Rattle.squares.specs.Refusals.{refusal}
-use Rattle.squares.specs.Told.{Told, when, inOrder}
+use Rattle.squares.specs.Told.{Told, result, when, inOrder}
 use Rattle.squares.specs.declared.refusal.Answer.the-variants as answer
 use Rattle.positions.specs.Acceptance.{sound}
 use Rattle.positions.specs.Boards.{boardOf}
@@ -35,28 +35,28 @@ pub legal-moves-told : (p : Position) (limit : ℕ)
     → listedTold (legalMovesOf p limit)
     ≡ inOrder
     (when 12 (not (sound p)) ∷ when 10 (not (leb limit 256)) ∷ when 17 (not (leb (length (legal (boardOf p))) limit)) ∷ [])
-    (listOf (legal (boardOf p)))
+    (result (listOf (legal (boardOf p))))
 unfolding legalMovesOf listedOf inOrder
 legal-moves-told p limit = go (sound p) (leb limit 256) (leb (length (legal (boardOf p))) limit) (listOf (legal (boardOf p)))
   where
     go : (s t u : Bool) (l : MoveList)
         → listedTold (cond s (cond t (cond u (record { answer = answer.Done; list = l }) (refusedList (refusal 17))) (refusedList (refusal 10))) (refusedList (refusal 12)))
-        ≡ inOrder (when 12 (not s) ∷ when 10 (not t) ∷ when 17 (not u) ∷ []) l
+        ≡ inOrder (when 12 (not s) ∷ when 10 (not t) ∷ when 17 (not u) ∷ []) (result l)
     go false t u l = refl
     go true false u l = refl
     go true true false l = refl
     go true true true l = refl
 
-tests-told : (s t : Bool) → testedTold (cond s (tested.Is t) (tested.Refused (refusal 12))) ≡ inOrder (when 12 (not s) ∷ []) t
+tests-told : (s t : Bool) → testedTold (cond s (tested.Is t) (tested.Refused (refusal 12))) ≡ inOrder (when 12 (not s) ∷ []) (result t)
 unfolding inOrder
 tests-told true t = refl
 tests-told false t = refl
 
-pub has-captures-told : (p : Position) → testedTold (hasCapturesOf p) ≡ inOrder (when 12 (not (sound p)) ∷ []) (some (captures (boardOf p)))
+pub has-captures-told : (p : Position) → testedTold (hasCapturesOf p) ≡ inOrder (when 12 (not (sound p)) ∷ []) (result (some (captures (boardOf p))))
 unfolding hasCapturesOf
 has-captures-told p = tests-told (sound p) (some (captures (boardOf p)))
 
-pub has-quiet-moves-told : (p : Position) → testedTold (hasQuietMovesOf p) ≡ inOrder (when 12 (not (sound p)) ∷ []) (some (quiets (boardOf p)))
+pub has-quiet-moves-told : (p : Position) → testedTold (hasQuietMovesOf p) ≡ inOrder (when 12 (not (sound p)) ∷ []) (result (some (quiets (boardOf p))))
 unfolding hasQuietMovesOf
 has-quiet-moves-told p = tests-told (sound p) (some (quiets (boardOf p)))
 
@@ -64,27 +64,27 @@ pub after-told : (p : Position) (m : Move)
     → placedTold (afterOf p m)
     ≡ inOrder
     (when 12 (not (sound p)) ∷ when 11 (not (squaresOf m)) ∷ when 17 (ltb 256 (length (legal (boardOf p)))) ∷ when 15 (not (listed (legal (boardOf p)) m)) ∷ [])
-    (positionOf (successor (boardOf p) m))
+    (result (positionOf (successor (boardOf p) m)))
 unfolding afterOf playedOf inOrder
 after-told p m = go (sound p) (squaresOf m) (ltb 256 (length (legal (boardOf p)))) (listed (legal (boardOf p)) m) (positionOf (successor (boardOf p) m))
   where
     go : (s t u v : Bool) (q : Position)
         → placedTold (cond s (cond t (cond u (placed.Refused (refusal 17)) (cond v (placed.Position q) (placed.Refused (refusal 15)))) (placed.Refused (refusal 11))) (placed.Refused (refusal 12)))
-        ≡ inOrder (when 12 (not s) ∷ when 11 (not t) ∷ when 17 u ∷ when 15 (not v) ∷ []) q
+        ≡ inOrder (when 12 (not s) ∷ when 11 (not t) ∷ when 17 u ∷ when 15 (not v) ∷ []) (result q)
     go false t u v q = refl
     go true false u v q = refl
     go true true true v q = refl
     go true true false false q = refl
     go true true false true q = refl
 
--- where the count meets no 17
-pub perft-told : (p : Position) (depth n : ℕ) → depthCount depth (boardOf p) ≡ counted.Count n
-    → countedTold (perftOf p depth) ≡ inOrder (when 12 (not (sound p)) ∷ when 10 (not (leb depth 7)) ∷ []) n
+-- then what the count meets: 17, or its number
+pub perft-told : (p : Position) (depth : ℕ)
+    → countedTold (perftOf p depth) ≡ inOrder (when 12 (not (sound p)) ∷ when 10 (not (leb depth 7)) ∷ []) (countedTold (depthCount depth (boardOf p)))
 unfolding perftOf inOrder
-perft-told p depth n e = go (sound p) (leb depth 7) (depthCount depth (boardOf p)) e
+perft-told p depth = go (sound p) (leb depth 7) (depthCount depth (boardOf p))
   where
-    go : (s t : Bool) (c : Counted) → c ≡ counted.Count n
-        → countedTold (cond s (cond t c (counted.Refused (refusal 10))) (counted.Refused (refusal 12))) ≡ inOrder (when 12 (not s) ∷ when 10 (not t) ∷ []) n
-    go false t c e = refl
-    go true false c e = refl
-    go true true c e = rw e
+    go : (s t : Bool) (c : Counted)
+        → countedTold (cond s (cond t c (counted.Refused (refusal 10))) (counted.Refused (refusal 12))) ≡ inOrder (when 12 (not s) ∷ when 10 (not t) ∷ []) (countedTold c)
+    go false t c = refl
+    go true false c = refl
+    go true true c = refl

@@ -7,8 +7,8 @@ use native.Mathlib.Omega.{arith}
 use lib.Dec.{eqb, leb, ltb}
 use lib.ListN.{length, getD}
 use borrow.Author.Tests.{ne-eqb, lt-ltb}
-use Rattle.squares.specs.Refusals.{numberOf, squareOf, refusal}
-use Rattle.squares.specs.Told.{Told, when, whenAt, inOrder}
+use Rattle.squares.specs.Refusals.{refusal}
+use Rattle.squares.specs.Told.{Told, result, turnedBack, when, inOrder}
 use Rattle.squares.specs.declared.refusal.Refusal.{Refusal}
 use Rattle.positions.specs.Acceptance.{sound}
 use Rattle.positions.specs.Boards.{boardOf}
@@ -30,12 +30,12 @@ use Rattle.notation.specs.declared.notation.Heard.the-variants as heard
 use Rattle.notation.specs.declared.notation.Said.{Said}
 
 -- what was read fits none, several, or one of the moves
-only-told : (l : List Move) → foundTold (only l) ≡ inOrder (when 15 (eqb (length l) 0) ∷ when 16 (ltb 1 (length l)) ∷ []) (getD l 0 blank)
+only-told : (l : List Move) → foundTold (only l) ≡ inOrder (when 15 (eqb (length l) 0) ∷ when 16 (ltb 1 (length l)) ∷ []) (result (getD l 0 blank))
 unfolding only inOrder
 only-told [] = refl
 only-told (m ∷ []) = refl
 only-told (m ∷ (n ∷ l)) =
-    sym (ap₂ (λ (x y : Bool). inOrder (when 15 x ∷ when 16 y ∷ []) m) (ne-eqb (length (m ∷ (n ∷ l))) 0 (λ e. omega arith)) (lt-ltb 1 (length (m ∷ (n ∷ l))) (omega arith)))
+    sym (ap₂ (λ (x y : Bool). inOrder (when 15 x ∷ when 16 y ∷ []) (result m)) (ne-eqb (length (m ∷ (n ∷ l))) 0 (λ e. omega arith)) (lt-ltb 1 (length (m ∷ (n ∷ l))) (omega arith)))
 
 -- 12, 17, 15, 16 of what was read
 pub fit-told : (p : Position) (h : Said)
@@ -43,24 +43,24 @@ pub fit-told : (p : Position) (h : Said)
     ≡ (let fits = fitting h (legal (boardOf p)) in
     inOrder
     (when 12 (not (sound p)) ∷ when 17 (not (leb (length (legal (boardOf p))) 256)) ∷ when 15 (eqb (length fits) 0) ∷ when 16 (ltb 1 (length fits)) ∷ [])
-    (getD fits 0 blank))
+    (result (getD fits 0 blank)))
 unfolding fitOf inOrder
 fit-told p h = go (sound p) (leb (length (legal (boardOf p))) 256) (fitting h (legal (boardOf p)))
   where
     go : (s t : Bool) (l : List Move)
         → foundTold (cond s (cond t (only l) (found.Refused (refusal 17))) (found.Refused (refusal 12)))
-        ≡ inOrder (when 12 (not s) ∷ when 17 (not t) ∷ when 15 (eqb (length l) 0) ∷ when 16 (ltb 1 (length l)) ∷ []) (getD l 0 blank)
+        ≡ inOrder (when 12 (not s) ∷ when 17 (not t) ∷ when 15 (eqb (length l) 0) ∷ when 16 (ltb 1 (length l)) ∷ []) (result (getD l 0 blank))
     go false t l = refl
     go true false l = refl
     go true true l = only-told l
 
 -- 12, then 1 or 9
 pub parse-refused-told : (p : Position) (s : List ℕ) (e : Refusal) → readMoveOf s ≡ heard.Refused e
-    → foundTold (parseMoveOf p s) ≡ inOrder (when 12 (not (sound p)) ∷ whenAt (numberOf e) (squareOf e) true ∷ []) blank
+    → foundTold (parseMoveOf p s) ≡ inOrder (when 12 (not (sound p)) ∷ []) (turnedBack e)
 unfolding parseMoveOf inOrder
 parse-refused-told p s e r = rw r (go (sound p))
   where
-    go : (t : Bool) → foundTold (cond t (found.Refused e) (found.Refused (refusal 12))) ≡ inOrder (when 12 (not t) ∷ whenAt (numberOf e) (squareOf e) true ∷ []) blank
+    go : (t : Bool) → foundTold (cond t (found.Refused e) (found.Refused (refusal 12))) ≡ inOrder (when 12 (not t) ∷ []) (turnedBack e)
     go true = refl
     go false = refl
 
@@ -77,13 +77,13 @@ parse-read-told p s h r = rw r (go (sound p))
 
 -- 11, 19
 pub to-hub-told : (m : Move) (out : List ℕ)
-    → wroteTold (toHubOf m out) ≡ inOrder (when 11 (not (squaresOf m)) ∷ when 19 (not (leb (length (moveText m)) (length out))) ∷ []) (length (moveText m))
+    → wroteTold (toHubOf m out) ≡ inOrder (when 11 (not (squaresOf m)) ∷ when 19 (not (leb (length (moveText m)) (length out))) ∷ []) (result (length (moveText m)))
 unfolding toHubOf emitOf inOrder
 to-hub-told m out = go (squaresOf m) (leb (length (moveText m)) (length out)) (length (moveText m))
   where
     go : (s t : Bool) (n : ℕ)
         → wroteTold (cond s (cond t (wrote.Length n) (wrote.Refused (refusal 19))) (wrote.Refused (refusal 11)))
-        ≡ inOrder (when 11 (not s) ∷ when 19 (not t) ∷ []) n
+        ≡ inOrder (when 11 (not s) ∷ when 19 (not t) ∷ []) (result n)
     go false t n = refl
     go true false n = refl
     go true true n = refl

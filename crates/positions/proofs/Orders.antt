@@ -7,7 +7,7 @@ use lib.Bits.{bitAnd, bitOr}
 use lib.Dec.{eqb}
 use Rattle.squares.specs.Refusals.{refusal, refusalAt}
 use Rattle.squares.specs.Squares.{squaresOnly, firstOf}
-use Rattle.squares.specs.Told.{Told, when, whenAt, inOrder}
+use Rattle.squares.specs.Told.{Told, result, when, whenAt, inOrder}
 use Rattle.squares.specs.declared.piece.Color.{Color}
 use Rattle.positions.specs.Acceptance.{misplaced, sound, placeOf, fromPartsOf}
 use Rattle.positions.specs.Boards.{board, boardOf}
@@ -26,7 +26,7 @@ pub from-parts-told : (white black kings : ℕ) (side : Color)
     ∷ whenAt 7 (firstOf (bitAnd white black)) (not (eqb (bitAnd white black) 0))
     ∷ whenAt 8 (firstOf (misplaced white black kept)) (not (eqb (misplaced white black kept) 0))
     ∷ [])
-    (positionOf (board white black kept side)))
+    (result (positionOf (board white black kept side))))
 unfolding fromPartsOf placeOf inOrder
 from-parts-told white black kings side =
     go (squaresOnly white && (squaresOnly black && squaresOnly kings)) (eqb (bitAnd white black) 0) (eqb (misplaced white black (bitAnd kings (bitOr white black))) 0)
@@ -34,16 +34,16 @@ from-parts-told white black kings side =
   where
     go : (s t u : Bool) (p : Position) (m n : ℕ)
         → placedTold (cond s (cond t (cond u (placed.Position p) (placed.Refused (refusalAt 8 n))) (placed.Refused (refusalAt 7 m))) (placed.Refused (refusal 11)))
-        ≡ inOrder (when 11 (not s) ∷ whenAt 7 m (not t) ∷ whenAt 8 n (not u) ∷ []) p
+        ≡ inOrder (when 11 (not s) ∷ whenAt 7 m (not t) ∷ whenAt 8 n (not u) ∷ []) (result p)
     go false t u p m n = refl
     go true false u p m n = refl
     go true true false p m n = refl
     go true true true p m n = refl
 
-pub flipped-told : (p : Position) → placedTold (flippedOf p) ≡ inOrder (when 12 (not (sound p)) ∷ []) (positionOf (flip (boardOf p)))
+pub flipped-told : (p : Position) → placedTold (flippedOf p) ≡ inOrder (when 12 (not (sound p)) ∷ []) (result (positionOf (flip (boardOf p))))
 unfolding flippedOf inOrder
 flipped-told p = go (sound p) (positionOf (flip (boardOf p)))
   where
-    go : (s : Bool) (q : Position) → placedTold (cond s (placed.Position q) (placed.Refused (refusal 12))) ≡ inOrder (when 12 (not s) ∷ []) q
+    go : (s : Bool) (q : Position) → placedTold (cond s (placed.Position q) (placed.Refused (refusal 12))) ≡ inOrder (when 12 (not s) ∷ []) (result q)
     go true q = refl
     go false q = refl

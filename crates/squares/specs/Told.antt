@@ -69,7 +69,7 @@ when n t = record { number = n; square = 0; holds = t }
 abbrev pub whenAt : ℕ → ℕ → Bool → Refusing
 whenAt n square t = record { number = n; square = square; holds = t }
 
--- the first of them that holds, else the value
-unfoldable pub inOrder : {A : Type 0} → List Refusing → A → Told A
-inOrder [] x = result x
-inOrder (r ∷ rs) x = cond (r .holds) (record { number = r .number; square = r .square; value = [] }) (inOrder rs x)
+-- the first of them that holds, else what comes after them
+unfoldable pub inOrder : {A : Type 0} → List Refusing → Told A → Told A
+inOrder [] t = t
+inOrder (r ∷ rs) t = cond (r .holds) (record { number = r .number; square = r .square; value = [] }) (inOrder rs t)

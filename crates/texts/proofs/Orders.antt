@@ -7,7 +7,7 @@ use Prim.Native.Nat.{ℕ}
 use lib.Dec.{leb}
 use lib.ListN.{length}
 use Rattle.squares.specs.Refusals.{refusal}
-use Rattle.squares.specs.Told.{Told, when, inOrder}
+use Rattle.squares.specs.Told.{Told, result, when, inOrder}
 use Rattle.positions.specs.Acceptance.{sound}
 use Rattle.positions.specs.Boards.{boardOf}
 use Rattle.positions.specs.declared.position.Position.{Position}
@@ -21,13 +21,13 @@ pub fen-told : (p : Position) (out : List ℕ)
     → wroteTold (fenOf p out)
     ≡ inOrder
     (when 12 (not (sound p)) ∷ when 18 (not (leb (length (fenText (boardOf p))) 200)) ∷ when 19 (not (leb (length (fenText (boardOf p))) (length out))) ∷ [])
-    (length (fenText (boardOf p)))
+    (result (length (fenText (boardOf p))))
 unfolding fenOf emitOf inOrder
 fen-told p out = go (sound p) (leb (length (fenText (boardOf p))) 200) (leb (length (fenText (boardOf p))) (length out)) (length (fenText (boardOf p)))
   where
     go : (s t u : Bool) (n : ℕ)
         → wroteTold (cond s (cond t (cond u (wrote.Length n) (wrote.Refused (refusal 19))) (wrote.Refused (refusal 18))) (wrote.Refused (refusal 12)))
-        ≡ inOrder (when 12 (not s) ∷ when 18 (not t) ∷ when 19 (not u) ∷ []) n
+        ≡ inOrder (when 12 (not s) ∷ when 18 (not t) ∷ when 19 (not u) ∷ []) (result n)
     go false t u n = refl
     go true false u n = refl
     go true true false n = refl
@@ -35,13 +35,13 @@ fen-told p out = go (sound p) (leb (length (fenText (boardOf p))) 200) (leb (len
 
 pub hub-told : (p : Position) (out : List ℕ)
     → wroteTold (hubOf p out)
-    ≡ inOrder (when 12 (not (sound p)) ∷ when 19 (not (leb (length (hubText (boardOf p))) (length out))) ∷ []) (length (hubText (boardOf p)))
+    ≡ inOrder (when 12 (not (sound p)) ∷ when 19 (not (leb (length (hubText (boardOf p))) (length out))) ∷ []) (result (length (hubText (boardOf p))))
 unfolding hubOf emitOf inOrder
 hub-told p out = go (sound p) (leb (length (hubText (boardOf p))) (length out)) (length (hubText (boardOf p)))
   where
     go : (s u : Bool) (n : ℕ)
         → wroteTold (cond s (cond u (wrote.Length n) (wrote.Refused (refusal 19))) (wrote.Refused (refusal 12)))
-        ≡ inOrder (when 12 (not s) ∷ when 19 (not u) ∷ []) n
+        ≡ inOrder (when 12 (not s) ∷ when 19 (not u) ∷ []) (result n)
     go false u n = refl
     go true false n = refl
     go true true n = refl
