@@ -13,9 +13,9 @@ use Rattle.positions.specs.Moves.{move, same}
 use Rattle.captures.specs.declared.moves.MoveList.{MoveList}
 use Rattle.captures.specs.declared.movegen.Captures.{Captures}
 use Rattle.captures.specs.Lists.{entries, listed, pushOf, listOf}
-use Rattle.captures.specs.Record.{listIn, Ending, moveOf, anewOf, moreOf, recordOf, noteOf}
+use Rattle.captures.specs.Record.{listIn, Ending, moveOf, recordOf, noteOf}
 use Rattle.captures.proofs.Limit.{Found, found, addIn, noteIn, seen}
-use Rattle.captures.proofs.Recorded.{Kept, kept-refl, kept-trans, record-kept}
+use Rattle.captures.proofs.Recorded.{anewOf, moreOf, Kept, kept-refl, kept-trans, record-kept}
 use Rattle.rules.specs.Lists.{contains}
 use Rattle.rules.proofs.Bounded.{Bounded, bounded, noteIn as noteWithin}
 use Rattle.rules.proofs.Search.{taking}

@@ -11,7 +11,14 @@ use Rattle.positions.specs.declared.moves.Move.{Move}
 use Rattle.captures.specs.declared.moves.MoveList.{MoveList}
 use Rattle.captures.specs.declared.movegen.Captures.{Captures}
 use Rattle.captures.specs.Lists.{noMoves, entries, listed, pushOf}
-use Rattle.captures.specs.Record.{Ending, listIn, holding, moveOf, moreBy, anewOf, moreOf, addOf, recordOf, noteOf}
+use Rattle.captures.specs.Record.{Ending, listIn, holding, moveOf, anewBy, moreBy, addOf, recordOf, noteOf}
+
+-- the two ways in which a sequence that ends on `to` is recorded
+abbrev pub anewOf : Captures → ℕ → ℕ → Captures
+anewOf s to c = anewBy s (moveOf s to c)
+
+abbrev pub moreOf : Captures → ℕ → ℕ → Captures
+moreOf s to c = moreBy s (moveOf s to c)
 
 -- the three cases that are not "too few"
 module _ (s : Captures) (x : Move) (n : ℕ) (e : n ≡ size (x .captured)) (t : (eqb n 0 || ltb n (s .best)) ≡ false) where

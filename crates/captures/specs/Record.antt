@@ -53,12 +53,6 @@ unfoldable pub addOf : Captures → Move → Captures
 addOf s m = added s m
 
 -- the move of a sequence by the rule
-abbrev pub anewOf : Captures → ℕ → ℕ → Captures
-anewOf s to c = anewBy s (moveOf s to c)
-
-abbrev pub moreOf : Captures → ℕ → ℕ → Captures
-moreOf s to c = moreBy s (moveOf s to c)
-
 unfoldable pub recordOf : Captures → ℕ → ℕ → Captures
 recordOf s to c = added s (moveOf s to c)
 

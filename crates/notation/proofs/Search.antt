@@ -23,10 +23,10 @@ use Rattle.rules.proofs.Lists.{keep-snoc}
 use Rattle.capture_laws.proofs.Stored.{few-entries}
 use Rattle.movegen.specs.Lists.{refusedList, listedOf, legalMovesOf}
 use Rattle.movegen.specs.declared.movegen.Listed.{Listed}
-use Rattle.notation.specs.Choice.{asHub, byEnds, orElse, fitting, only, choiceOf, answered, fitOf, oneMore, orChoice}
+use Rattle.notation.specs.Choice.{asHub, byEnds, orElse, fitting, only, choiceOf, answered, fitOf, oneMore}
 use Rattle.notation.specs.declared.notation.Said.{Said}
 use Rattle.notation.specs.declared.notation.Choice.{Choice}
-use Rattle.notation.specs.declared.notation.Choice.the-variants.{Nothing}
+use Rattle.notation.specs.declared.notation.Choice.the-variants.{Nothing, One, Several}
 use Rattle.notation.specs.declared.notation.Found.{Found}
 use Rattle.notation.specs.declared.notation.Found.the-variants as found
 
@@ -58,6 +58,12 @@ pub search-all : (p : Move → Bool) (l : List Move) (n i : ℕ) → length l �
 search-all p l n i h k = ap (λ (x : List Move). choiceOf (keep p x)) (take-all i l k ∙ sym (take-all n l h))
 
 -- ---- Hub first
+-- the first choice, the second where the first is none
+abbrev pub orChoice : Choice → Choice → Choice
+orChoice Nothing d = d
+orChoice (One m) d = One m
+orChoice Several d = Several
+
 choice-or : (k l : List Move) → choiceOf (orElse k l) ≡ orChoice (choiceOf k) (choiceOf l)
 unfolding choiceOf orElse
 choice-or [] l = refl

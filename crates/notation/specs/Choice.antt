@@ -84,12 +84,6 @@ oneMore Nothing m = One m
 oneMore (One n) m = Several
 oneMore Several m = Several
 
--- the first choice, the second where the first is none
-abbrev pub orChoice : Choice → Choice → Choice
-orChoice Nothing d = d
-orChoice (One m) d = One m
-orChoice Several d = Several
-
 abbrev pub answered : Choice → Found
 answered Nothing = found.Refused (refusal 15)
 answered (One m) = found.Move m

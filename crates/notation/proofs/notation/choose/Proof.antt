@@ -2,9 +2,9 @@
 use mathlib.Core.Path.{sym, ap, _∙_}
 use Rattle.captures.specs.Lists.{entries}
 use Rattle.rules.specs.Lists.{keep}
-use Rattle.notation.specs.Choice.{byEnds, choiceOf, orChoice}
+use Rattle.notation.specs.Choice.{byEnds, choiceOf}
 use Rattle.notation.specs.declared.notation.Choice.{Choice}
-use Rattle.notation.proofs.Search.{choose-hub, choose-ends}
+use Rattle.notation.proofs.Search.{orChoice, choose-hub, choose-ends}
 use borrow.Author.Needs.{needs}
 use Rattle.notation.proofs.notation.choose.Statement.{statement}
 use Rattle.notation.proofs.notation.choose.Tie as tie
