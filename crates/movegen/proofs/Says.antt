@@ -1,7 +1,7 @@
 -- What the answers of the entries say in the words of the rules (crates/rules/specs/Rules.antt), for every input: laws that a
 -- caller can cite.
 use mathlib.Core.Path.{_≡_, refl, sym, ap, _∙_}
-use mathlib.Core.Bool.{Bool, true, false, cond, false≢true}
+use mathlib.Core.Bool.{Bool, true, false, cond}
 use mathlib.Core.List.{List}
 use mathlib.Core.Logic.{_↔_}
 use Prim.Native.Nat.{ℕ, _≤_}

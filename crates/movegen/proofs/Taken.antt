@@ -2,7 +2,6 @@
 -- that the successor lacks.
 use mathlib.Core.Path.{_≡_, refl, sym, ap, _∙_}
 use Prim.Native.Nat.{ℕ, _^_, _<_}
-use native.Mathlib.Omega.{arith}
 use mathlib.Core.Bool.{Bool, true, false, not, cond, _&&_, true≢false, false≢true}
 use lib.Bits.{bitAnd}
 use Rattle.squares.specs.Sets.{has, size, without}

@@ -1,4 +1,4 @@
--- What the entries answer, in the paper's numbers and order: a move text on a position 12, 1, 9, 17, 15, 16; the writers 11, 19.
+-- What the entries answer, in the paper's numbers and order: a move text 1, 9, on a position 12, 1, 9, 17, 15, 16; the writers 11, 19.
 use mathlib.Core.Path.{_≡_, refl, sym, ap₂}
 use mathlib.Core.Bool.{Bool, true, false, not, cond}
 use mathlib.Core.List.{List, [], _∷_}
@@ -8,7 +8,8 @@ use lib.Dec.{eqb, leb, ltb}
 use lib.ListN.{length, getD}
 use borrow.Author.Tests.{ne-eqb, lt-ltb}
 use Rattle.squares.specs.Refusals.{refusal}
-use Rattle.squares.specs.Told.{Told, result, turnedBack, when, inOrder}
+use Rattle.squares.specs.Told.{result, turnedBack, when, inOrder}
+use Rattle.squares.proofs.Orders.{refused-unless, none-left}
 use Rattle.squares.specs.declared.refusal.Refusal.{Refusal}
 use Rattle.positions.specs.Acceptance.{sound}
 use Rattle.positions.specs.Boards.{boardOf}
@@ -17,17 +18,22 @@ use Rattle.positions.specs.declared.moves.Move.{Move}
 use Rattle.positions.specs.declared.position.Position.{Position}
 use Rattle.captures.specs.Lists.{blank}
 use Rattle.rules.specs.Ordered.{legal}
+use Rattle.texts.specs.Bytes.{readable, trim}
+use Rattle.texts.specs.Bytes as texts
 use Rattle.texts.specs.Lent.{emitOf}
 use Rattle.texts.specs.Told.{wroteTold}
-use Rattle.texts.specs.declared.bytes.Wrote.the-variants as wrote
-use Rattle.notation.specs.Choice.{fitting, only, fitOf, fitHeard, parseMoveOf}
-use Rattle.notation.specs.MoveText.{moveText, toHubOf}
-use Rattle.notation.specs.Notation.{readMoveOf}
-use Rattle.notation.specs.Told.{foundTold}
-use Rattle.notation.specs.declared.notation.Found.{Found}
+use Rattle.notation.specs.Choice.{fitting, only, fitOf, parseMoveOf}
+use Rattle.notation.specs.MoveText.{moveText, shortText, toHubOf, displayOf}
+use Rattle.notation.specs.Notation.{heardTrimmed, readMoveOf}
+use Rattle.notation.specs.Told.{heardTold, foundTold}
 use Rattle.notation.specs.declared.notation.Found.the-variants as found
 use Rattle.notation.specs.declared.notation.Heard.the-variants as heard
 use Rattle.notation.specs.declared.notation.Said.{Said}
+
+-- 1, then 9 or what was read
+pub read-move-told : (s : List ℕ) → heardTold (readMoveOf s) ≡ inOrder (when 1 (not (readable s)) ∷ []) (heardTold (heardTrimmed (trim texts.blank s)))
+unfolding readMoveOf
+read-move-told s = refused-unless heardTold 1 0 (readable s) _ _ _ _ refl (none-left _)
 
 -- what was read fits none, several, or one of the moves
 only-told : (l : List Move) → foundTold (only l) ≡ inOrder (when 15 (eqb (length l) 0) ∷ when 16 (ltb 1 (length l)) ∷ []) (result (getD l 0 blank))
@@ -44,25 +50,16 @@ pub fit-told : (p : Position) (h : Said)
     inOrder
     (when 12 (not (sound p)) ∷ when 17 (not (leb (length (legal (boardOf p))) 256)) ∷ when 15 (eqb (length fits) 0) ∷ when 16 (ltb 1 (length fits)) ∷ [])
     (result (getD fits 0 blank)))
-unfolding fitOf inOrder
-fit-told p h = go (sound p) (leb (length (legal (boardOf p))) 256) (fitting h (legal (boardOf p)))
-  where
-    go : (s t : Bool) (l : List Move)
-        → foundTold (cond s (cond t (only l) (found.Refused (refusal 17))) (found.Refused (refusal 12)))
-        ≡ inOrder (when 12 (not s) ∷ when 17 (not t) ∷ when 15 (eqb (length l) 0) ∷ when 16 (ltb 1 (length l)) ∷ []) (result (getD l 0 blank))
-    go false t l = refl
-    go true false l = refl
-    go true true l = only-told l
+unfolding fitOf
+fit-told p h =
+    refused-unless foundTold 12 0 (sound p) _ _ _ _ refl
+    (refused-unless foundTold 17 0 (leb (length (legal (boardOf p))) 256) _ _ _ _ refl (only-told (fitting h (legal (boardOf p)))))
 
 -- 12, then 1 or 9
 pub parse-refused-told : (p : Position) (s : List ℕ) (e : Refusal) → readMoveOf s ≡ heard.Refused e
     → foundTold (parseMoveOf p s) ≡ inOrder (when 12 (not (sound p)) ∷ []) (turnedBack e)
-unfolding parseMoveOf inOrder
-parse-refused-told p s e r = rw r (go (sound p))
-  where
-    go : (t : Bool) → foundTold (cond t (found.Refused e) (found.Refused (refusal 12))) ≡ inOrder (when 12 (not t) ∷ []) (turnedBack e)
-    go true = refl
-    go false = refl
+unfolding parseMoveOf
+parse-refused-told p s e r = rw r (refused-unless foundTold 12 0 (sound p) _ _ _ _ refl (none-left _))
 
 -- a text that was read means what was read: 12, 17, 15, 16
 pub parse-read-told : (p : Position) (s : List ℕ) (h : Said) → readMoveOf s ≡ heard.Said h → foundTold (parseMoveOf p s) ≡ foundTold (fitOf p h)
@@ -78,12 +75,14 @@ parse-read-told p s h r = rw r (go (sound p))
 -- 11, 19
 pub to-hub-told : (m : Move) (out : List ℕ)
     → wroteTold (toHubOf m out) ≡ inOrder (when 11 (not (squaresOf m)) ∷ when 19 (not (leb (length (moveText m)) (length out))) ∷ []) (result (length (moveText m)))
-unfolding toHubOf emitOf inOrder
-to-hub-told m out = go (squaresOf m) (leb (length (moveText m)) (length out)) (length (moveText m))
-  where
-    go : (s t : Bool) (n : ℕ)
-        → wroteTold (cond s (cond t (wrote.Length n) (wrote.Refused (refusal 19))) (wrote.Refused (refusal 11)))
-        ≡ inOrder (when 11 (not s) ∷ when 19 (not t) ∷ []) (result n)
-    go false t n = refl
-    go true false n = refl
-    go true true n = refl
+unfolding toHubOf emitOf
+to-hub-told m out =
+    refused-unless wroteTold 11 0 (squaresOf m) _ _ _ _ refl
+    (refused-unless wroteTold 19 0 (leb (length (moveText m)) (length out)) _ _ _ _ refl (none-left _))
+
+pub display-told : (m : Move) (out : List ℕ)
+    → wroteTold (displayOf m out) ≡ inOrder (when 11 (not (squaresOf m)) ∷ when 19 (not (leb (length (shortText m)) (length out))) ∷ []) (result (length (shortText m)))
+unfolding displayOf emitOf
+display-told m out =
+    refused-unless wroteTold 11 0 (squaresOf m) _ _ _ _ refl
+    (refused-unless wroteTold 19 0 (leb (length (shortText m)) (length out)) _ _ _ _ refl (none-left _))

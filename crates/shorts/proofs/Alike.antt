@@ -1,20 +1,20 @@
 -- A short list of all captures that did not overflow holds what the long list holds.
-use mathlib.Core.Path.{_≡_, refl, sym, ap, ap₂, _∙_, subst}
+use mathlib.Core.Path.{_≡_, refl, sym, ap, _∙_, subst}
 use mathlib.Core.Bool.{Bool, true, false, cond, _||_, false≢true}
 use mathlib.Core.List.{List, [], _∷_, _++_, foldl}
 use Prim.Native.Nat.{ℕ, _+_, _^_, _≤_, _<_}
 use native.Mathlib.Numerals.{add-one}
 use native.Mathlib.Omega.{arith}
 use lib.Bits.{bitOr}
-use lib.ListN.{length, set, length-set}
+use lib.ListN.{length, length-set}
 use lib.Seq.{take-suc-set}
 use lib.Dec.{eqb, ltb}
 use borrow.Author.Tests.{ltb-true, ltb-false}
 use Rattle.squares.specs.Sets.{size, members}
 use Rattle.positions.specs.declared.moves.Move.{Move}
 use Rattle.captures.specs.declared.movegen.Captures.{Captures}
-use Rattle.captures.specs.Lists.{noMoves, entries, listed, pushOf}
-use Rattle.captures.specs.Record.{Ending, listIn, startOf, holding, anewBy, addOf, noteOf}
+use Rattle.captures.specs.Lists.{entries, listed, pushOf}
+use Rattle.captures.specs.Record.{Ending, listIn, startOf, addOf, noteOf}
 use Rattle.captures.specs.Men.{onto, manEndings, manCaptures, menCapturesOf}
 use Rattle.captures.specs.Kings.{skipOf, kingEndings, kingCaptures, kingsCapturesOf}
 use Rattle.captures.proofs.Recorded.{added-stored, record-is, record-kept, fold-kept}

@@ -26,20 +26,6 @@ pub record Parts (a b c : ℕ) : Type 0 where
 pub parts-of : {x x′ y y′ z z′ : Bool} → x ≡ x′ → y ≡ y′ → z ≡ z′ → parts x′ y′ z′ ≡ true → parts x y z ≡ true
 parts-of p q r h = rw (p, q, r) h
 
--- a set of two that share nothing
-pub parts-apart : (a b : ℕ) → bitAnd a b ≡ 0 → Parts (bitOr a b) a b
-unfolding tested parts
-parts-apart a b e = record {
-  part = λ i l. ap (λ (x : Bool). parts x (has a i) (has b i)) (has-or a b i)
-      ∙ go (has a i) (has b i) (sym (has-and a b i) ∙ ap (λ (x : ℕ). has x i) e ∙ has-zero i);
-}
-  where
-    go : (x y : Bool) → (x && y) ≡ false → parts (x || y) x y ≡ true
-    go true true h = absurd (true≢false h)
-    go true false h = refl
-    go false true h = refl
-    go false false h = refl
-
 -- what is in b and what is not
 pub parts-split : (a b : ℕ) → a < 2 ^ 64 → b < 2 ^ 64 → Parts a (without a b) (bitAnd a b)
 unfolding tested parts

@@ -85,10 +85,6 @@ has-shifted upRight s j h l = let e : (j + 5) % 64 ≡ 5 + j = omega arith in ha
 has-shifted downLeft s j h l = down 5 s j (omega arith) h l
 has-shifted downRight s j h l = down 6 s j (omega arith) h l
 
--- and forward: a member steps onto the next bit
-pub has-next : (d : Direction) (s i : ℕ) → s < 2 ^ 58 → i < 64 → next d i < 58 → has (shifted d s) (next d i) ≡ has s i
-has-next d s i h l m = has-shifted d s (next d i) h m ∙ ap (has s) (next-back d i l)
-
 -- ---- one square
 -- what the code asks of a one-bit set: the square next to bit i, where m has it, else nothing
 module _ (d : Direction) (i : ℕ) (l : i < 54) where

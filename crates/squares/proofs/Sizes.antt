@@ -3,20 +3,19 @@ use mathlib.Core.Path.{_≡_, refl, sym, ap, ap₂, _∙_}
 use Prim.Native.Nat.{ℕ, zero, suc, _+_, _/_, _%_, _^_, _≤_, _<_}
 use native.Mathlib.Nat.{add-assoc, add-comm, zero-add, mod-lt}
 use native.Mathlib.Omega.{arith}
-use mathlib.Core.Bool.{Bool, true, false, not, _&&_, _||_, cond}
+use mathlib.Core.Bool.{Bool, true, false, not, _&&_, cond}
 use lib.Arith.{lt-one}
 use lib.Dec.{eqb}
-use lib.Bits.{bitAnd, bitOr, and-comm}
+use lib.Bits.{bitAnd, bitOr}
 use lib.Count.{ones, onesIn, ones-step}
 use Rattle.squares.specs.Sets.{has, size, without, lowest}
 use Rattle.squares.specs.Folds.{foldTo, over, sumOver}
 use Rattle.squares.specs.Squares.{all, onBoard}
 use Rattle.squares.specs.Computed.{computed}
-use Rattle.squares.proofs.Bools.{at2, tested}
-use Rattle.squares.proofs.Pointwise.{half-lt, has-low, has-half, has-or, has-without, without-lt, none-zero, member-lt}
+use Rattle.squares.proofs.Pointwise.{half-lt, has-low, has-half, has-without, without-lt, none-zero, member-lt}
 use Rattle.squares.proofs.Members.{lowest-in, lowest-lt}
 use Rattle.squares.proofs.Numbers.{all-lt64, has-all}
-use Rattle.squares.proofs.Folds.{Parts, parts, fold-first, parts-apart, parts-split, parts-within, parts-add, parts-remove, bitIf, sum-parts, sum-none, sum-bitIf}
+use Rattle.squares.proofs.Folds.{Parts, fold-first, parts-split, parts-within, parts-add, parts-remove, bitIf, sum-parts, sum-none, sum-bitIf}
 
 -- the language's count of ones, on a word of k bits
 pub ones-in : (k n : ℕ) → n < 2 ^ k → ones n ≡ onesIn k n
@@ -62,10 +61,6 @@ size-zero = size-sum 0 ∙ sum-none (λ i. 1)
 pub size-bit : (j : ℕ) → j < 64 → size (2 ^ j) ≡ 1
 size-bit j l = size-bitIf true j l
 
--- a union of sets that share nothing
-pub size-apart : (a b : ℕ) → bitAnd a b ≡ 0 → size (bitOr a b) ≡ size a + size b
-size-apart a b e = size-parts (parts-apart a b e)
-
 -- a difference
 pub size-without : (a b : ℕ) → a < 2 ^ 64 → b < 2 ^ 64 → size (without a b) + size (bitAnd a b) ≡ size a
 size-without a b ha hb = sym (size-parts (parts-split a b ha hb))
@@ -73,17 +68,6 @@ size-without a b ha hb = sym (size-parts (parts-split a b ha hb))
 -- a part and the rest
 pub size-within : (a b : ℕ) → a < 2 ^ 64 → b < 2 ^ 64 → ((i : ℕ) → i < 64 → has b i ≡ true → has a i ≡ true) → size (without a b) + size b ≡ size a
 size-within a b ha hb f = sym (size-parts (parts-within a b ha hb f))
-
--- a union
-parts-or : (a b : ℕ) → a < 2 ^ 64 → b < 2 ^ 64 → Parts (bitOr a b) a (without b a)
-unfolding tested parts
-parts-or a b ha hb = record {
-  part = λ i l. ap₂ (λ (x y : Bool). parts x (has a i) y) (has-or a b i) (has-without b a hb ha i l)
-      ∙ at2 (λ x y. parts (x || y) x (y && not x)) refl (has a i) (has b i);
-}
-
-pub size-or : (a b : ℕ) → a < 2 ^ 64 → b < 2 ^ 64 → size (bitOr a b) + size (bitAnd a b) ≡ size a + size b
-size-or a b ha hb = omega (arith, size-parts (parts-or a b ha hb), size-without b a hb ha, ap size (and-comm a b))
 
 -- a member added, a member removed
 pub size-add : (a j : ℕ) → j < 64 → has a j ≡ false → size (bitOr a (2 ^ j)) ≡ size a + 1
