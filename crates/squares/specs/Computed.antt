@@ -1,4 +1,5 @@
--- What a computed row opens.
+-- The definitions of this crate that the checker may unfold where it computes a value. Proofs write
+-- `unfolding computed` for the whole list.
 use lib.Count.{onesIn, trailingZeros}
 use Rattle.squares.specs.Sets.{has, size, without, membersFrom, members}
 use Rattle.squares.specs.Squares.{isSquare, bitOf, run, all, promotion, onBoard, squareAtBit, rowOf, fileOf, ofSquare, single, containsOf, firstOf, restOf, squaresOnly, fromBitsOf}

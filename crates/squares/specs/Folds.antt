@@ -1,4 +1,5 @@
--- Values joined over the members of a set: exclusive ors of keys, counts, sums of rows.
+-- The values of a function at the members of a set, joined to one number: by exclusive or for hashes, by sum for scores,
+-- by union for the turned board (docs/RULES.md, "Keys and hash", "Score", "Turning the board").
 use Prim.Native.Nat.{ℕ, zero, suc, _+_}
 use mathlib.Core.Bool.{cond}
 use lib.Bits.{bitOr, bitXor}
@@ -9,7 +10,7 @@ unfoldable pub foldTo : (ℕ → ℕ → ℕ) → ℕ → (ℕ → ℕ) → ℕ 
 foldTo op z f zero = z
 foldTo op z f (suc n) = op (foldTo op z f n) (f n)
 
--- f at the members of s joined by op
+-- f at the members of s, joined by op
 unfoldable pub over : (ℕ → ℕ → ℕ) → ℕ → (ℕ → ℕ) → ℕ → ℕ
 over op z f s = foldTo op z (λ i. cond (has s i) (f i) z) 64
 

@@ -1,4 +1,4 @@
--- SplitMix64, and the keys that it fills (document 01, "zobrist.rs").
+-- The generator SplitMix64, and the keys of pieces and side that it draws (docs/RULES.md, "Keys and hash").
 use Prim.Native.Nat.{ℕ, zero, suc, _+_, _-_, _*_, _/_, _%_, _^_}
 use mathlib.Core.Bool.{cond}
 use mathlib.Core.List.{List, [], _∷_}
@@ -12,11 +12,11 @@ use Rattle.squares.specs.declared.piece.PieceKind.{PieceKind}
 use Rattle.squares.specs.declared.piece.PieceKind.the-variants.{Man, King}
 use Rattle.squares.specs.declared.zobrist.Drawn.{Drawn}
 
--- the next state
+-- the state after s
 unfoldable pub advance : ℕ → ℕ
 advance s = (s + 0x9E37_79B9_7F4A_7C15) % 2 ^ 64
 
--- z mixed with its own high digits and multiplied; products keep their low 64 bits
+-- z, exclusive or z shifted down by k bits, times m; a product keeps its low 64 bits
 unfoldable pub scramble : ℕ → ℕ → ℕ → ℕ
 scramble k m z = bitXor z (z / 2 ^ k) * m % 2 ^ 64
 
@@ -35,20 +35,22 @@ unfoldable pub outputs : ℕ → ℕ → List ℕ
 outputs zero s = []
 outputs (suc n) s = output (advance s) ∷ outputs n (advance s)
 
+-- the start value, the letters "dame"
 abbrev pub seed : ℕ
 seed = 0x6461_6D65
 
--- 4 times 64 keys: white men, black men, white kings, black kings, each by bit
+-- all keys: 64 each, by bit, for white men, black men, white kings, black kings
 unfoldable pub keys : List ℕ
 keys = outputs 256 seed
 
+-- which 64 of them belong to such a piece
 abbrev pub block : Color → PieceKind → ℕ
 block White Man = 0
 block Black Man = 1
 block White King = 2
 block Black King = 3
 
--- the key of such a piece on the square at bit i; a bit that is no square has none
+-- the key of such a piece on the square at bit i; 0 where bit i is no square
 unfoldable pub keyAt : Color → PieceKind → ℕ → ℕ
 keyAt c k i = cond (onBoard i) (getD keys (64 * block c k + i) 0) 0
 
@@ -56,9 +58,10 @@ keyAt c k i = cond (onBoard i) (getD keys (64 * block c k + i) 0) 0
 unfoldable pub setKeyOf : Color → PieceKind → ℕ → ℕ
 setKeyOf c k s = xorOver (keyAt c k) s
 
+-- the key of such a piece on square n
 unfoldable pub pieceKeyOf : Color → PieceKind → ℕ → ℕ
 pieceKeyOf c k n = setKeyOf c k (single n)
 
--- the first output from the start value with all 64 bits inverted
+-- the key of Black to move: the first output from the start value with its 64 bits inverted
 unfoldable pub sideKey : ℕ
 sideKey = output (advance (2 ^ 64 - 1 - seed))

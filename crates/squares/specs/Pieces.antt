@@ -1,4 +1,4 @@
--- Colours, pieces and their characters (document 01, "bitboard.rs, square.rs, piece.rs"; Hub: capital = king).
+-- Colours, pieces and their characters (docs/RULES.md, "Pieces and sides"). In Hub texts a capital is a king.
 use Prim.Native.Nat.{ℕ}
 use Prim.Native.Char.{code}
 use mathlib.Core.Bool.{cond}
@@ -19,6 +19,7 @@ abbrev pub other : Color → Color
 other White = Black
 other Black = White
 
+-- the letter of a side, and back; refusal 2 for any other byte
 abbrev pub colorChar : Color → ℕ
 colorChar White = code "W"
 colorChar Black = code "B"
@@ -28,6 +29,7 @@ colorFromCharOf c =
     cond (eqb c (code "W")) (sided.Side White)
     (cond (eqb c (code "B")) (sided.Side Black) (sided.Refused (refusal 2)))
 
+-- the character of a piece, and back; refusal 5 for any other byte
 abbrev pub charOf : Color → PieceKind → ℕ
 charOf White Man = code "w"
 charOf White King = code "W"

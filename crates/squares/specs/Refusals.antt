@@ -1,4 +1,4 @@
--- The number and the square that each refusal comes back with (document 01, "Turned back because of the input", "of the state").
+-- The number and the square that each refusal is reported with (docs/RULES.md, "Refusals").
 use Prim.Native.Nat.{ℕ}
 use mathlib.Core.Bool.{cond}
 use lib.Dec.{eqb}
@@ -28,7 +28,7 @@ numberOf TooManyMoves = 17
 numberOf FenTooLong = 18
 numberOf SpaceTooShort = 19
 
--- the lowest square for 7 and 8, else 0
+-- the square of 7 and 8, else 0
 abbrev pub squareOf : Refusal → ℕ
 squareOf TextTooLong = 0
 squareOf NoSide = 0
@@ -50,12 +50,12 @@ squareOf TooManyMoves = 0
 squareOf FenTooLong = 0
 squareOf SpaceTooShort = 0
 
--- 0 where nothing was refused
+-- the number of an answer: 0 where nothing was refused
 abbrev pub answerNumberOf : Answer → ℕ
 answerNumberOf Done = 0
 answerNumberOf (Refused e) = numberOf e
 
--- the refusal with this number; 7 and 8 come with a square
+-- the refusal with number n; only 7 and 8 keep the square
 abbrev pub refusalAt : ℕ → ℕ → Refusal
 refusalAt n square =
     cond (eqb n 1) TextTooLong
@@ -78,5 +78,6 @@ refusalAt n square =
     (cond (eqb n 18) FenTooLong
     SpaceTooShort)))))))))))))))))
 
+-- the same for a refusal that has no square
 abbrev pub refusal : ℕ → Refusal
 refusal n = refusalAt n 0

@@ -1,5 +1,5 @@
--- Sets of squares (document 01, "bitboard.rs, square.rs, piece.rs").
--- A set is a number below 2 ^ 64: the square at bit i belongs to it where its digit i is 1.
+-- Sets of squares (docs/RULES.md, "The board"). A set is a number below 2 ^ 64. Bit i belongs to it where its binary
+-- digit i is 1. Which bits are squares is in Squares.antt.
 use Prim.Native.Nat.{ℕ, zero, suc, _-_, _/_, _%_, _^_}
 use mathlib.Core.Bool.{Bool, cond}
 use mathlib.Core.List.{List, [], _∷_}
@@ -15,7 +15,7 @@ has s i = eqb (s / 2 ^ i % 2) 1
 unfoldable pub size : ℕ → ℕ
 size s = onesIn 64 s
 
--- what belongs to a and not to b
+-- the members of a that are not in b
 unfoldable pub without : ℕ → ℕ → ℕ
 without a b = a - bitAnd a b
 
@@ -23,7 +23,7 @@ without a b = a - bitAnd a b
 abbrev pub lowest : ℕ → ℕ
 lowest s = trailingZeros 64 s
 
--- the members of s among n bits, rising, where the lowest digit of s stands for bit i
+-- the bits of s below n, rising, with i added to each
 unfoldable pub membersFrom : ℕ → ℕ → ℕ → List ℕ
 membersFrom zero i s = []
 membersFrom (suc n) i s = let rest = membersFrom n (suc i) (s / 2) in cond (eqb (s % 2) 1) (i ∷ rest) rest

@@ -1,4 +1,5 @@
--- The 50 squares, their bits, rows and files (document 01, "bitboard.rs, square.rs, piece.rs").
+-- The 50 squares: their numbers, bits, rows and files, and sets of them (docs/RULES.md, "The board").
+-- A drawing of the numbers and bits is at the top of src/bitboard.rt.
 use Prim.Native.Nat.{ℕ, zero, suc, _+_, _-_, _*_, _/_, _%_, _^_}
 use mathlib.Core.Bool.{Bool, cond, not, _&&_}
 use lib.Dec.{eqb, leb, ltb}
@@ -12,11 +13,11 @@ use Rattle.squares.specs.declared.piece.Color.{Color}
 use Rattle.squares.specs.declared.piece.Color.the-variants.{White, Black}
 use Rattle.squares.specs.Refusals.{refusal}
 
--- n is the number of a square
+-- whether n is the number of a square
 unfoldable pub isSquare : ℕ → Bool
 isSquare n = leb 1 n && leb n 50
 
--- square n has d = n - 1 and bit d + d / 10, division whole
+-- the bit of square n: every ten squares are followed by a gap of one bit; division rounds down
 unfoldable pub bitOf : ℕ → ℕ
 bitOf n = (n - 1) + (n - 1) / 10
 
@@ -29,12 +30,12 @@ run n (suc k) = 2 ^ bitOf n + run (suc n) k
 unfoldable pub all : ℕ
 all = run 1 50
 
--- where a man of the colour promotes: squares 1 to 5, 46 to 50
+-- the row where a man of the colour promotes: squares 1 to 5 for White, 46 to 50 for Black
 unfoldable pub promotion : Color → ℕ
 promotion White = run 1 5
 promotion Black = run 46 5
 
--- bits 10, 21, 32, 43 and those from 54 up are no squares
+-- whether bit i is a square: it is below 54 and none of the gaps 10, 21, 32, 43
 unfoldable pub onBoard : ℕ → Bool
 onBoard i = ltb i 54 && not (eqb (i % 11) 10)
 
@@ -42,15 +43,15 @@ onBoard i = ltb i 54 && not (eqb (i % 11) 10)
 unfoldable pub squareAtBit : ℕ → ℕ
 squareAtBit i = cond (onBoard i) (i - i / 11 + 1) 0
 
--- the row of the square at bit i: d / 5, row 0 on top
+-- the row of the square at bit i: five squares a row, row 0 at the top
 unfoldable pub rowOf : ℕ → ℕ
 rowOf i = (squareAtBit i - 1) / 5
 
--- its file from the left edge: even rows begin with file 1, odd rows with file 0
+-- its file, 0 at the left edge: even rows begin at file 1, odd rows at file 0
 unfoldable pub fileOf : ℕ → ℕ
 fileOf i = 2 * ((squareAtBit i - 1) % 5) + (1 - rowOf i % 2)
 
--- x, where n is a square; any other number is none, refusal 11
+-- x where n is a square, else refusal 11
 unfoldable pub ofSquare : ℕ → ℕ → Numbered
 ofSquare n x = cond (isSquare n) (numbered.Number x) (numbered.Refused (refusal 11))
 
@@ -62,15 +63,15 @@ single n = cond (isSquare n) (2 ^ bitOf n) 0
 unfoldable pub containsOf : ℕ → ℕ → Bool
 containsOf s n = isSquare n && has s (bitOf n)
 
--- the lowest square of s, 0 where it has none; bits that are no square do not count
+-- the lowest square of s, or 0 where it has none; bits that are no square do not count
 unfoldable pub firstOf : ℕ → ℕ
 firstOf s = squareAtBit (lowest (bitAnd s all))
 
--- the squares of s but for the lowest
+-- the squares of s without the lowest
 unfoldable pub restOf : ℕ → ℕ
 restOf s = without (bitAnd s all) (2 ^ lowest (bitAnd s all))
 
--- every bit of the set is a square
+-- whether every bit of s is a square
 unfoldable pub squaresOnly : ℕ → Bool
 squaresOnly s = eqb (without s all) 0
 

@@ -1,7 +1,7 @@
--- Answers in document 01's terms ("An answer may be an enum. In that case, a definition gives this paper's number and values for each
--- of the enum's cases"). A result has number 0, square 0 and its value; a refusal has its number, its square and no value. Each answer
--- type has such a definition, here or in the Told.antt of its crate. Laws in proofs/Orders.antt say with it what each entry answers, in
--- the paper's order of refusals.
+-- Answers in the terms of docs/REFUSALS.md: a number, a square and a value (docs/RULES.md, "Refusals"). A result has
+-- number 0, square 0 and its value; a refusal has its number, its square and no value. Each answer type of the code has
+-- one definition that gives these for each of its cases, here or in the Told.antt of its crate. With them the laws in
+-- proofs/Orders.antt say what each entry answers: its refusals in their order, then its result.
 use Prim.Native.Nat.{ℕ}
 use mathlib.Core.Bool.{Bool, cond}
 use mathlib.Core.List.{List, [], _∷_}
@@ -31,7 +31,7 @@ result x = record { number = 0; square = 0; value = x ∷ [] }
 abbrev pub turnedBack : {A : Type 0} → Refusal → Told A
 turnedBack e = record { number = numberOf e; square = squareOf e; value = [] }
 
--- the answer beside a list or a game
+-- a list or a game x with the answer that comes with it
 abbrev pub beside : {A : Type 0} → Answer → A → Told A
 beside answer.Done x = result x
 beside (answer.Refused e) x = turnedBack e
@@ -56,7 +56,7 @@ knownTold (known.Refused e) = turnedBack e
 
 -- ---- an order of refusals
 
--- a refusal's number and square, and whether what it refuses is so
+-- a refusal's number and square, and whether its reason holds
 pub record Refusing : Type 0 where
   pub number : ℕ
   pub square : ℕ
@@ -69,7 +69,7 @@ when n t = record { number = n; square = 0; holds = t }
 abbrev pub whenAt : ℕ → ℕ → Bool → Refusing
 whenAt n square t = record { number = n; square = square; holds = t }
 
--- the first of them that holds, else what comes after them
+-- the first refusal whose reason holds; where none does, t
 unfoldable pub inOrder : {A : Type 0} → List Refusing → Told A → Told A
 inOrder [] t = t
 inOrder (r ∷ rs) t = cond (r .holds) (record { number = r .number; square = r .square; value = [] }) (inOrder rs t)

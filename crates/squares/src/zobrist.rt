@@ -1,4 +1,15 @@
-// Keys of pieces on squares for the hash of a position, after zobrist.rs.
+// Keys for the hash of a position, after zobrist.rs of dame-rs (docs/RULES.md, "Keys and hash").
+//
+// Each kind of piece on each square has a key of 64 bits. The hash of a position is the exclusive or of the keys of its
+// pieces, and of the side key where Black is to move. So a move changes the hash by a few keys only.
+//
+// How the keys are made:
+// - SplitMix64, a published generator, starts from 0x64616D65 (the letters "dame").
+// - It draws 256 keys: 64 for white men, then for black men, for white kings, for black kings, one for each bit.
+//   Those of bits that are no square are drawn and never used.
+// - The side key is the first output from the start value with all 64 bits inverted.
+// - Sums and products keep their low 64 bits.
+// The keys are constants here; the contracts say that they are these outputs. So a hash is the same in every run.
 use crate::bitboard::ALL;
 use crate::bitboard::Bitboard;
 use crate::piece::Color;
@@ -9,13 +20,13 @@ ghost use mathlib.Core.Path.{_≡_};
 ghost use Prim.Native.Nat.{_*_, _%_, _^_};
 ghost use Rattle.squares.specs.Keys.{splitmix64Of, block, setKeyOf, pieceKeyOf, sideKey};
 
-// One draw of SplitMix64: the state to go on from, and the output.
+// One draw of SplitMix64: the state for the next draw, and the output.
 pub struct Drawn {
     pub state: u64,
     pub output: u64,
 }
 
-// The low 64 bits of a product, by halves of 32 bits.
+// The low 64 bits of a product, computed from halves of 32 bits.
 pub fn wrapping_mul(a: u64, b: u64) -> u64
     ensures { λ r. ⌜ r ≡ a * b % 2 ^ 64 ⌝ }
 {
@@ -27,6 +38,7 @@ pub fn wrapping_mul(a: u64, b: u64) -> u64
     std::num::wrapping_add_u64(al * bl, middle << 32)
 }
 
+// Draws once from a state.
 pub fn splitmix64(state: u64) -> Drawn
     ensures { λ r. ⌜ r ≡ splitmix64Of state ⌝ }
 {
@@ -39,8 +51,7 @@ pub fn splitmix64(state: u64) -> Drawn
     }
 }
 
-// One key for each kind of piece and bit: 64 for white men, black men, white kings, black kings, the outputs of
-// SplitMix64 from 0x64616D65 ("dame") in this order.
+// The first 256 outputs: 64 keys each, by bit, for white men, black men, white kings and black kings.
 const PIECE_KEYS: [u64; 256] = [
     0x687B_1986_4A3F_7771,
     0x1E98_557B_34C6_91B9,
@@ -300,7 +311,7 @@ const PIECE_KEYS: [u64; 256] = [
     0x8139_0F1E_9A6D_11E2,
 ];
 
-// Set in a hash while Black is to move: the first output from the start value with all bits inverted.
+// Part of the hash while Black is to move: the first output from the start value with all bits inverted.
 const SIDE_KEY: u64 = 0x0E3C_8F96_18B7_3E59;
 
 pub fn side_key() -> u64
@@ -309,7 +320,7 @@ pub fn side_key() -> u64
     SIDE_KEY
 }
 
-// The place of a kind of piece among the four blocks of 64 keys.
+// Which of the four blocks of 64 keys belongs to this kind of piece.
 pub(crate) fn index(color: Color, kind: PieceKind) -> usize
     ensures { λ r. ⌜ r ≡ block color kind ⌝ }
 {
@@ -325,7 +336,7 @@ pub(crate) fn index(color: Color, kind: PieceKind) -> usize
     }
 }
 
-// The exclusive or of the keys of such pieces on the squares of the set. The only reader of PIECE_KEYS: a lookup
+// The exclusive or of the keys of such pieces on the squares of the set. Only this function reads PIECE_KEYS: a lookup
 // rebuilds the table on the stack, so it is copied once before the loop, and not at all for an empty set.
 pub fn set_key(color: Color, kind: PieceKind, set: Bitboard) -> u64
     ensures { λ r. ⌜ r ≡ setKeyOf color kind set ⌝ }
@@ -345,7 +356,7 @@ pub fn set_key(color: Color, kind: PieceKind, set: Bitboard) -> u64
     key
 }
 
-// The key of one piece; 0 where there is no such square.
+// The key of one such piece on a square; 0 where there is no such square.
 pub fn piece_key(color: Color, kind: PieceKind, square: Square) -> u64
     ensures { λ r. ⌜ r ≡ pieceKeyOf color kind square ⌝ }
 {
