@@ -1,5 +1,6 @@
--- What a board must be (document 01, "position.rs"): pieces on squares, no square with both colours, no man on its promotion
--- row; kings marked on empty squares are dropped where sets are handed in, and refused where a position is.
+-- Which boards and positions are accepted (docs/RULES.md, "Accepted boards"): every piece is on a square, no square has
+-- both colours, no man is on its promotion row, only pieces are marked as kings. A king marked on an empty square is
+-- dropped where sets are handed in (`fromPartsOf`), and refused where a position is (`sound`).
 use mathlib.Core.Path.{_≡_}
 use Prim.Native.Nat.{ℕ, _<_, _^_}
 use mathlib.Core.Bool.{Bool, true, false, cond, _&&_, _||_}
@@ -20,6 +21,7 @@ use Rattle.positions.specs.declared.position.Placed.the-variants as plac
 unfoldable pub misplaced : ℕ → ℕ → ℕ → ℕ
 misplaced white black kings = bitOr (bitAnd (without white kings) (promotion White)) (bitAnd (without black kings) (promotion Black))
 
+-- whether a board of these sets is accepted
 unfoldable pub acceptedSets : ℕ → ℕ → ℕ → Bool
 acceptedSets white black kings =
     (squaresOnly white && squaresOnly black)
@@ -28,11 +30,11 @@ acceptedSets white black kings =
 unfoldable pub accepted : Board → Bool
 accepted b = acceptedSets (b .white) (b .black) (b .kings)
 
--- refusal 12 is told of a position that is not: breaks 11, 7 or 8, marks a king on an empty square, carries another hash
+-- whether the board is accepted and the hash is that of the board; other positions are refused with 12
 unfoldable pub sound : Position → Bool
 sound p = accepted (boardOf p) && eqb (p .hash) (hashOf (boardOf p))
 
--- what the test says, square by square
+-- what the test `accepted` says, bit by bit
 pub record Accepted (b : Board) : Type 0 where
   pub whiteOn : (i : ℕ) → has (b .white) i ≡ true → onBoard i ≡ true
   pub blackOn : (i : ℕ) → has (b .black) i ≡ true → onBoard i ≡ true
@@ -44,11 +46,12 @@ pub record Accepted (b : Board) : Type 0 where
   pub blackFits : b .black < 2 ^ 54
   pub kingsFits : b .kings < 2 ^ 54
 
+-- what the test `sound` says
 pub record Sound (p : Position) : Type 0 where
   pub accepted : Accepted (boardOf p)
   pub hash : p .hash ≡ hashOf (boardOf p)
 
--- the position of these sets; refused 7, then 8, with the lowest square
+-- the position of these sets; refusal 7, then 8, with the lowest such square
 unfoldable pub placeOf : ℕ → ℕ → ℕ → Color → Placed
 placeOf white black kings side =
     cond (eqb (bitAnd white black) 0)
@@ -56,7 +59,7 @@ placeOf white black kings side =
     (placed.Refused (refusalAt 8 (firstOf (misplaced white black kings)))))
     (placed.Refused (refusalAt 7 (firstOf (bitAnd white black))))
 
--- kings on empty squares are dropped; 11 before all else
+-- the same for any sets: refusal 11 comes first, and kings marked on empty squares are dropped
 unfoldable pub fromPartsOf : ℕ → ℕ → ℕ → Color → Placed
 fromPartsOf white black kings side =
     cond (squaresOnly white && (squaresOnly black && squaresOnly kings))

@@ -1,4 +1,5 @@
--- Boards (document 01, "position.rs"): the pieces of each colour, the kings of both, the side to move.
+-- Boards (docs/RULES.md, "Pieces and sides"): the pieces of each colour, the kings of both, the side to move.
+-- A position is a board with a hash (Hash.antt). Which boards are accepted is in Acceptance.antt.
 use Prim.Native.Nat.{ℕ}
 use mathlib.Core.Bool.{Bool, true, false, cond, _&&_}
 use lib.Dec.{eqb}
@@ -28,7 +29,7 @@ board w b k s = record { white = w; black = b; kings = k; side = s }
 abbrev pub start : Board
 start = board (run 31 20) (run 1 20) 0 White
 
--- a position but for its hash
+-- a position without its hash
 abbrev pub boardOf : Position → Board
 boardOf p = record { white = p .white; black = p .black; kings = p .kings; side = p .side }
 
@@ -37,19 +38,19 @@ abbrev pub colored : Color → Board → ℕ
 colored White b = b .white
 colored Black b = b .black
 
--- of a set of pieces those of a kind, where the kings are marked
+-- the men, or the kings, among the pieces of s; `kings` marks the kings
 unfoldable pub ofKind : PieceKind → ℕ → ℕ → ℕ
 ofKind Man s kings = without s kings
 ofKind King s kings = bitAnd s kings
 
--- the men, the kings of a colour
+-- the men of a colour, and its kings
 abbrev pub menOf : Color → Board → ℕ
 menOf c b = without (colored c b) (b .kings)
 
 abbrev pub kingsOf : Color → Board → ℕ
 kingsOf c b = bitAnd (colored c b) (b .kings)
 
--- the pieces of the side to move, and of the other
+-- the pieces of the side to move, and those of the other side
 abbrev pub own : Board → ℕ
 own b = colored (b .side) b
 
@@ -60,6 +61,7 @@ enemy b = colored (other (b .side)) b
 unfoldable pub pieces : Board → PieceKind → ℕ
 pieces b k = ofKind k (own b) (b .kings)
 
+-- the squares without a piece
 unfoldable pub empty : Board → ℕ
 empty b = without all (bitOr (b .white) (b .black))
 
@@ -69,7 +71,7 @@ sameColor White Black = false
 sameColor Black White = false
 sameColor Black Black = true
 
--- equal by sets and side
+-- whether two boards have the same sets and side
 unfoldable pub sameBoard : Board → Board → Bool
 sameBoard a b = (eqb (a .white) (b .white) && (eqb (a .black) (b .black) && eqb (a .kings) (b .kings))) && sameColor (a .side) (b .side)
 
@@ -80,7 +82,7 @@ kindIf false = Man
 abbrev pub standingOf : Color → Bool → Standing
 standingOf c king = standing.Piece (record { color = c; kind = kindIf king })
 
--- what stands on square n; 11 where there is no such square
+-- what is on square n; refusal 11 where there is no such square
 unfoldable pub pieceAtOf : Board → ℕ → Standing
 pieceAtOf b n =
     cond (isSquare n)

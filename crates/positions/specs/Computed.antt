@@ -1,4 +1,4 @@
--- What a computed row opens.
+-- The definitions of this crate and of squares that the checker may unfold where it computes a value.
 use Rattle.squares.specs.Computed as squares
 use Rattle.positions.specs.Moves.{isCapture, squaresOf, same}
 use Rattle.positions.specs.Boards.{ofKind, pieces, empty, sameBoard, pieceAtOf}

@@ -1,4 +1,5 @@
--- The board seen from the other side (document 01, "position.rs, playing"): square n goes to 51 - n, the colours and the side are exchanged.
+-- The board turned half round (docs/RULES.md, "Turning the board"): each piece goes from square n to 51 - n and changes
+-- its colour, and the other side is to move.
 use Prim.Native.Nat.{ℕ, _-_}
 use mathlib.Core.Bool.{cond}
 use Rattle.squares.specs.Squares.{squareAtBit, single}
@@ -19,5 +20,6 @@ rotated s = unionOver (λ i. single (51 - squareAtBit i)) s
 unfoldable pub flip : Board → Board
 flip b = board (rotated (b .black)) (rotated (b .white)) (rotated (b .kings)) (other (b .side))
 
+-- the flipped position; refusal 12 where p is not sound
 unfoldable pub flippedOf : Position → Placed
 flippedOf p = cond (sound p) (placed.Position (positionOf (flip (boardOf p)))) (placed.Refused (refusal 12))

@@ -1,4 +1,4 @@
--- The move record: first square, last square, the set taken (document 01, "movegen.rs").
+-- The move record: first square, last square, and the set of pieces taken (docs/RULES.md, "Legal moves").
 use Prim.Native.Nat.{ℕ}
 use mathlib.Core.Bool.{Bool, not, _&&_}
 use lib.Dec.{eqb}
@@ -9,13 +9,14 @@ use Rattle.positions.specs.declared.moves.Move.{Move}
 abbrev pub move : ℕ → ℕ → ℕ → Move
 move from to captured = record { captured = captured; from = from; to = to }
 
+-- whether the move takes a piece
 unfoldable pub isCapture : Move → Bool
 isCapture m = not (eqb (m .captured) 0)
 
--- what refusal 11 asks: both squares 1 to 50, and no bit of the set that is no square
+-- whether both squares are 1 to 50 and every bit of the set is a square; other records are refused with 11
 unfoldable pub squaresOf : Move → Bool
 squaresOf m = isSquare (m .from) && (isSquare (m .to) && squaresOnly (m .captured))
 
--- two routes equal in these three are one move
+-- whether two records are one move: they agree in all three
 unfoldable pub same : Move → Move → Bool
 same m n = eqb (m .from) (n .from) && (eqb (m .to) (n .to) && eqb (m .captured) (n .captured))

@@ -1,6 +1,6 @@
--- The successor of a board by a move record (document 01, "position.rs, playing"): the mover is lifted, the set removed, the
--- mover put on the last square, the side changed. First and last square may be equal. A man becomes a king only where it
--- ends on its promotion row.
+-- The board after a move (docs/RULES.md, "Playing a move"): the mover goes from the first square to the last, the
+-- pieces of the set leave the board, and the other side is to move. A move may end on its first square. A man that ends
+-- on its promotion row becomes a king; one that only passes the row stays a man.
 use mathlib.Core.Path.{_≡_}
 use Prim.Native.Nat.{ℕ, _<_, _^_}
 use mathlib.Core.Bool.{Bool, true, not, cond, _&&_, _||_}
@@ -17,14 +17,15 @@ use Rattle.positions.specs.Boards.{Board, board, boardOf, own, enemy, ki
 use Rattle.positions.specs.declared.moves.Move.{Move}
 use Rattle.positions.specs.declared.position.Position.{Position}
 
--- a man that ends on its promotion row
+-- whether the mover is a man that ends on its promotion row
 unfoldable pub promotes : Board → Move → Bool
 promotes b m = not (containsOf (b .kings) (m .from)) && containsOf (promotion (b .side)) (m .to)
 
--- the mover ends as a king: it was one, or promotes
+-- whether the mover ends as a king: it was one, or it promotes
 unfoldable pub endsAsKing : Board → Move → Bool
 endsAsKing b m = containsOf (b .kings) (m .from) || containsOf (promotion (b .side)) (m .to)
 
+-- after the move: the mover's side, the other side, the kings of both
 unfoldable pub ownAfter : Board → Move → ℕ
 ownAfter b m = bitOr (without (own b) (single (m .from))) (single (m .to))
 
@@ -35,7 +36,7 @@ unfoldable pub kingsAfter : Board → Move → ℕ
 kingsAfter b m =
     bitOr (without (without (b .kings) (m .captured)) (single (m .from))) (cond (endsAsKing b m) (single (m .to)) 0)
 
--- the board after a move of that side, from the mover's and the other's pieces and the kings
+-- the board after a move of the given colour, from the mover's pieces, the other side's and the kings
 abbrev pub turned : Color → ℕ → ℕ → ℕ → Board
 turned White own enemy kings = board own enemy kings Black
 turned Black own enemy kings = board enemy own kings White
@@ -43,7 +44,8 @@ turned Black own enemy kings = board enemy own kings White
 unfoldable pub successor : Board → Move → Board
 successor b m = turned (b .side) (ownAfter b m) (enemyAfter b m) (kingsAfter b m)
 
--- what a successor needs: a piece of the side on the first square, the set among the enemies, the last square empty or the first
+-- what a move must be for its successor to make sense: a piece of the side to move is on the first square, the set has
+-- only enemies, and the last square is empty or is the first square
 pub record Playable (b : Board) (m : Move) : Type 0 where
   pub fromSquare : isSquare (m .from) ≡ true
   pub toSquare : isSquare (m .to) ≡ true
@@ -52,31 +54,33 @@ pub record Playable (b : Board) (m : Move) : Type 0 where
   pub setFits : m .captured < 2 ^ 64
   pub free : (eqb (m .to) (m .from) || (not (has (b .white) (bitOf (m .to))) && not (has (b .black) (bitOf (m .to))))) ≡ true
 
--- ---- the same by the formulas of the code, on every input
+-- ---- the same by the formulas of the code, for every input: the hash changes by the keys of the pieces touched
 
--- the key of a colour's piece on a square
+-- the key of a king or man of the colour on square n
 abbrev pub moverKey : Color → Bool → ℕ → ℕ
 moverKey c king n = pieceKeyOf c (kindIf king) n
 
--- the keys of the pieces taken, each as the man or king that it was
+-- the keys of the pieces taken, each as the man or king that it was, joined
 unfoldable pub takenKey : Color → ℕ → ℕ → ℕ
 takenKey c captured kings = bitXor (setKeyOf c Man (without captured kings)) (setKeyOf c King (bitAnd captured kings))
 
--- the kings after a move, from those that were not taken: a king is moved, a man that promotes is marked
+-- the kings after a move; `kept` are those that were not taken. A king is moved, a man that promotes is marked
 unfoldable pub kingsPlayed : Color → ℕ → ℕ → ℕ → ℕ
 kingsPlayed c kept from to =
     cond (containsOf kept from) (bitXor kept (bitXor (single from) (single to)))
     (cond (containsOf (promotion c) to) (bitOr kept (single to)) kept)
 
--- the mover off its first square as what it was, and onto its last as what it ends as
+-- the mover's key on its first square, as what it was, joined with its key on its last square, as what it ends as
 unfoldable pub movedKey : Color → ℕ → ℕ → ℕ → ℕ
 movedKey c kept from to =
     bitXor (moverKey c (containsOf kept from) from) (moverKey c (containsOf kept from || containsOf (promotion c) to) to)
 
+-- the position after a move of the given colour
 abbrev pub positionAfter : Color → ℕ → ℕ → ℕ → ℕ → Position
 positionAfter White own enemy kings hash = record { white = own; black = enemy; kings = kings; side = Black; hash = hash }
 positionAfter Black own enemy kings hash = record { white = enemy; black = own; kings = kings; side = White; hash = hash }
 
+-- the successor with its hash, carried on from the hash before the move
 unfoldable pub playOf : Position → Move → Position
 playOf p m =
     positionAfter (p .side)

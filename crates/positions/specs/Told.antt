@@ -1,4 +1,4 @@
--- Number, square and value of each answer type of this crate, in document 01's terms.
+-- Number, square and value of each answer type of this crate, in the terms of docs/REFUSALS.md.
 use mathlib.Core.List.{[]}
 use Rattle.squares.specs.Told.{Told, result, turnedBack}
 use Rattle.squares.specs.declared.piece.Piece.{Piece}
@@ -12,7 +12,7 @@ abbrev pub placedTold : Placed → Told Position
 placedTold (placed.Position p) = result p
 placedTold (placed.Refused e) = turnedBack e
 
--- an empty square is a result without a piece
+-- an empty square is a result without a value: number 0, and no piece
 abbrev pub standingTold : Standing → Told Piece
 standingTold (standing.Piece p) = result p
 standingTold standing.Nothing = record { number = 0; square = 0; value = [] }

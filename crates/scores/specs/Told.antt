@@ -1,4 +1,4 @@
--- Number, square and value of a score, in document 01's terms.
+-- Number, square and value of a score, in the terms of docs/REFUSALS.md.
 use lib.IntN.{ℤ}
 use Rattle.squares.specs.Told.{Told, result, turnedBack}
 use Rattle.scores.specs.declared.eval.Scored.{Scored}

@@ -1,5 +1,5 @@
--- The values of a function at the members of a set, joined to one number: by exclusive or for hashes, by sum for scores,
--- by union for the turned board (docs/RULES.md, "Keys and hash", "Score", "Turning the board").
+-- The values of a function at the members of a set, joined to one number: by exclusive or for hashes, by sum for
+-- scores, by union for the turned board (docs/RULES.md, "Keys and hash", "Score", "Turning the board").
 use Prim.Native.Nat.{ℕ, zero, suc, _+_}
 use mathlib.Core.Bool.{cond}
 use lib.Bits.{bitOr, bitXor}
