@@ -1,4 +1,4 @@
--- Lists of at most 256 moves by value: the moves, then blanks (document 01, "Forms of this Rust that need another").
+-- Lists of at most 256 moves by value: the moves, then blanks (docs/RULES.md, "Limits and lent space").
 use Prim.Native.Nat.{ℕ, _+_, min}
 use mathlib.Core.Bool.{Bool, false, cond, _||_}
 use mathlib.Core.List.{List, [], _∷_, _++_}
@@ -12,6 +12,7 @@ use Rattle.captures.specs.declared.moves.MoveList.{MoveList}
 abbrev pub blank : Move
 blank = move 0 0 0
 
+-- the list without moves
 abbrev pub noMoves : MoveList
 noMoves = record { moves = replicate 256 blank; len = 0 }
 
@@ -19,16 +20,16 @@ noMoves = record { moves = replicate 256 blank; len = 0 }
 abbrev pub entries : MoveList → List Move
 entries l = take (l .len) (l .moves)
 
--- whether m stands among some moves
+-- whether m is one of these moves
 unfoldable pub listed : List Move → Move → Bool
 listed [] m = false
 listed (x ∷ l) m = same x m || listed l m
 
--- one more, where there is room
+-- one more move at the end, where there is room
 unfoldable pub pushOf : MoveList → Move → MoveList
 pushOf l m = cond (ltb (l .len) 256) (record { moves = set (l .moves) (l .len) m; len = l .len + 1 }) l
 
--- the entry at index i, blank past the last
+-- the entry at index i, blank from 256 on
 unfoldable pub getOf : MoveList → ℕ → Move
 getOf l i = getD (l .moves) i blank
 

@@ -1,4 +1,4 @@
--- What a computed row opens.
+-- The definitions of this crate and of those below it that the checker may unfold where it computes a value.
 use Rattle.positions.specs.Computed as positions
 use Rattle.rules.specs.Lists.{concatMap, keep, contains, some, times, add, distinct, best, longest, orEnd, followed}
 use Rattle.rules.specs.Rules.{space, forward}

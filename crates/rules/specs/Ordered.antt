@@ -1,6 +1,9 @@
--- The legal moves as a list, in the order of `generate` (document 01, "movegen.rs"): men by bit, then kings by bit, directions
--- -6, -5, 5, 6, landings from near to far, each followed to its end, longest only, a double dropped at its second finding;
--- quiet man moves by direction first, then by the bit reached. It computes.
+-- The legal moves as a list that can be computed (docs/RULES.md, "Order of the list").
+-- - Captures: those of the men by bit, then those of the kings by bit. For each piece the directions are tried in the
+--   order up-left, up-right, down-left, down-right, and the landings from near to far, each way to its end before the
+--   next. Of these the longest stay, each where it was found first.
+-- - Quiet moves, where no jump is open: the men's by direction, then by the bit reached; then the kings' by bit, by
+--   direction and from near to far.
 use Prim.Native.Nat.{ℕ, zero, suc, _^_}
 use mathlib.Core.Bool.{Bool, true, false, not, _&&_}
 use mathlib.Core.List.{List, [], _∷_, _++_, map}
@@ -21,15 +24,16 @@ use Rattle.rules.specs.Rules.{BitMove, bitMove, numbered, space, forward
 unfoldable pub directions : List Direction
 directions = upLeft ∷ upRight ∷ downLeft ∷ downRight ∷ []
 
--- the squares of e from i on along d, near to far, at most n
+-- the squares along d after i, near to far, as long as they are in e; at most n
 unfoldable pub ahead : ℕ → ℕ → Direction → ℕ → List ℕ
 ahead zero e d i = []
 ahead (suc n) e d i = elim (has e (next d i)) [ true ↦ next d i ∷ ahead n e d (next d i) | false ↦ [] ]
 
--- no ray is longer than 64 bits
+-- the same without a bound: no ray is longer than 64 bits
 unfoldable pub ray : ℕ → Direction → ℕ → List ℕ
 ray e d i = ahead 64 e d i
 
+-- the last entry, or i where there is none
 unfoldable pub last : ℕ → List ℕ → ℕ
 last i [] = i
 last i (x ∷ xs) = last x xs
@@ -38,20 +42,21 @@ last i (x ∷ xs) = last x xs
 unfoldable pub blocker : ℕ → Direction → ℕ → ℕ
 blocker e d i = next d (last i (ray e d i))
 
--- ---- jumps. What a piece has done so far is a move: its first square, the square it stands on, the set taken.
+-- ---- jumps. A sequence so far is written as a move: its first square, the square it has reached, the set taken.
 
--- an enemy on o that is not yet taken
+-- whether there is an enemy on o that is not yet taken
 unfoldable pub target : Board → ℕ → ℕ → Bool
 target b taken o = has (enemy b) o && not (has taken o)
 
+-- the sequence s after a jump over o to l
 unfoldable pub hop : BitMove → ℕ → ℕ → BitMove
 hop s o l = bitMove (s .from) l (bitOr (s .taken) (2 ^ o))
 
--- the jumps over o to these landings, where there is an enemy to take on o
+-- the jumps over o to the landings ls; none where there is no enemy to take on o
 unfoldable pub jumpsOver : Board → BitMove → ℕ → List ℕ → List BitMove
 jumpsOver b s o ls = elim (target b (s .taken) o) [ true ↦ map (hop s o) ls | false ↦ [] ]
 
--- a man lands on the square behind only
+-- a man's only landing is l, the square behind the enemy, where it is in e
 unfoldable pub manLandings : ℕ → ℕ → List ℕ
 manLandings e l = elim (has e l) [ true ↦ l ∷ [] | false ↦ [] ]
 
@@ -60,19 +65,21 @@ unfoldable pub jumpsAlong : Board → PieceKind → BitMove → Direction → Li
 jumpsAlong b Man s d = jumpsOver b s (next d (s .to)) (manLandings (space b (s .from)) (next d (next d (s .to))))
 jumpsAlong b King s d = let o = blocker (space b (s .from)) d (s .to) in jumpsOver b s o (ray (space b (s .from)) d o)
 
+-- the jumps in all directions
 unfoldable pub jumps : Board → PieceKind → BitMove → List BitMove
 jumps b k s = concatMap (jumpsAlong b k s) directions
 
 -- ---- captures
 
--- more than the jumps of any sequence, as each leaves an enemy fewer of at most 64
+-- more jumps than any sequence has: each takes one of at most 64 enemies
 unfoldable pub enough : ℕ
 enough = 65
 
--- the sequences of the piece on i, each followed to its end
+-- the sequences of the piece on i, each followed to its end; where it has no jump, the piece on i with nothing taken
 unfoldable pub sequences : Board → PieceKind → ℕ → List BitMove
 sequences b k i = followed (jumps b k) enough (bitMove i i 0)
 
+-- those of all pieces of the side to move: men by bit, then kings by bit
 unfoldable pub allSequences : Board → List BitMove
 allSequences b = concatMap (sequences b Man) (members (pieces b Man)) ++ concatMap (sequences b King) (members (pieces b King))
 
@@ -80,16 +87,17 @@ allSequences b = concatMap (sequences b Man) (members (pieces b Man)) ++ concatM
 abbrev pub count : BitMove → ℕ
 count w = size (w .taken)
 
--- a piece that cannot jump takes nothing
+-- the sequences that take a piece
 unfoldable pub captures : Board → List BitMove
 captures b = keep (λ w. not (eqb (count w) 0)) (allSequences b)
 
 -- ---- quiet moves
 
--- the men's steps along d; the bits reached rise with the bits left
+-- the men's steps along d, rising by the bit left and so by the bit reached
 unfoldable pub manSteps : Board → Direction → List BitMove
 manSteps b d = map (λ (i : ℕ). bitMove i (next d i) 0) (keep (λ i. has (empty b) (next d i)) (members (pieces b Man)))
 
+-- the quiet moves of the king on i
 unfoldable pub kingFlights : Board → ℕ → List BitMove
 kingFlights b i = concatMap (λ d. map (λ (j : ℕ). bitMove i j 0) (ray (empty b) d i)) directions
 
@@ -98,16 +106,18 @@ quiets b = concatMap (manSteps b) (forward (b .side)) ++ concatMap (kingFlights 
 
 -- ---- the list
 
--- two moves by bits equal in all three
+-- whether two moves agree in first square, last square and set
 unfoldable pub sameBits : BitMove → BitMove → Bool
 sameBits v w = eqb (v .from) (w .from) && (eqb (v .to) (w .to) && eqb (v .taken) (w .taken))
 
+-- the longest captures, each once; where there are none, the quiet moves
 unfoldable pub bitLegal : Board → List BitMove
 bitLegal b = elim (captures b) [ [] ↦ quiets b | w ∷ ws ↦ longest sameBits count (w ∷ ws) ]
 
+-- the same as move records
 unfoldable pub legal : Board → List Move
 legal b = map numbered (bitLegal b)
 
--- m is one of the list
+-- whether m is in the list
 unfoldable pub listed : List Move → Move → Bool
 listed l m = contains same l m
