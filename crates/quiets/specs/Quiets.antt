@@ -1,5 +1,5 @@
--- The quiet moves in the order of the list: men by direction, then by the bit reached; kings by bit, direction, near to
--- far (document 01, "movegen.rs").
+-- The quiet moves in the order of the list (docs/RULES.md, "Quiet moves", "Order of the list"): the men's by direction,
+-- then by the bit reached; then the kings' by bit, by direction, near to far.
 use mathlib.Core.Bool.{Bool, false, _||_}
 use mathlib.Core.List.{List, _++_, map, foldl, flatMap}
 use Prim.Native.Nat.{ℕ, _+_, _-_, _^_}
@@ -21,11 +21,11 @@ use Rattle.quiets.specs.Tests.{forwardOf}
 abbrev pub listing : MoveList → Bool → Listing
 listing l o = record { list = l; overflow = o }
 
--- one more move where there is room, else the mark
+-- one more move where there is room; a full list is marked
 abbrev pub addOf : Listing → Move → Listing
 addOf l m = listing (pushOf (l .list) m) (l .overflow || leb 256 (l .list .len))
 
--- from the square of one set to that of another
+-- the quiet move between two squares, each given as a set of one bit
 abbrev pub quietMove : ℕ → ℕ → Move
 quietMove from to = move (firstOf from) (firstOf to) 0
 
@@ -37,24 +37,26 @@ stepMove d z = quietMove (shifted (directionAt (3 - d)) (2 ^ z)) (2 ^ z)
 unfoldable pub menSteps : ℕ → ℕ → ℕ → List Move
 menSteps men empty d = map (stepMove d) (members (bitAnd (shifted (directionAt d) men) empty))
 
--- in both directions forward
+-- their steps in both forward directions
 unfoldable pub menQuiets : ℕ → ℕ → Color → List Move
 menQuiets men empty side = upTo (λ k. menSteps men empty (forwardOf side + k)) 2
 
--- the flight of the king on `at` in the direction of index d, near to far
+-- the moves of the king on `at` in the direction of index d, near to far
 unfoldable pub flightOf : ℕ → ℕ → ℕ → List Move
 flightOf at empty d = map (quietMove at) (landings far (directionAt d) empty (bitAnd (shifted (directionAt d) at) empty))
 
--- of the king at bit i, in all directions
+-- the moves of the king at bit i, in all directions
 unfoldable pub flights : ℕ → ℕ → List Move
 flights empty i = upTo (flightOf (2 ^ i) empty) 4
 
+-- the moves of all kings
 unfoldable pub kingQuiets : ℕ → ℕ → List Move
 kingQuiets kings empty = flatMap (flights empty) (members kings)
 
--- all of them
+-- the moves of all pieces
 unfoldable pub allQuiets : ℕ → ℕ → ℕ → Color → List Move
 allQuiets men kings empty side = menQuiets men empty side ++ kingQuiets kings empty
 
+-- the same as a list of at most 256, with the mark
 unfoldable pub quietMovesOf : ℕ → ℕ → ℕ → Color → Listing
 quietMovesOf men kings empty side = foldl addOf (listing noMoves false) (allQuiets men kings empty side)

@@ -1,4 +1,13 @@
-// Quiet moves, and the tests by shifted sets, after movegen.rs.
+// Quiet moves, and the tests whether one or a jump is open, after movegen.rs of dame-rs.
+//
+// The rules (docs/RULES.md, "Quiet moves"):
+// - A man steps to the empty square next to it, in one of its two forward directions: White up, Black down.
+// - A king goes any distance along one direction, as long as the squares are empty.
+// - A quiet move is legal only where the side has no jump. That is not asked here: the crate movegen asks it before it
+//   makes a list.
+//
+// Most is computed for all pieces at once: their set is shifted by one step, and what falls on `empty` can step there.
+// `them` are the enemies.
 use captures::movegen;
 use captures::moves::MAX_MOVES;
 use captures::moves::MoveList;
@@ -13,13 +22,13 @@ ghost use Rattle.squares.specs.Sets.{members};
 ghost use Rattle.quiets.specs.Tests.{forwardOf, stepsOpen, hasQuietOf, menJump, kingOpen, anyIn, hasCaptureOf};
 ghost use Rattle.quiets.specs.Quiets.{quietMovesOf, flightOf, flights, kingQuiets, allQuiets};
 
-// A list, and whether there were more moves than it holds.
+// A list of moves, and whether there were more than it has room for.
 pub struct Listing {
     pub list: MoveList,
     pub overflow: bool,
 }
 
-// The first of a man's two directions forward; the other has the next index. White goes up, Black down.
+// The index of the first of a man's two forward directions; the other has the next index. White goes up, Black down.
 fn forward(side: Color) -> usize
     ensures { λ r. ⌜ r ≡ forwardOf side ⌝ }
 {
@@ -29,14 +38,14 @@ fn forward(side: Color) -> usize
     }
 }
 
-// Whether some piece of the set steps in direction `d` onto an empty square.
+// Whether some piece of the set can step in direction `d` onto an empty square.
 fn steps(set: Bitboard, empty: Bitboard, d: usize) -> bool
     ensures { λ r. ⌜ r ≡ stepsOpen set empty d ⌝ }
 {
     bitboard::shift(set, d) & empty != 0
 }
 
-// Whether the side has a quiet move.
+// Whether the side has a quiet move, also where it must capture.
 pub fn has_quiet(men: Bitboard, kings: Bitboard, empty: Bitboard, side: Color) -> bool
     ensures { λ r. ⌜ r ≡ hasQuietOf men kings empty side ⌝ }
 {
@@ -47,7 +56,8 @@ pub fn has_quiet(men: Bitboard, kings: Bitboard, empty: Bitboard, side: Color) -
     a | (c | steps(kings, empty, 3))
 }
 
-// Whether some man has an enemy next to it in direction `d` and an empty square behind that.
+// Whether some man has an enemy next to it in direction `d`, with an empty square behind it. The test goes back from
+// the empty squares: the direction opposite to `d` has index 3 - d.
 fn men_jump(men: Bitboard, them: Bitboard, empty: Bitboard, d: usize) -> bool
     requires { ⌜ d < 4 ⌝ }
     ensures { λ r. ⌜ r ≡ menJump men them empty d ⌝ }
@@ -56,7 +66,7 @@ fn men_jump(men: Bitboard, them: Bitboard, empty: Bitboard, d: usize) -> bool
     bitboard::shift(over, 3 - d) & men != 0
 }
 
-// Whether some king has a jump. Its own square counts as empty.
+// Whether some king has a jump. The king's own square counts as empty.
 fn kings_open(kings: Bitboard, them: Bitboard, empty: Bitboard) -> bool
     ensures { λ r. ⌜ r ≡ anyIn (kingOpen them empty) (members kings) ⌝ }
 {
@@ -81,8 +91,8 @@ pub fn has_capture(men: Bitboard, kings: Bitboard, them: Bitboard, empty: Bitboa
     c | kings_open(kings, them, empty)
 }
 
-// All quiet moves: the men's steps by direction, then by the bit reached; then the kings' flights by bit, by direction, near
-// to far. One function with a local array: a list handed from one function to the next would be copied each time.
+// All quiet moves: the men's by direction, then by the bit reached; then the kings' by bit, by direction, near to far.
+// It is one function with a local array: a list handed from one function to the next would be copied each time.
 pub fn quiet_moves(men: Bitboard, kings: Bitboard, empty: Bitboard, side: Color) -> Listing
     ensures { λ r. ⌜ r ≡ quietMovesOf men kings empty side ⌝ }
 {
@@ -152,7 +162,7 @@ pub fn quiet_moves(men: Bitboard, kings: Bitboard, empty: Bitboard, side: Color)
     }
 }
 
-// The number of squares that a king on `at` can fly to in direction `d`.
+// The number of squares that a king on `at` can reach in direction `d`.
 fn flight_count(at: Bitboard, empty: Bitboard, d: usize) -> u32
     ensures { λ r. ⌜ r ≡ length (flightOf at empty d) ⌝ }
 {
@@ -165,7 +175,7 @@ fn flight_count(at: Bitboard, empty: Bitboard, d: usize) -> u32
     n
 }
 
-// The number of a king's quiet moves.
+// The number of quiet moves of the king at this bit.
 fn king_count(bit: u32, empty: Bitboard) -> u32
     requires { ⌜ bit < 64 ⌝ }
     ensures { λ r. ⌜ r ≡ length (flights empty bit) ⌝ }
@@ -176,7 +186,7 @@ fn king_count(bit: u32, empty: Bitboard) -> u32
     b + flight_count(at, empty, 3)
 }
 
-// The number of the kings' quiet moves.
+// The number of quiet moves of all kings.
 fn kings_count(kings: Bitboard, empty: Bitboard) -> u32
     ensures { λ r. ⌜ r ≡ length (kingQuiets kings empty) ⌝ }
 {
@@ -189,7 +199,7 @@ fn kings_count(kings: Bitboard, empty: Bitboard) -> u32
     n
 }
 
-// The number of quiet moves: no list is made.
+// The number of quiet moves of the side, counted without a list.
 pub fn quiet_count(men: Bitboard, kings: Bitboard, empty: Bitboard, side: Color) -> u32
     ensures { λ r. ⌜ r ≡ length (allQuiets men kings empty side) ⌝ }
 {

@@ -1,4 +1,5 @@
--- The captures of all pieces in one short list: men by bit, then kings by bit. It is right where there was room.
+-- The captures of all pieces in one short list (docs/RULES.md, "Captures", "Order of the list"): men by bit, then kings
+-- by bit. Where it is not marked, it holds all longest captures.
 use Prim.Native.Nat.{ℕ, _^_}
 use mathlib.Core.Bool.{true}
 use mathlib.Core.List.{foldl}
@@ -13,18 +14,20 @@ use Rattle.shorts.specs.Noted.{shortOf, noteShort}
 abbrev pub movingFrom : Short → ℕ → Short
 movingFrom t at = record { moves = t .moves; len = t .len; from = at; best = t .best; overflow = t .overflow }
 
--- with the captures of the man at bit i, of the king at bit i
+-- t after the search from the man at bit i, and from the king at bit i
 unfoldable pub manShort : ℕ → ℕ → Short → ℕ → Short
 manShort them empty t i = foldl noteShort (movingFrom t (2 ^ i)) (manEndings them (bitOr empty (2 ^ i)) 65 (2 ^ i) 0)
 
 unfoldable pub kingShort : ℕ → ℕ → Short → ℕ → Short
 kingShort them empty t i = foldl noteShort (movingFrom t (2 ^ i)) (kingEndings them (bitOr empty (2 ^ i)) 65 (2 ^ i) 0 (skipOf true 4))
 
+-- t after the search from each man, and from each king
 unfoldable pub fewMenOf : Short → ℕ → ℕ → ℕ → Short
 fewMenOf t men them empty = foldl (manShort them empty) t (members men)
 
 unfoldable pub fewKingsOf : Short → ℕ → ℕ → ℕ → Short
 fewKingsOf t kings them empty = foldl (kingShort them empty) t (members kings)
 
+-- the captures of all pieces
 unfoldable pub fewCapturesOf : ℕ → ℕ → ℕ → ℕ → Short
 fewCapturesOf men kings them empty = fewKingsOf (fewMenOf (shortOf 0 0) men them empty) kings them empty

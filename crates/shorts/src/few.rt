@@ -1,5 +1,6 @@
-// The captures of all pieces in one short list. Where there is no room for them the list is marked, and the caller takes
-// the long one.
+// The captures of all pieces in one short list, men by bit, then kings by bit. For most boards this is the quickest way
+// to the legal captures. Where the list has no room for all of them it is marked, and the caller uses the long list
+// (pieces.rt).
 use crate::short::Short;
 use captures::movegen::king_open;
 use captures::movegen::man_open;
@@ -7,8 +8,8 @@ use squares::bitboard::Bitboard;
 ghost use mathlib.Core.Path.{_≡_};
 ghost use Rattle.shorts.specs.Few.{fewMenOf, fewKingsOf, fewCapturesOf};
 
-// The captures of all men, by bit. The square that a man starts from counts as empty. A man without a jump is passed
-// over: it would record nothing.
+// The captures of all men, by bit. The first square of the moving man counts as empty. A man without a jump is skipped:
+// it would record nothing.
 fn few_men(start: Short, men: Bitboard, them: Bitboard, empty: Bitboard) -> Short
     ensures { λ r. ⌜ r ≡ fewMenOf start men them empty ⌝ }
 {
@@ -42,7 +43,7 @@ fn few_kings(start: Short, kings: Bitboard, them: Bitboard, empty: Bitboard) -> 
     t
 }
 
-// All longest captures, as far as there is room.
+// The longest captures of all pieces, or a marked list where there is no room for them.
 pub fn few_captures(men: Bitboard, kings: Bitboard, them: Bitboard, empty: Bitboard) -> Short
     ensures { λ r. ⌜ r ≡ fewCapturesOf men kings them empty ⌝ }
 {

@@ -1,4 +1,7 @@
-// The captures of one piece recorded in the list of all, and the loops over the pieces.
+// The captures of all pieces in the long list: men by bit, then kings by bit. Each piece is searched with a short list,
+// whose moves are then recorded in the long one. Where a piece has more captures than a short list holds, it is
+// searched again with the long list. The crate movegen uses this where one short list for all pieces (few.rt) has no
+// room, and at once for a side with many kings.
 use crate::short::ROOM;
 use crate::short::Short;
 use captures::movegen::Captures;
@@ -21,8 +24,8 @@ fn least(a: usize, b: usize) -> usize
     if a < b { a } else { b }
 }
 
-// Records the moves of a short list in the long one, in order. The long list is changed in place: a call a move would
-// copy it each time.
+// Records the moves of a short list in the long one, in order. The long list is changed in place: one call for each
+// move would copy it each time.
 pub(crate) fn merge(start: Captures, found: Short) -> Captures
     ensures { λ r. ⌜ r ≡ mergeOf start found ⌝ }
 {
@@ -71,8 +74,8 @@ pub(crate) fn merge(start: Captures, found: Short) -> Captures
     s
 }
 
-// The captures of all men, by bit. The first square of the one that moves counts as empty. A man without a jump would
-// record nothing. Where a short list has no room for the captures of one man, the long search finds them.
+// The captures of all men, by bit. The first square of the moving man counts as empty. A man without a jump is skipped:
+// it would record nothing. Where a short list has no room for the captures of a man, the long search finds them.
 pub fn men_captures(start: Captures, men: Bitboard, empty: Bitboard) -> Captures
     ensures { λ r. ⌜ r ≡ menCapturesOf start men empty ⌝ }
 {
@@ -96,7 +99,7 @@ pub fn men_captures(start: Captures, men: Bitboard, empty: Bitboard) -> Captures
     s
 }
 
-// The captures of all kings, by bit.
+// The captures of all kings, by bit, in the same way.
 pub fn kings_captures(start: Captures, kings: Bitboard, empty: Bitboard) -> Captures
     ensures { λ r. ⌜ r ≡ kingsCapturesOf start kings empty ⌝ }
 {

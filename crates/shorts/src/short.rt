@@ -1,6 +1,8 @@
-// The search of one piece, with room for few moves.
+// The search for the captures of one piece, with room for 14 moves (docs/RULES.md, "Captures").
 //
-// The code is that of `Captures`, on a list of 14: it is right where there was room, and says so where there was not.
+// It follows the same jumps in the same order as `Captures` in the crate captures, where the rules are listed; only the
+// list is shorter. Where there was room for all longest captures the two find the same moves. Where there was not,
+// `overflow` is true and the list must not be used.
 use captures::movegen::man_open;
 use captures::movegen::skips;
 use captures::movegen::slide;
@@ -15,23 +17,23 @@ ghost use Rattle.captures.specs.Men.{Man};
 ghost use Rattle.captures.specs.Kings.{skipOf, King};
 ghost use Rattle.shorts.specs.Noted.{few, shortOf, noteShort};
 
-// The maximum number of moves a short list holds.
+// How many moves a short list can hold.
 pub const ROOM: usize = 14;
 
 pub struct Short {
-    // The longest captures so far; what stands behind them is of no account.
+    // The longest captures so far, `len` of them. The entries after them mean nothing.
     pub moves: [Move; 14],
     pub len: usize,
     // The first square of the moving piece.
     pub from: Bitboard,
-    // The number of pieces that each of them takes; at the start, the number below which none counts.
+    // The number of pieces that each of them takes. At the start: captures of fewer pieces than this do not count.
     pub best: u32,
-    // Whether there were more moves of that number than there is room for.
+    // Whether there were more such moves than the list has room for.
     pub overflow: bool,
 }
 
 impl Short {
-    // Nothing found yet of the piece on `from`.
+    // A list without moves for the piece on `from`; captures of fewer than `best` pieces will not count.
     pub fn new(from: Bitboard, best: u32) -> Short
         ensures { λ r. ⌜ r ≡ shortOf from best ⌝ }
     {
@@ -50,7 +52,7 @@ impl Short {
         }
     }
 
-    // Whether the move stands in the list.
+    // Whether the move is in the list.
     pub(crate) fn holds(self, mv: Move) -> bool
         ensures { λ r. ⌜ r ≡ listed (few self) mv ⌝ }
     {
@@ -69,8 +71,8 @@ impl Short {
         false
     }
 
-    // Adds a finished sequence that ends on `to`: only the largest number counts, and a double is dropped. A full list
-    // is marked; a longer capture clears the list and the mark.
+    // Records a sequence that ends on `to`. Only those that take the most are kept, each once. A list too full for one
+    // more is marked; a longer capture clears the list and the mark.
     pub(crate) fn record(self, to: Bitboard, captured: Bitboard) -> Short
         ensures { λ r. ⌜ r ≡ noteShort self (ending to captured) ⌝ }
     {
@@ -106,7 +108,7 @@ impl Short {
         s
     }
 
-    // Extends a man's sequence from `at`, having taken `captured` so far.
+    // Follows all sequences of a man on `at` that has taken `captured` so far, and records each at its end.
     pub fn man(self, them: Bitboard, empty: Bitboard, at: Bitboard, captured: Bitboard) -> Short
         ensures { λ r. ⌜ Man noteShort them empty self at captured r ⌝ }
     {
@@ -131,8 +133,8 @@ impl Short {
         if extended { s } else { s.record(at, captured) }
     }
 
-    // Extends a king's sequence from `at`, having taken `captured` so far; `came` is the direction of the last jump,
-    // 4 at the start.
+    // Follows all sequences of a king on `at` that has taken `captured` so far, and records each at its end. `came` is
+    // the direction of its last jump, 4 at the start.
     pub fn king(
         self,
         them: Bitboard,
@@ -163,8 +165,8 @@ impl Short {
         if extended { s } else { s.record(at, captured) }
     }
 
-    // Continues a king's sequence after landing on `at` while moving in direction `dir`. Only the first landing goes
-    // straight on: a later one would find the same, and a sequence cut short takes fewer.
+    // The same for a king that has just landed on `at` in direction `dir`. Only the first landing looks straight on,
+    // since a later one would find the same. A sequence that ends too early there takes fewer pieces: it is not kept.
     pub(crate) fn king_landing(
         self,
         them: Bitboard,
