@@ -25,13 +25,15 @@ promotes b m = not (containsOf (b .kings) (m .from)) && containsOf (promotion (b
 unfoldable pub endsAsKing : Board → Move → Bool
 endsAsKing b m = containsOf (b .kings) (m .from) || containsOf (promotion (b .side)) (m .to)
 
--- after the move: the mover's side, the other side, the kings of both
+-- the pieces of the mover's side after the move
 unfoldable pub ownAfter : Board → Move → ℕ
 ownAfter b m = bitOr (without (own b) (single (m .from))) (single (m .to))
 
+-- the pieces of the other side after the move
 unfoldable pub enemyAfter : Board → Move → ℕ
 enemyAfter b m = without (enemy b) (m .captured)
 
+-- the kings of both sides after the move
 unfoldable pub kingsAfter : Board → Move → ℕ
 kingsAfter b m =
     bitOr (without (without (b .kings) (m .captured)) (single (m .from))) (cond (endsAsKing b m) (single (m .to)) 0)
@@ -41,6 +43,7 @@ abbrev pub turned : Color → ℕ → ℕ → ℕ → Board
 turned White own enemy kings = board own enemy kings Black
 turned Black own enemy kings = board enemy own kings White
 
+-- the board after the move
 unfoldable pub successor : Board → Move → Board
 successor b m = turned (b .side) (ownAfter b m) (enemyAfter b m) (kingsAfter b m)
 

@@ -4,7 +4,7 @@ use mathlib.Core.Bool.{Bool, true, false, cond, _||_}
 use mathlib.Core.List.{List, [], _∷_, _++_, foldl}
 use lib.Dec.{eqb}
 
--- the lists f gives for the entries, one after the other
+-- the lists that f gives for the entries, one after the other
 unfoldable pub concatMap : {A B : Type 0} → (A → List B) → List A → List B
 concatMap f [] = []
 concatMap f (x ∷ xs) = f x ++ concatMap f xs

@@ -14,17 +14,19 @@ use Rattle.shorts.specs.Noted.{shortOf, noteShort}
 abbrev pub movingFrom : Short → ℕ → Short
 movingFrom t at = record { moves = t .moves; len = t .len; from = at; best = t .best; overflow = t .overflow }
 
--- t after the search from the man at bit i, and from the king at bit i
+-- t after the search from the man at bit i
 unfoldable pub manShort : ℕ → ℕ → Short → ℕ → Short
 manShort them empty t i = foldl noteShort (movingFrom t (2 ^ i)) (manEndings them (bitOr empty (2 ^ i)) 65 (2 ^ i) 0)
 
+-- t after the search from the king at bit i
 unfoldable pub kingShort : ℕ → ℕ → Short → ℕ → Short
 kingShort them empty t i = foldl noteShort (movingFrom t (2 ^ i)) (kingEndings them (bitOr empty (2 ^ i)) 65 (2 ^ i) 0 (skipOf true 4))
 
--- t after the search from each man, and from each king
+-- t after the search from each man, by bit
 unfoldable pub fewMenOf : Short → ℕ → ℕ → ℕ → Short
 fewMenOf t men them empty = foldl (manShort them empty) t (members men)
 
+-- t after the search from each king, by bit
 unfoldable pub fewKingsOf : Short → ℕ → ℕ → ℕ → Short
 fewKingsOf t kings them empty = foldl (kingShort them empty) t (members kings)
 

@@ -1,5 +1,5 @@
--- The four diagonal directions, as steps of one bit and as shifts of a whole set (docs/RULES.md, "The board").
--- From bit i they lead to bits i - 6, i - 5, i + 5 and i + 6.
+-- The four diagonal directions: the step from one bit to the next, and the shift of a whole set (docs/RULES.md,
+-- "The board"). From bit i they lead to bits i - 6, i - 5, i + 5 and i + 6.
 use Prim.Native.Nat.{ℕ, zero, suc, _+_, _-_, _*_, _/_, _%_, _^_}
 
 pub data Direction : Type 0 where

@@ -16,7 +16,7 @@ use Rattle.squares.specs.declared.zobrist.Drawn.{Drawn}
 unfoldable pub advance : ℕ → ℕ
 advance s = (s + 0x9E37_79B9_7F4A_7C15) % 2 ^ 64
 
--- z, exclusive or z shifted down by k bits, times m; a product keeps its low 64 bits
+-- z is joined by exclusive or with itself shifted down by k bits, then multiplied by m; the low 64 bits are kept
 unfoldable pub scramble : ℕ → ℕ → ℕ → ℕ
 scramble k m z = bitXor z (z / 2 ^ k) * m % 2 ^ 64
 

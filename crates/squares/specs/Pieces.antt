@@ -19,17 +19,18 @@ abbrev pub other : Color → Color
 other White = Black
 other Black = White
 
--- the letter of a side, and back; refusal 2 for any other byte
+-- the letter of a side
 abbrev pub colorChar : Color → ℕ
 colorChar White = code "W"
 colorChar Black = code "B"
 
+-- the side with this letter; refusal 2 for any other byte
 unfoldable pub colorFromCharOf : ℕ → Sided
 colorFromCharOf c =
     cond (eqb c (code "W")) (sided.Side White)
     (cond (eqb c (code "B")) (sided.Side Black) (sided.Refused (refusal 2)))
 
--- the character of a piece, and back; refusal 5 for any other byte
+-- the character of a piece in Hub texts
 abbrev pub charOf : Color → PieceKind → ℕ
 charOf White Man = code "w"
 charOf White King = code "W"
@@ -42,6 +43,7 @@ pieceChar p = charOf (p .color) (p .kind)
 abbrev knownAs : Color → PieceKind → Known
 knownAs c k = known.Piece (record { color = c; kind = k })
 
+-- the piece with this character; refusal 5 for any other byte
 unfoldable pub pieceFromCharOf : ℕ → Known
 pieceFromCharOf c =
     cond (eqb c (code "w")) (knownAs White Man)
