@@ -1,4 +1,4 @@
--- What a computed row opens.
+-- The definitions that are unfolded where a theorem is proved by computing.
 use Rattle.rules.specs.Computed as rules
 use Rattle.captures.specs.Lists.{listOf}
 use Rattle.movegen.specs.Lists.{listedOf, legalMovesOf, hasCapturesOf, hasQuietMovesOf, playedOf, afterOf}

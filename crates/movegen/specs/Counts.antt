@@ -1,5 +1,5 @@
--- Depth counts (document 01, "perft.rs"): depth 0 is 1, otherwise the sum over the legal moves. 12, 10, 17; 17 is met only at a
--- list that is needed. The same by first moves (`divide`, which document 01 has not got): the list and the count below each.
+-- Depth counts (docs/RULES.md, "Depth counts"): the number of ways to play n plies. `divide` is the same by first moves:
+-- the list, and the count after each move. Refusals: 12, 10, 17; 17 only where a list that the count needs is too long.
 use Prim.Native.Nat.{ℕ, zero, suc, _+_, _-_}
 use mathlib.Core.Bool.{true, false, cond}
 use mathlib.Core.List.{List, [], _∷_, _++_, map}
@@ -19,17 +19,17 @@ use Rattle.movegen.specs.declared.perft.Counted.{Counted}
 use Rattle.movegen.specs.declared.perft.Counted.the-variants.{Count, Refused}
 use Rattle.movegen.specs.declared.perft.Divided.{Divided}
 
--- a refusal is passed on
+-- goes on with the number; a refusal is passed on
 unfoldable pub thenCount : Counted → (ℕ → Counted) → Counted
 thenCount (Count n) k = k n
 thenCount (Refused e) k = Refused e
 
--- s and the counts of these moves
+-- s plus the counts of these moves, or the first refusal among them
 unfoldable pub sumFrom : (Move → Counted) → ℕ → List Move → Counted
 sumFrom f s [] = Count s
 sumFrom f s (m ∷ l) = thenCount (f m) (λ n. sumFrom f (s + n) l)
 
--- the ways to play that many plies; each board that is left needs its list, of at most 256 moves
+-- the number of ways to play that many plies; every board that is played on needs its list, of at most 256 moves
 unfoldable pub depthCount : ℕ → Board → Counted
 depthCount zero b = Count 1
 depthCount (suc n) b =
@@ -41,16 +41,16 @@ perftOf p depth = cond (sound p) (cond (leb depth 7) (depthCount depth (boardOf 
 
 -- ---- by first moves
 
--- refused: no moves, all counts 0
+-- where refused: no moves, all counts 0
 abbrev pub undivided : Refusal → Divided
 undivided e = record { answer = answer.Refused e; list = noMoves; counts = replicate 256 0 }
 
--- the number of a count, where there is one
+-- the number of a count, 0 where it is refused
 unfoldable pub numberIn : Counted → ℕ
 numberIn (Count n) = n
 numberIn (Refused e) = 0
 
--- the count below each move, with so many plies after it; then zeros
+-- the count after each legal move, with n plies still to play; then zeros
 unfoldable pub countsBelow : ℕ → Board → List ℕ
 countsBelow n b = take 256 (map (λ m. numberIn (depthCount n (successor b m))) (legal b) ++ replicate 256 0)
 
@@ -58,7 +58,7 @@ abbrev pub dividedBy : Counted → Divided → Divided
 dividedBy (Count n) d = d
 dividedBy (Refused e) d = undivided e
 
--- answered exactly where the whole count is
+-- it is refused exactly where the whole count is
 unfoldable pub dividedOf : ℕ → Board → Divided
 dividedOf n b = dividedBy (depthCount (suc n) b) (record { answer = answer.Done; list = listOf (legal b); counts = countsBelow n b })
 

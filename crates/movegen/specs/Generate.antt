@@ -1,5 +1,5 @@
--- What the generator does by formula on sets, on every input. What it means under the rules is said by a law
--- (proofs/Generated.antt).
+-- What the generator computes on sets, for every input. A law says that on an accepted board this is the list of the
+-- rules (docs/RULES.md, "Legal moves"; `generated` in proofs/Generated.antt).
 use Prim.Native.Nat.{ℕ}
 use mathlib.Core.Bool.{cond}
 use lib.Bits.{bitAnd, bitOr, bitXor}
@@ -20,10 +20,11 @@ use Rattle.quiets.specs.Quiets.{listing, quietMovesOf}
 use Rattle.quiets.specs.declared.quiets.Listing.{Listing}
 use Rattle.movegen.specs.declared.movegen.View.{View}
 
--- a board as the side to move sees it, and back
+-- a board as the side to move sees it
 abbrev pub viewOf : Board → View
 viewOf b = record { us = own b; them = enemy b; kings = b .kings; side = b .side }
 
+-- the way back: the board of a side's own pieces, the enemy's and the kings
 abbrev pub facing : Color → ℕ → ℕ → ℕ → Board
 facing White us them kings = board us them kings White
 facing Black us them kings = board them us kings Black
@@ -31,11 +32,11 @@ facing Black us them kings = board them us kings Black
 abbrev pub seen : View → Board
 seen v = facing (v .side) (v .us) (v .them) (v .kings)
 
--- what a search hands on
+-- the list of a search, and its mark for more than 256 moves
 abbrev pub listingOf : Captures → Listing
 listingOf s = listing (listIn s) (s .overflow)
 
--- the search of all pieces: men, then kings
+-- the captures of all pieces: the men's, then the kings'
 abbrev pub longCapturesOf : ℕ → ℕ → ℕ → ℕ → Captures
 longCapturesOf men kings them empty = kingsCapturesOf (menCapturesOf (startOf them empty) men empty) kings empty
 
@@ -50,7 +51,7 @@ movesBySets men kings them empty side =
 unfoldable pub generateOf : View → Listing
 generateOf v = movesBySets (without (v .us) (v .kings)) (bitAnd (v .us) (v .kings)) (v .them) (without all (bitOr (v .us) (v .them))) (v .side)
 
--- the board after a move, seen by the other side
+-- the board after a move, as the other side sees it
 unfoldable pub nextOf : View → Move → View
 nextOf v m = record {
   us = without (v .them) (m .captured);

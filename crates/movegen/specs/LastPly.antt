@@ -1,5 +1,6 @@
--- The last ply of a depth count by formula on sets: the number of moves, of which there are at most 256; no list is made where
--- no jump is open. What it means under the rules is said by a law (proofs/LastPly.antt).
+-- The last ply of a depth count, computed on sets: the number of moves, or 17 where there are more than 256. No list
+-- is made where no jump is open. A law says that this is the depth count 1 of the rules (`last-ply` in
+-- proofs/LastPly.antt).
 use Prim.Native.Nat.{ℕ}
 use mathlib.Core.Bool.{cond}
 use lib.Bits.{bitAnd, bitOr}
@@ -17,9 +18,11 @@ use Rattle.movegen.specs.declared.movegen.View.{View}
 use Rattle.movegen.specs.declared.perft.Counted.{Counted}
 use Rattle.movegen.specs.declared.perft.Counted.the-variants.{Count, Refused}
 
+-- a number of moves, or 17 where it is above 256
 unfoldable pub limitedCount : ℕ → Counted
 limitedCount n = cond (ltb 256 n) (Refused (refusal 17)) (Count n)
 
+-- the number of moves in a list, or 17 where it is marked as too short for them
 unfoldable pub listedCount : Listing → Counted
 listedCount l = cond (l .overflow) (Refused (refusal 17)) (Count (l .list .len))
 

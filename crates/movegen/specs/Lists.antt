@@ -1,5 +1,5 @@
--- The answers of the list call, of the two tests and of the successor, refused ones too, in the paper's order
--- (document 01, "Turned back because of the input", "of the state"): lists 12, 10, 17; tests 12; a move record 12, 11, 17, 15.
+-- What the list call, the two tests and the successor answer, refused calls too (docs/RULES.md, "Legal moves"). The
+-- order of refusals (docs/RULES.md, "Refusals"): lists 12, 10, 17; tests 12; a move record 12, 11, 17, 15.
 use Prim.Native.Nat.{ℕ}
 use mathlib.Core.Bool.{cond, _||_}
 use mathlib.Core.List.{List}
@@ -30,11 +30,11 @@ use Rattle.movegen.specs.declared.movegen.Tested.the-variants as tested
 abbrev pub noList : Answer → Listed
 noList a = record { answer = a; list = noMoves }
 
--- refused: no moves, every entry blank
+-- the same where the call is refused
 abbrev pub refusedList : Refusal → Listed
 refusedList e = noList (answer.Refused e)
 
--- at most that many moves, then blanks; else 17
+-- the moves and then blanks, if there are at most `limit` moves; else 17
 unfoldable pub listedOf : ℕ → List Move → Listed
 listedOf limit xs = cond (leb (length xs) limit) (record { answer = answer.Done; list = listOf xs }) (refusedList (refusal 17))
 
@@ -44,7 +44,7 @@ legalMovesOf p limit =
     (cond (leb limit 256) (listedOf limit (legal (boardOf p))) (refusedList (refusal 10)))
     (refusedList (refusal 12))
 
--- what the code looks at: the mark, and the length
+-- the same as the code tests it: the mark for more than 256 moves, or a length above the limit
 unfoldable pub withinOf : Listing → ℕ → Listed
 withinOf l limit =
     cond (l .overflow || ltb limit (l .list .len)) (refusedList (refusal 17)) (record { answer = answer.Done; list = l .list })
@@ -52,11 +52,11 @@ withinOf l limit =
 unfoldable pub hasCapturesOf : Position → Tested
 hasCapturesOf p = cond (sound p) (tested.Is (some (captures (boardOf p)))) (tested.Refused (refusal 12))
 
--- also where a capture is due
+-- even where the side to move must capture
 unfoldable pub hasQuietMovesOf : Position → Tested
 hasQuietMovesOf p = cond (sound p) (tested.Is (some (quiets (boardOf p)))) (tested.Refused (refusal 12))
 
--- the position after a move of the list, with its hash
+-- 17 or 15, else the position after the move, with its hash
 unfoldable pub playedOf : Position → Move → Placed
 playedOf p m =
     cond (ltb 256 (length (legal (boardOf p)))) (placed.Refused (refusal 17))

@@ -1,4 +1,4 @@
--- Number, square and value of each answer type of this crate, in document 01's terms.
+-- Number, square and value of each answer type of this crate, in the terms of docs/REFUSALS.md.
 use Prim.Native.Nat.{ℕ}
 use mathlib.Core.Bool.{Bool}
 use mathlib.Core.List.{List}
@@ -22,6 +22,6 @@ abbrev pub countedTold : Counted → Told ℕ
 countedTold (counted.Count n) = result n
 countedTold (counted.Refused e) = turnedBack e
 
--- the moves, and the count below each
+-- the first moves, and the count after each
 abbrev pub dividedTold : Divided → Told (MoveList × List ℕ)
 dividedTold d = beside (d .answer) (d .list, d .counts)

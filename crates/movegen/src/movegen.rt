@@ -1,4 +1,18 @@
-// The legal moves of a position, after movegen.rs.
+// The legal moves of a position (docs/RULES.md, "Legal moves"), ported from movegen.rs.
+//
+// - Who can capture must capture, and only captures that take the largest number of pieces are legal.
+// - A man steps one square forward, but jumps in all four directions: over a neighbour to the square just beyond it.
+// - A king flies: it goes any distance over empty squares, and it may do so both before and after the enemy it jumps.
+// - One jump takes one enemy and lands on an empty square. The square that the mover left counts as empty.
+// - Taken pieces are lifted when the whole move is done. Until then they are in the way, and cannot be jumped again.
+// - A man is crowned only if its move ends on the promotion row; to pass through the row is not enough.
+// - Captures with the same first square, last square and set of taken pieces are one move.
+//
+// The list has a fixed order (docs/RULES.md, "Order of the list"). Captures come as the search finds them: men before
+// kings, each kind by rising bit, the directions -6, -5, 5, 6, a king's near landings before its far ones. Each path
+// is followed to its end before the next is tried, and a move that was found before is left out. Quiet moves: the
+// men's steps in one direction by rising bit, then those in the other; then the kings by rising bit, each by
+// direction and distance.
 use crate::moves::MAX_MOVES;
 use crate::moves::MoveList;
 use crate::position;
@@ -23,22 +37,22 @@ ghost use Rattle.positions.specs.Boards.{boardOf};
 ghost use Rattle.movegen.specs.Generate.{viewOf, longCapturesOf, generateOf};
 ghost use Rattle.movegen.specs.Lists.{noList, refusedList, withinOf, legalMovesOf, hasCapturesOf, hasQuietMovesOf, afterOf};
 
-// With at most so many kings the captures are first looked for by a short list.
+// A side with more kings than this skips the short list of captures.
 const FEW_KINGS: u32 = 3;
 
-// A list, with the answer beside it; refused, the list is empty.
+// The answer and the list. Where the call is refused, the list is empty.
 pub struct Listed {
     pub answer: Answer,
     pub list: MoveList,
 }
 
-// What a test says, or the refusal.
+// The result of a test, or the refusal.
 pub enum Tested {
     Is(bool),
     Refused(Refusal),
 }
 
-// A board as the side to move sees it: its pieces, the other's, the kings of both. Depth counts go on with this alone.
+// A board as the side to move sees it: its own pieces, the enemy's, the kings of both. Depth counts need no more.
 pub(crate) struct View {
     pub(crate) us: Bitboard,
     pub(crate) them: Bitboard,
@@ -60,7 +74,7 @@ impl View {
     }
 }
 
-// The search of all pieces with a long list: men by bit, then kings by bit.
+// The captures of all pieces, in a list of 256 moves: men by bit, then kings by bit.
 pub(crate) fn long_captures(
     men: Bitboard,
     kings: Bitboard,
@@ -74,7 +88,7 @@ pub(crate) fn long_captures(
     shorts::pieces::kings_captures(steps, kings, empty)
 }
 
-// The list of the moves of a short one that had room for all.
+// A full list with the moves of a short one, which had room for all captures.
 fn spread(found: Short) -> Listing
     requires { ⌜ found .len ≤ 14 ⌝ }
     ensures { λ r. ⌜ r ≡ listing (listOf (few found)) false ⌝ }
@@ -101,9 +115,9 @@ fn spread(found: Short) -> Listing
     }
 }
 
-// All moves of the side. A jump is looked for by sets before a list is made; where one is open only captures are listed.
-// A short list is tried first, and the long one where it has no room. Many kings often have more captures than a short
-// list holds: for them the long one is used at once.
+// All legal moves. A test on sets says first whether a jump is open; if so, only captures are listed. The short list
+// of captures is tried first, and the long one where the short one is too small. Many kings often have more captures
+// than the short list holds, so for them the long one is used at once.
 pub(crate) fn generate(v: View) -> Listing
     ensures { λ r. ⌜ r ≡ generateOf v ⌝ }
 {
@@ -128,7 +142,7 @@ pub(crate) fn generate(v: View) -> Listing
     quiets::quiets::quiet_moves(men, kings, empty, side)
 }
 
-// No moves, with this answer beside them.
+// The empty list, with this answer.
 pub fn no_moves(answer: Answer) -> Listed
     ensures { λ r. ⌜ r ≡ noList answer ⌝ }
 {
@@ -145,7 +159,7 @@ fn refused(e: Refusal) -> Listed
     no_moves(Answer::Refused(e))
 }
 
-// The list where it has at most that many moves, else 17.
+// The list if it has at most `limit` moves, else 17.
 fn within(l: Listing, limit: usize) -> Listed
     ensures { λ r. ⌜ r ≡ withinOf l limit ⌝ }
 {
@@ -159,7 +173,7 @@ fn within(l: Listing, limit: usize) -> Listed
     }
 }
 
-// All legal moves, at most `limit`; 12, 10, 17.
+// All legal moves, at most `limit` of them. Refusals: 12, 10, 17.
 pub fn legal_moves(p: Position, limit: usize) -> Listed
     ensures { λ r. ⌜ r ≡ legalMovesOf p limit ⌝ }
 {
@@ -172,7 +186,7 @@ pub fn legal_moves(p: Position, limit: usize) -> Listed
     refused(Refusal::BadPosition)
 }
 
-// Whether the side to move has a capture; 12.
+// Whether the side to move has a capture. Refusal: 12.
 pub fn has_captures(p: Position) -> Tested
     ensures { λ r. ⌜ r ≡ hasCapturesOf p ⌝ }
 {
@@ -184,7 +198,7 @@ pub fn has_captures(p: Position) -> Tested
     Tested::Refused(Refusal::BadPosition)
 }
 
-// Whether the side to move has a move that is no capture, also where a capture is due; 12.
+// Whether the side to move has a quiet move, even where it must capture. Refusal: 12.
 pub fn has_quiet_moves(p: Position) -> Tested
     ensures { λ r. ⌜ r ≡ hasQuietMovesOf p ⌝ }
 {
@@ -195,7 +209,7 @@ pub fn has_quiet_moves(p: Position) -> Tested
     Tested::Refused(Refusal::BadPosition)
 }
 
-// The position after a legal move, with its hash; 12, 11, 17, 15.
+// The position after a legal move, with its hash. Refusals: 12, 11, 17, 15.
 pub fn after(p: Position, m: Move) -> Placed
     ensures { λ r. ⌜ r ≡ afterOf p m ⌝ }
 {

@@ -1,4 +1,15 @@
-// Depth counts, after perft.rs. They carry no hash.
+// Depth counts, also called perft (docs/RULES.md, "Depth counts"), ported from perft.rs.
+//
+// The count of depth n is the number of ways to play n plies. Depth 0 gives 1; otherwise the counts of depth n - 1
+// after each legal move are added up. A move that can be jumped in several ways is counted once. Draws are not looked
+// at: a path ends early only where the side to move has no move, and then it does not count.
+//
+// The counts are a test of the rules of moves: they are published for several boards, and a wrong list of moves on any
+// board of the tree nearly always changes them. `divide` gives the count after each first move, so that an error can
+// be followed down to the board where it arises.
+//
+// A board whose list is needed must have at most 256 moves, else the count is refused 17. The plies work on a `View`,
+// so no hash is computed on the way.
 use crate::movegen;
 use crate::movegen::View;
 use crate::moves::MAX_MOVES;
@@ -22,7 +33,7 @@ ghost use Rattle.movegen.specs.Generate.{seen, listingOf, captureMovesOf
 ghost use Rattle.movegen.specs.LastPly.{limitedCount, listedCount, lastPlyOf};
 ghost use Rattle.movegen.specs.Counts.{depthCount, perftOf, undivided, dividedOf, divideOf};
 
-// The largest depth.
+// The largest depth: 256^7 still fits in 64 bits.
 pub const MAX_DEPTH: u32 = 7;
 
 // A count, or the refusal.
@@ -31,21 +42,22 @@ pub enum Counted {
     Refused(Refusal),
 }
 
-// The moves and the count below each; unused counts are 0. Refused, the list is empty and all counts are 0.
+// The first moves and the count after each; unused counts are 0. Where the call is refused, the list is empty and all
+// counts are 0.
 pub struct Divided {
     pub answer: Answer,
     pub list: MoveList,
     pub counts: [u64; 256],
 }
 
-// A set with one square exchanged for another.
+// The set after its piece on `from` went to `to`. Where both are the same square, the set stays as it is.
 fn moved(set: Bitboard, from: Square, to: Square) -> Bitboard
     ensures { λ r. ⌜ r ≡ bitXor set (bitXor (single from) (single to)) ⌝ }
 {
     set ^ (square::bitboard(from) ^ square::bitboard(to))
 }
 
-// The board after a move, seen by the other side.
+// The board after a move, as the other side sees it.
 fn next(v: View, mv: Move) -> View
     ensures { λ r. ⌜ r ≡ nextOf v mv ⌝ }
 {
@@ -59,7 +71,7 @@ fn next(v: View, mv: Move) -> View
     }
 }
 
-// A number of moves, or 17.
+// A number of moves, or 17 where it is above 256.
 fn limited(moves: u32) -> Counted
     ensures { λ r. ⌜ r ≡ limitedCount moves ⌝ }
 {
@@ -70,7 +82,7 @@ fn limited(moves: u32) -> Counted
     }
 }
 
-// The number of moves that a search found, or 17.
+// The number of moves that a search found, or 17 where it found more than 256.
 fn listed(found: Captures) -> Counted
     ensures { λ r. ⌜ r ≡ listedCount (listingOf found) ⌝ }
 {
@@ -81,7 +93,7 @@ fn listed(found: Captures) -> Counted
     }
 }
 
-// The number of captures: that of a short list, or, where it has no room for them, of the long one.
+// The number of captures, from the short list, or from the long one where the short one is too small.
 fn captures_count(men: Bitboard, kings: Bitboard, them: Bitboard, empty: Bitboard) -> Counted
     ensures { λ r. ⌜ r ≡ listedCount (captureMovesOf men kings them empty) ⌝ }
 {
@@ -92,8 +104,8 @@ fn captures_count(men: Bitboard, kings: Bitboard, them: Bitboard, empty: Bitboar
     listed(movegen::long_captures(men, kings, them, empty))
 }
 
-// The number of moves of the side: at the last ply of a count nothing else is asked. No list is made where no jump is
-// open, and a long one only where a short one has no room.
+// The number of legal moves: the last ply of a count needs no more. Where no jump is open no list is made, and the long
+// list is made only where the short one is too small.
 fn last_ply(v: View) -> Counted
     ensures { λ r. ⌜ r ≡ lastPlyOf v ⌝ }
 {
@@ -108,7 +120,7 @@ fn last_ply(v: View) -> Counted
     }
 }
 
-// How many ways there are to play that many plies.
+// The number of ways to play `depth` plies.
 fn count(v: View, depth: u32) -> Counted
     requires { ⌜ Accepted (seen v) × (depth ≤ 7) ⌝ }
     ensures { λ r. ⌜ r ≡ depthCount depth (seen v) ⌝ }
@@ -142,7 +154,7 @@ fn count(v: View, depth: u32) -> Counted
     Counted::Count(sum)
 }
 
-// The number of move paths of that many plies; 12, 10, 17.
+// The depth count of a position. Refusals: 12, 10, 17.
 pub fn perft(p: Position, depth: u32) -> Counted
     ensures { λ r. ⌜ r ≡ perftOf p depth ⌝ }
 {
@@ -167,7 +179,7 @@ fn refused(e: Refusal) -> Divided
     }
 }
 
-// The count below each move of a board, with so many plies after the move.
+// The count after each first move, with `plies` plies still to play.
 fn split(v: View, plies: u32) -> Divided
     requires { ⌜ Accepted (seen v) × (plies ≤ 6) ⌝ }
     ensures { λ r. ⌜ r ≡ dividedOf plies (seen v) ⌝ }
@@ -199,7 +211,7 @@ fn split(v: View, plies: u32) -> Divided
     }
 }
 
-// The plies after the first; depth 0 is read as 1.
+// The plies after the first one. Depth 0 is read as 1.
 fn below(depth: u32) -> u32
     ensures { λ r. ⌜ r ≡ depth - 1 ⌝ }
 {
@@ -209,7 +221,7 @@ fn below(depth: u32) -> u32
     depth - 1
 }
 
-// `perft` by its first moves; depth 0 is read as 1; 12, 10, 17.
+// The depth count split by first move. Depth 0 is read as 1. Refusals: 12, 10, 17.
 pub fn divide(p: Position, depth: u32) -> Divided
     ensures { λ r. ⌜ r ≡ divideOf p depth ⌝ }
 {

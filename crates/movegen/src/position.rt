@@ -1,5 +1,5 @@
-// The position after a move by formula, after `Position::play` of position.rs. It tests nothing, so it is no public entry:
-// `movegen::after` tests the position and the move first.
+// The position after a move, computed on sets (docs/RULES.md, "Playing a move"), ported from `Position::play` of
+// position.rs. It tests nothing, so it is not public: `movegen::after` tests the position and the move first.
 use crate::playing;
 use positions::moves::Move;
 use positions::position::Position;
@@ -9,8 +9,9 @@ use squares::zobrist;
 ghost use mathlib.Core.Path.{_≡_};
 ghost use Rattle.positions.specs.Successor.{playOf};
 
-// The hash is carried along as the Rust does. Of a move that can be played this is the successor with its own hash
-// (`play-is` in crates/positions/proofs/Plays.antt); of any other it is what the formulas give.
+// The hash is updated, not computed afresh, as in the Rust. For a move that can be played the result is the successor
+// with its own hash (`play-is` in crates/positions/proofs/Plays.antt); for any other move it is what the formulas
+// give.
 pub(crate) fn play(p: Position, mv: Move) -> Position
     ensures { λ r. ⌜ r ≡ playOf p mv ⌝ }
 {
