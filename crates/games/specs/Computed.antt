@@ -1,4 +1,4 @@
--- What a computed row opens.
+-- The definitions that are unfolded where a theorem is proved by computing.
 use Rattle.movegen.specs.Computed as movegen
 use Rattle.games.specs.Book as book
 use Rattle.games.specs.Book.{lastIn, begunBook, timesIn, against, threePieces, twoPieces, firstToHold, testsAt, bookOutcome, numbersSquare, onTheBoard, bookAnswer, takes, manMove, isPromotion, tallied, reached, bookPlayed, bookNext, bookAnswers, bookAfter}

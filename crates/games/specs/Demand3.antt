@@ -1,6 +1,8 @@
--- Demand 3, one claim about a start and a list of move records (document 01, "The book of demand 3"): a game is begun, without
--- refusal, from any accepted position; any list of move records is played on it, refused ones among them, each play getting
--- the game that the one before returned. `Heard` is what a caller hears then; `Demand3` is what holds of it.
+-- The claim about whole games, demand 3 of the requirement (docs/RULES.md, "The book"). A game is begun from any
+-- position that is not refused 12. Any list of moves is played on it, refused ones too. Each play gets the game that
+-- the play before it handed back. `Heard` is what the caller is answered. `Demand3` says: every answer, the last
+-- position and the outcome are those of the book (Book.antt); the hash is right; the pieces on the board add up; and
+-- every accepted move took as many pieces as possible. It is one claim about the whole list, not one for each play.
 use mathlib.Core.Path.{_≡_}
 use Prim.Native.Nat.{ℕ, _+_}
 use mathlib.Core.List.{List, [], _∷_}
@@ -22,9 +24,9 @@ use Rattle.games.specs.declared.game.Judged.{Judged}
 use Rattle.games.specs.declared.game.Judged.the-variants as judged
 use Rattle.games.specs.declared.game.Played.{Played}
 
--- ---- what is heard
+-- ---- what the caller is answered
 
--- the number of each answer, 0 where the play was accepted
+-- the answer to each play: 0 where it was accepted, else the number of the refusal
 unfoldable pub answersTo : (Game → Move → Played) → Game → List Move → List ℕ
 answersTo play g [] = []
 answersTo play g (m ∷ ms) = answerNumberOf (play g m .answer) ∷ answersTo play (play g m .game) ms
@@ -34,25 +36,26 @@ unfoldable pub gameAfter : (Game → Move → Played) → Game → List Move →
 gameAfter play g [] = g
 gameAfter play g (m ∷ ms) = gameAfter play (play g m .game) ms
 
--- the new game, each play's answer, the game after the list, and its outcome
+-- all that is answered: the new game, the answer to each play, the game after the list, and its outcome
 pub record Heard : Type 0 where
   pub begun : Begun
   pub answers : List ℕ
   pub game : Game
   pub outcome : Judged
 
+-- what three functions for new game, play and outcome answer
 unfoldable pub heardOf : (Position → Begun) → (Game → Move → Played) → (Game → Judged) → Position → List Move → Heard
 heardOf new play outcome start moves =
     let after = gameAfter play (new start .game) moves in
     record { begun = new start; answers = answersTo play (new start .game) moves; game = after; outcome = outcome after }
 
--- by the definitions that the contracts of new game, play and outcome cite
+-- what the program answers, by the definitions in the contracts of new game, play and outcome
 abbrev pub heard : Position → List Move → Heard
 heard = heardOf newOf playOf outcomeOf
 
 -- ---- what the book says
 
--- an outcome or none, never a refusal
+-- the book's verdict as the program answers it: an outcome or none, never a refusal
 abbrev pub toldAs : Verdict → Judged
 toldAs goesOn = judged.Going
 toldAs (ends o) = judged.Outcome o
@@ -61,40 +64,40 @@ toldAs (ends o) = judged.Outcome o
 abbrev pub bookOf : Position → List Move → Book
 bookOf start moves = bookAfter (begunBook (boardOf start)) moves
 
--- a claim about the board before each accepted move and that move
+-- the claim holds for every accepted move and the board before it
 unfoldable pub AtAccepted : (Board → Move → Type 0) → Book → List Move → Type 0
 AtAccepted claim b [] = Unit {0}
 AtAccepted claim b (m ∷ ms) = (bookAnswer b m ≡ 0 → claim (standing b) m) × AtAccepted claim (bookNext b m) ms
 
--- no legal jump sequence of its side takes more than the move took
+-- no jump sequence of the side to move takes more pieces than the move took
 abbrev pub TakesMost : Board → Move → Type 0
 TakesMost b m = AtMost b (size (m .captured))
 
--- at a quiet move no jump was open
+-- if the move took nothing, no jump was open
 abbrev pub NoneOpen : Board → Move → Type 0
 NoneOpen b m = m .captured ≡ 0 → NoJump b
 
 -- ---- the claim
 
 pub record Demand3 (start : Position) (moves : List Move) (h : Heard) : Type 0 where
-  -- a game is begun, without refusal, and the start stands
+  -- the new game is not refused, and its position is the start
   pub begins : h .begun .answer ≡ Done
   pub startStands : boardOf (lastOf (h .begun .game)) ≡ boardOf start
-  -- every play's answer, accepted or its refusal's number
+  -- every play is answered as the book answers it: 0 where it is accepted, else the refusal's number
   pub answers : h .answers ≡ bookAnswers (begunBook (boardOf start)) moves
-  -- the position standing, by sets and side
+  -- after the list the position is that of the book: the same pieces on the same squares, and the same side to move
   pub position : boardOf (lastOf (h .game)) ≡ standing (bookOf start moves)
-  -- the outcome, and no refusal
+  -- the outcome is that of the book, and not a refusal
   pub outcome : h .outcome ≡ toldAs (bookOutcome (bookOf start moves))
-  -- the hash is the one computed afresh from the position standing
+  -- the hash in the game is the one computed afresh from its position
   pub hash : lastOf (h .game) .hash ≡ hashOf (boardOf (lastOf (h .game)))
-  -- men standing = men at the start - promotions - men taken, as a sum
+  -- for each colour: men now + promotions + men taken = men at the start
   pub men : (c : Color) → let t = tallyOf c (bookOf start moves) in
       size (menOf c (boardOf (lastOf (h .game)))) + t .promotions + t .menTaken ≡ size (menOf c (boardOf start))
-  -- kings standing = kings at the start + promotions - kings taken, as a sum
+  -- for each colour: kings now + kings taken = kings at the start + promotions
   pub kings : (c : Color) → let t = tallyOf c (bookOf start moves) in
       size (kingsOf c (boardOf (lastOf (h .game)))) + t .kingsTaken ≡ size (kingsOf c (boardOf start)) + t .promotions
-  -- at every accepted move every legal jump sequence of its side takes at most as many pieces as that move took
+  -- at every accepted move, no jump sequence of its side takes more pieces than that move took
   pub most : AtAccepted TakesMost (begunBook (boardOf start)) moves
-  -- and at a quiet one none was open
+  -- and if that move was quiet, no jump was open
   pub noneOpen : AtAccepted NoneOpen (begunBook (boardOf start)) moves

@@ -1,5 +1,5 @@
--- A game by value (document 01, "game.rs", "Turned back because of the state"): the positions since the last capture or man
--- move, the current one last, and two counters. What refusal 13 asks of it, how often its position has stood, how it ends.
+-- A game by value (docs/RULES.md, "Games and outcomes"): the positions since the last capture or man move, the current
+-- one last, and two counters of plies; what refusal 13 tests, how often the position has occurred, and the outcome.
 use Prim.Native.Nat.{ℕ, _+_, min}
 use mathlib.Core.Bool.{Bool, true, false, not, cond, _&&_, _||_}
 use mathlib.Core.List.{List, [], _∷_}
@@ -33,11 +33,11 @@ use Rattle.games.specs.declared.game.Winner.the-variants as winner
 abbrev pub blankPosition : Position
 blankPosition = record { white = 0; black = 0; kings = 0; side = White; hash = 0 }
 
--- the kept positions; entries behind them are not read
+-- the kept positions; the entries after them are not read
 unfoldable pub windowOf : Game → List Position
 windowOf g = take (g .len) (g .kept)
 
--- the current position: behind it lie as many kept ones as the first counter says
+-- the current position, the last one kept: the first counter says how many are kept before it
 unfoldable pub lastOf : Game → Position
 lastOf g = getD (g .kept) (g .reversible) blankPosition
 
@@ -45,8 +45,8 @@ unfoldable pub allSound : List Position → Bool
 allSound [] = true
 allSound (p ∷ l) = sound p && allSound l
 
--- refusal 13 is told of a game that is not: a kept position breaks 12, a counter is above 50 or 32, or the kept positions
--- are not the first counter plus one
+-- a game is refused 13 unless this holds: the first counter is at most 50, the second at most 32, the number of kept
+-- positions is the first counter plus one, and none of them breaks 12
 unfoldable pub valid : Game → Bool
 valid g =
     leb (g .reversible) 50
@@ -54,11 +54,11 @@ valid g =
 
 -- ---- repetitions
 
--- equal by sets and side; a hash says nothing here
+-- equal by sets and side; the hash is not compared
 abbrev pub samePosition : Position → Position → Bool
 samePosition p q = sameBoard (boardOf p) (boardOf q)
 
--- how often the current position stands among those kept, itself included
+-- how often the current position is among those kept, this time included
 unfoldable pub stood : Game → ℕ
 stood g = times samePosition (windowOf g) (lastOf g)
 
@@ -78,7 +78,7 @@ materialAfter b m n = cond (isCapture m || promotes b m) 0 (min 32 (n + 1))
 
 -- ---- the outcome
 
--- what a test says; a refused one says no
+-- the result of a test; a refused test counts as false
 abbrev pub saysOf : Tested → Bool
 saysOf (tested.Is b) = b
 saysOf (tested.Refused e) = false
@@ -87,11 +87,11 @@ saysOf (tested.Refused e) = false
 unfoldable pub canMove : Board → Bool
 canMove b = some (captures b) || some (quiets b)
 
--- the colour has one piece, a king, and the other side has a king
+-- the colour has a single piece, a king, and the other side has a king too
 unfoldable pub loneKing : Color → Board → Bool
 loneKing c b = (eqb (size (colored c b)) 1 && eqb (colored c b) (kingsOf c b)) && not (eqb (kingsOf (other c) b) 0)
 
--- a lone king of that colour against so many pieces, from the least to the most
+-- a lone king of that colour against at least `least` and at most `most` pieces
 unfoldable pub faces : Color → ℕ → ℕ → Board → Bool
 faces c least most b = loneKing c b && (leb least (size (colored (other c) b)) && leb (size (colored (other c) b)) most)
 
@@ -107,14 +107,14 @@ kingEnding b material =
     cond ((faces White 3 3 b || faces Black 3 3 b) && leb 32 material) (drawn SixteenMoves)
     (cond ((faces White 0 2 b || faces Black 0 2 b) && leb 10 material) (drawn FiveMoves) judged.Going)
 
--- the tests in order, by how often the board has stood and the two counters
+-- the tests in order; `times` is how often the board has occurred
 unfoldable pub judge : Board → ℕ → ℕ → ℕ → Judged
 judge b times reversible material =
     cond (canMove b)
     (cond (leb 3 times) (drawn Repetition) (cond (leb 50 reversible) (drawn TwentyFiveMoves) (kingEnding b material)))
     (won (other (b .side)))
 
--- the outcome of a game that 13 lets pass
+-- the outcome of a valid game
 unfoldable pub judgedOf : Game → Judged
 judgedOf g = judge (boardOf (lastOf g)) (stood g) (g .reversible) (g .material)
 

@@ -1,5 +1,5 @@
--- What each entry answers, refused calls too, in the paper's order (document 01, "Turned back because of the state"): new
--- game 12; outcome 13; a game's list 13, 10, 17; playing a move record 13, 11, 14, 17, 15.
+-- What each entry on games answers, refused calls too (docs/RULES.md, "Games and outcomes"). The order of refusals
+-- (docs/RULES.md, "Refusals"): new game 12; outcome 13; a game's list 13, 10, 17; a move record 13, 11, 14, 17, 15.
 use Prim.Native.Nat.{ℕ, _+_, _-_}
 use Prim.Native.Char.{code}
 use mathlib.Core.Bool.{cond}
@@ -37,7 +37,7 @@ use Rattle.games.specs.declared.game.Winner.the-variants as winner
 
 -- ---- a new game
 
--- p alone is kept, and that second counter
+-- p alone is kept, with this second counter
 unfoldable pub aloneOf : Position → ℕ → Game
 aloneOf p material = record { kept = p ∷ replicate 50 blankPosition; len = 1; reversible = 0; material = material }
 
@@ -45,20 +45,20 @@ aloneOf p material = record { kept = p ∷ replicate 50 blankPosition; len = 1; 
 unfoldable pub freshOf : Position → Game
 freshOf p = aloneOf p 0
 
--- refused: the game begun from the empty board with White to move
+-- where refused: the game begun from the empty board with White to move
 abbrev pub notBegun : Refusal → Begun
 notBegun e = record { answer = answer.Refused e; game = freshOf blankPosition }
 
 unfoldable pub newOf : Position → Begun
 newOf p = cond (sound p) (record { answer = answer.Done; game = freshOf p }) (notBegun (refusal 12))
 
--- from the usual start
+-- from the starting position
 unfoldable pub initialGame : Game
 initialGame = freshOf initialOf
 
 -- ---- a play
 
--- q is put behind those kept, and the rest is blank
+-- q is added after those kept, and the rest is blank
 unfoldable pub appendedOf : Game → Position → ℕ → Game
 appendedOf g q material =
     record {
@@ -74,11 +74,11 @@ movedOf g m q =
     let material = materialAfter (boardOf (lastOf g)) m (g .material) in
     cond (irreversible (boardOf (lastOf g)) m) (aloneOf q material) (appendedOf g q material)
 
--- the game as it came
+-- where refused: the game as it was handed in
 abbrev pub refusedPlay : Game → Refusal → Played
 refusedPlay g e = record { answer = answer.Refused e; game = g }
 
--- by what the position after the move is, or 17, then 15
+-- the game with the position after the move, or the refusal that stopped it: 17, then 15
 abbrev pub reachedOf : Game → Move → Placed → Played
 reachedOf g m (placed.Position q) = record { answer = answer.Done; game = movedOf g m q }
 reachedOf g m (placed.Refused e) = refusedPlay g e
@@ -109,7 +109,7 @@ repetitionsOf g = cond (valid g) (counted.Count (stood g)) (counted.Refused (ref
 unfoldable pub reversiblePliesOf : Game → Counted
 reversiblePliesOf g = cond (valid g) (counted.Count (g .reversible)) (counted.Refused (refusal 13))
 
--- no moves once there is an outcome; else the list of the current position, at most that many, or 17
+-- no moves if there is an outcome; else the list of the current position, or 17 if it has more than `limit` moves
 unfoldable pub legalMovesOf : Game → ℕ → Listed
 legalMovesOf g limit =
     cond (valid g)

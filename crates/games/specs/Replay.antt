@@ -1,5 +1,6 @@
--- What `replay` answers: a list of move records, lent as numbers, is played from a start. It is no entry of document 01; its
--- contract is demand 3 of the list as lent.
+-- What `replay` answers: a whole list of moves is played from a start in one call. The moves are lent as numbers,
+-- three for each. The requirement has no such entry (docs/DECISIONS.md). Where it is not refused, the claim of
+-- Demand3.antt holds for the very list that was lent (docs/RULES.md, "The book").
 use mathlib.Core.Path.{_≡_}
 use Prim.Native.Nat.{ℕ, _/_, _%_}
 use mathlib.Core.Bool.{cond}
@@ -17,18 +18,18 @@ use Rattle.games.specs.Demand3.{answersTo, gameAfter, Heard, Demand3}
 use Rattle.games.specs.declared.game.Begun.{Begun}
 use Rattle.games.specs.declared.game.Game.{Game}
 
--- the moves that a list of numbers holds, three to a move: first square, last square, set
+-- the moves in a list of numbers, three for each: first square, last square, set of taken pieces
 unfoldable pub movesIn : List ℕ → List Move
 movesIn [] = []
 movesIn (a ∷ []) = []
 movesIn (a ∷ (b ∷ [])) = []
 movesIn (a ∷ (b ∷ (c ∷ l))) = move a b c ∷ movesIn l
 
--- a number that is no square is handed on as 51, which is none either
+-- a number above 50 becomes 51: neither is a square
 unfoldable pub squareIn : ℕ → ℕ
 squareIn n = cond (leb n 50) n 51
 
--- refused in this order: 12 the start, 11 a length that is no multiple of three, 19 fewer answers than moves
+-- refusals in order: 12 for the start, 11 for a length that is no multiple of three, 19 for fewer answers than moves
 unfoldable pub replayOf : Position → List ℕ → ℕ → Begun
 replayOf start numbers room =
     cond (sound start)
@@ -39,7 +40,8 @@ replayOf start numbers room =
     (notBegun (refusal 11)))
     (notBegun (refusal 12))
 
--- the lent answers afterwards: one for each move, 0 where it was accepted, and the later ones as they were; refused, all
+-- the lent answers afterwards: for each move 0 where it was accepted, else the number of its refusal. Later entries
+-- stay as they were. Where `replay` itself is refused, all entries stay.
 unfoldable pub writtenOf : Position → List ℕ → List ℕ → List ℕ
 writtenOf start numbers out =
     cond (sound start)
@@ -50,17 +52,18 @@ writtenOf start numbers out =
     out)
     out
 
--- what playing them all leaves behind, from any game
+-- all the moves played on any game: the game handed back, and the answers written
 pub record PlayedAll (g : Game) (numbers before after : List ℕ) (r : Game) : Type 0 where
   pub result : r ≡ gameAfter playOf g (movesIn numbers)
   pub written : after ≡ answersTo playOf g (movesIn numbers) ++ drop (length numbers / 3) before
 
--- what is heard through it: the new game of the start, the answers as written, the game handed back, and its outcome
+-- what a caller learns from `replay`: the start's new game, the answers written, the game after the list, its outcome
 abbrev pub heardBy : Position → List Move → List ℕ → Game → Heard
 heardBy start moves out g = record { begun = newOf start; answers = take (length moves) out; game = g; outcome = outcomeOf g }
 
+-- the contract of `replay`
 pub record Replayed (start : Position) (numbers before after : List ℕ) (r : Begun) : Type 0 where
   pub result : r ≡ replayOf start numbers (length before)
   pub written : after ≡ writtenOf start numbers before
-  -- not refused, demand 3 holds of the list as lent
+  -- where it is not refused, the claim of Demand3.antt holds for the list as lent
   pub demand : r .answer ≡ Done → Demand3 start (movesIn numbers) (heardBy start (movesIn numbers) after (r .game))

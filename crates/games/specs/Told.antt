@@ -1,4 +1,4 @@
--- Number, square and value of each answer type of this crate, in document 01's terms.
+-- Number, square and value of each answer type of this crate, in the terms of docs/REFUSALS.md.
 use mathlib.Core.List.{[]}
 use Rattle.squares.specs.Told.{Told, result, turnedBack, beside}
 use Rattle.games.specs.declared.game.Begun.{Begun}
@@ -14,7 +14,7 @@ begunTold b = beside (b .answer) (b .game)
 abbrev pub playedTold : Played → Told Game
 playedTold p = beside (p .answer) (p .game)
 
--- a game that goes on is a result without an outcome
+-- a game that goes on: no refusal, and no outcome
 abbrev pub judgedTold : Judged → Told Outcome
 judgedTold (judged.Outcome o) = result o
 judgedTold judged.Going = record { number = 0; square = 0; value = [] }

@@ -1,4 +1,4 @@
--- Depth counts (docs/RULES.md, "Depth counts"): the number of ways to play n plies. `divide` is the same by first moves:
+-- Depth counts (docs/RULES.md, "Depth counts"): the ways to play n plies, counted. `divide` is the same by first moves:
 -- the list, and the count after each move. Refusals: 12, 10, 17; 17 only where a list that the count needs is too long.
 use Prim.Native.Nat.{ℕ, zero, suc, _+_, _-_}
 use mathlib.Core.Bool.{true, false, cond}

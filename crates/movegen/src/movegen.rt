@@ -5,7 +5,7 @@
 // - A king flies: it goes any distance over empty squares, and it may do so both before and after the enemy it jumps.
 // - One jump takes one enemy and lands on an empty square. The square that the mover left counts as empty.
 // - Taken pieces are lifted when the whole move is done. Until then they are in the way, and cannot be jumped again.
-// - A man is crowned only if its move ends on the promotion row; to pass through the row is not enough.
+// - A man is promoted only if its move ends on the promotion row; to pass through the row is not enough.
 // - Captures with the same first square, last square and set of taken pieces are one move.
 //
 // The list has a fixed order (docs/RULES.md, "Order of the list"). Captures come as the search finds them: men before
