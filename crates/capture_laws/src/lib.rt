@@ -1,1 +1,1 @@
-// The search for captures by formula finds what the rules say: laws in proofs/, no code.
+// Laws, no code: the search for captures on sets (crate `captures`) finds the captures of the rules (proofs/Laws.antt).

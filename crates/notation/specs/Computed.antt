@@ -1,4 +1,4 @@
--- What a computed row opens.
+-- The definitions that are unfolded where a theorem is proved by computing.
 use Rattle.movegen.specs.Computed as movegen
 use Rattle.texts.specs.Computed as texts
 use Rattle.notation.specs.Notation.{atCut, unsaid, heardSquare, heardSquares, wellFormed, heardTrimmed, readMoveOf}

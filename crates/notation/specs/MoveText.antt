@@ -1,5 +1,5 @@
--- The texts of a move (document 01, "notation.rs"): Hub's 32-28, or 28x8x13x23 with the taken squares rising, and the Rust's short
--- text, the first two squares of it.
+-- How a move is written (docs/RULES.md, "Move texts"): as Hub text, 32-28 or 28x8x13x23 with the taken squares in
+-- rising order, and as short text, which stops after the first two squares.
 use Prim.Native.Nat.{ℕ}
 use Prim.Native.Char.{code}
 use mathlib.Core.List.{List, [], _∷_, _++_, map}
@@ -18,18 +18,18 @@ use Rattle.texts.specs.declared.bytes.Wrote.the-variants as wrote
 unfoldable pub separatorOf : Move → ℕ
 separatorOf m = cond (isCapture m) (code "x") (code "-")
 
--- first, last, then the taken squares, rising
+-- first square, last square, then the taken squares in rising order
 unfoldable pub named : Move → List ℕ
 named m = m .from ∷ m .to ∷ map squareAtBit (members (m .captured))
 
 unfoldable pub moveText : Move → List ℕ
 moveText m = joined (separatorOf m) (map digits (named m))
 
--- first and last alone
+-- first and last square alone
 unfoldable pub shortText : Move → List ℕ
 shortText m = joined (separatorOf m) (map digits (m .from ∷ m .to ∷ []))
 
--- the answer: 11, then 19
+-- the answer; refusals: 11, 19
 unfoldable pub toHubOf : Move → List ℕ → Wrote
 toHubOf m out = cond (squaresOf m) (emitOf (moveText m) out) (wrote.Refused (refusal 11))
 
@@ -43,7 +43,7 @@ displayOf m out = cond (squaresOf m) (emitOf (shortText m) out) (wrote.Refused (
 unfoldable pub displayLent : Move → List ℕ → List ℕ
 displayLent m out = cond (squaresOf m) (emitted (shortText m) out) out
 
--- ---- what the code's loop puts on: the squares at these bits, an x before each
+-- ---- what the code's loop adds: the squares at these bits, an x before each
 unfoldable pub takenText : List ℕ → List ℕ
 takenText [] = []
 takenText (i ∷ l) = code "x" ∷ (digits (squareAtBit i) ++ takenText l)

@@ -1,5 +1,5 @@
--- What a move's text says (document 01, "notation.rs"): it is trimmed and split at - and x, with no blanks inside. Text with an x is
--- a capture and has no -; other text has exactly two squares.
+-- What a move text says (docs/RULES.md, "Move texts"). Blanks at its ends are dropped, and it is cut into squares at
+-- each - and x. With an x it is a capture, and a - in it is malformed; without an x it must have two squares.
 use Prim.Native.Nat.{ℕ, _+_}
 use Prim.Native.Char.{code}
 use mathlib.Core.List.{List, [], _∷_}
@@ -15,14 +15,14 @@ use Rattle.notation.specs.declared.notation.Said.{Said}
 use Rattle.notation.specs.declared.notation.Heard.{Heard}
 use Rattle.notation.specs.declared.notation.Heard.the-variants as heard
 
--- what separates squares
+-- a byte that separates squares
 unfoldable pub atCut : ℕ → Bool
 atCut b = is (code "-") b || is (code "x") b
 
 abbrev pub malformed : Heard
 malformed = heard.Refused (refusal 9)
 
--- nothing read yet
+-- no square read yet
 unfoldable pub unsaid : Bool → Said
 unsaid capture = record { capture = capture; first = 0; second = 0; last = 0; count = 0; rest = 0 }
 
@@ -32,25 +32,26 @@ asFirst h n = record { capture = h .capture; first = n; second = h .second; last
 abbrev pub asSecond : Said → ℕ → Said
 asSecond h n = record { capture = h .capture; first = h .first; second = n; last = n; count = 2; rest = h .rest }
 
--- those from the third on are a set
+-- the squares from the third on are collected in a set
 abbrev pub asLater : Said → ℕ → Said
 asLater h n =
     record { capture = h .capture; first = h .first; second = h .second; last = n; count = h .count + 1; rest = bitOr (h .rest) (single n) }
 
--- one square more
+-- what is said with one more square
 unfoldable pub heardSquare : Said → ℕ → Said
 heardSquare h n = cond (eqb (h .count) 0) (asFirst h n) (cond (eqb (h .count) 1) (asSecond h n) (asLater h n))
 
--- goes on with the square, or is refused 9
+-- goes on with the square; what is no square is refused 9
 abbrev pub onSquare : Numbered → (ℕ → Heard) → Heard
 onSquare (numbered.Number n) k = k n
 onSquare (numbered.Refused e) k = malformed
 
+-- the squares of these texts, one after the other
 unfoldable pub heardSquares : Said → List (List ℕ) → Heard
 heardSquares h [] = heard.Said h
 heardSquares h (f ∷ fs) = onSquare (readSquare f) (λ n. heardSquares (heardSquare h n) fs)
 
--- a capture has two squares or more and no -, other text exactly two squares
+-- a capture has at least two squares and no -; any other text has exactly two squares
 unfoldable pub wellFormed : Bool → Said → Bool
 wellFormed dash h = cond (h .capture) (leb 2 (h .count) && not dash) (eqb (h .count) 2)
 
@@ -61,6 +62,6 @@ inForm dash (heard.Refused e) = heard.Refused e
 unfoldable pub heardTrimmed : List ℕ → Heard
 heardTrimmed t = inForm (holds (code "-") t) (heardSquares (unsaid (holds (code "x") t)) (splitOn atCut t))
 
--- 1, then 9
+-- refusals: 1, 9
 unfoldable pub readMoveOf : List ℕ → Heard
 readMoveOf s = cond (readable s) (heardTrimmed (trim blank s)) (heard.Refused (refusal 1))

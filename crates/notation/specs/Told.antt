@@ -1,4 +1,4 @@
--- Number, square and value of each answer type of this crate, in document 01's terms.
+-- Number, square and value of each answer type of this crate, in the terms of docs/REFUSALS.md.
 use Rattle.squares.specs.Told.{Told, result, turnedBack}
 use Rattle.positions.specs.declared.moves.Move.{Move}
 use Rattle.notation.specs.declared.notation.Found.{Found}

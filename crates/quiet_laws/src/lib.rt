@@ -1,1 +1,1 @@
-// What the formulas of the crate `quiets` mean under the rules: laws in proofs/, no code.
+// Laws, no code: the quiet lists and the tests on sets (crate `quiets`) are those of the rules (proofs/Laws.antt).

@@ -1,1 +1,1 @@
-// The rows P1 to P12 of document 01, one table of theorems: proofs/Table.antt. No code.
+// The boards P1 to P12 (docs/RULES.md, "Twelve boards") as one table of theorems, no code (proofs/Table.antt).
