@@ -8,11 +8,12 @@
 // - A man is promoted only if its move ends on the promotion row; to pass through the row is not enough.
 // - Captures with the same first square, last square and set of taken pieces are one move.
 //
-// The list has a fixed order (docs/RULES.md, "Order of the list"). Captures come as the search finds them: men before
-// kings, each kind by rising bit, the directions -6, -5, 5, 6, a king's near landings before its far ones. Each path
-// is followed to its end before the next is tried, and a move that was found before is left out. Quiet moves: the
-// men's steps in one direction by rising bit, then those in the other; then the kings by rising bit, each by
-// direction and distance.
+// The list has a fixed order (docs/RULES.md, "Order of the list"):
+// - Captures: first the men by rising bit, then the kings. For each piece the directions are tried in the order -6,
+//   -5, 5, 6 (up-left, up-right, down-left, down-right), and a king's near landings before its far ones. Each path is
+//   followed to its end before the next is tried. A move that was found before is left out.
+// - Quiet moves: all men's steps in the first forward direction by rising bit, then those in the second. Then the
+//   kings by rising bit, each by direction and distance.
 use crate::moves::MAX_MOVES;
 use crate::moves::MoveList;
 use crate::position;
