@@ -1,5 +1,5 @@
--- What the entries answer, in the paper's numbers and order: new game 12; outcome and the other questions 13; a game's list 13, 10, 17;
--- playing a move record 13, 11, 14, 17, 15.
+-- What the entries answer, in the numbers and order of docs/REFUSALS.md: new game 12; outcome and the other questions
+-- 13; a game's list 13, 10, 17; playing a move record 13, 11, 14, 17, 15.
 use mathlib.Core.Path.{_≡_, refl, ap}
 use mathlib.Core.Bool.{Bool, true, false, not, cond}
 use mathlib.Core.List.{[], _∷_}

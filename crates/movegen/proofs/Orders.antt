@@ -1,5 +1,5 @@
--- What the entries answer, in the paper's numbers and order: lists 12, 10, 17; tests 12; a move record 12, 11, 17, 15; a depth count
--- and a count by first moves 12, 10, then what the count meets.
+-- What the entries answer, in the numbers and order of docs/REFUSALS.md: lists 12, 10, 17; tests 12; a move record
+-- 12, 11, 17, 15; a depth count, whole or by first moves, 12, 10, then what the count meets.
 use mathlib.Core.Path.{_≡_, refl}
 use mathlib.Core.Bool.{not}
 use mathlib.Core.List.{[], _∷_}

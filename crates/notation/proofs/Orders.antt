@@ -1,4 +1,5 @@
--- What the entries answer, in the paper's numbers and order: a move text 1, 9, on a position 12, 1, 9, 17, 15, 16; the writers 11, 19.
+-- What the entries answer, in the numbers and order of docs/REFUSALS.md: a move text 1, 9; on a position 12, 1, 9,
+-- 17, 15, 16; the writers 11, 19.
 use mathlib.Core.Path.{_≡_, refl, sym, ap₂}
 use mathlib.Core.Bool.{Bool, true, false, not, cond}
 use mathlib.Core.List.{List, [], _∷_}

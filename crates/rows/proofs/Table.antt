@@ -1,4 +1,5 @@
--- P1 to P12 of document 01, each from the bytes of its text on: what the definitions answer that the entries' contracts name.
+-- The boards P1 to P12 (docs/RULES.md, "Twelve boards"), each from the bytes of its text on: what the definitions in
+-- the contracts of the entries answer.
 use Prim.Native.Nat.{ℕ, _+_}
 use Prim.Native.String.{String}
 use mathlib.Core.Path.{_≡_, refl}
@@ -49,15 +50,15 @@ pub data Row : Type 0 where
   reads : String → Placed → Row
   -- the refusal's number and square
   refused : String → ℕ → ℕ → Row
-  -- the list of its moves with that limit
+  -- the list of its moves, with this limit
   moves : String → ℕ → Listed → Row
-  -- the number of paths of so many plies
+  -- the depth count at this depth
   paths : String → ℕ → Counted → Row
   -- what a move text means on it
   means : String → String → Found → Row
   -- the position after a move
   after : String → Move → Placed → Row
-  -- the score with the usual weights
+  -- the score with the default weights
   score : String → Scored → Row
   -- the game that it begins, without refusal, has this outcome
   ends : String → Judged → Row
@@ -67,12 +68,13 @@ abbrev told : Placed → ℕ × ℕ
 told (placed.Position p) = (0, 0)
 told (placed.Refused e) = (numberOf e, squareOf e)
 
--- the text reads as a position of which this holds
+-- the text reads as a position, and P holds of it
 abbrev of : Placed → (Position → Type 0) → Type 0
 of (placed.Position p) P = P p
 of (placed.Refused e) P = ⊥
 
--- begun without refusal, and of that outcome: a refused new game is the empty board's, which has an outcome too
+-- the game is begun without refusal and has this outcome. Both are said, since a refused new game has an outcome too:
+-- it is the game of the empty board
 abbrev begins : Begun → Judged → Type 0
 begins b a = (b .answer ≡ answer.Done) × (outcomeOf (b .game) ≡ a)
 
@@ -100,7 +102,7 @@ at b = placed.Position (positionOf b)
 abbrev these : List Move → Listed
 these l = record { answer = answer.Done; list = listOf l }
 
--- a move that takes what stands on these squares
+-- a move that takes the pieces on these squares
 abbrev set : List ℕ → ℕ
 set [] = 0
 set (n ∷ l) = single n + set l

@@ -1,4 +1,5 @@
--- Refusals in the paper's order; a move of the list can be played, and what is played is the successor with its hash.
+-- Refusals in the order of docs/REFUSALS.md. A listed move can be played, and the result is the successor with its
+-- hash.
 use mathlib.Core.Path.{_≡_, refl, sym, ap, _∙_}
 use mathlib.Core.Bool.{true}
 use Rattle.positions.specs.declared.position.Placed.the-variants as placed

@@ -1,4 +1,4 @@
--- Refusals in the paper's order; the generator's list is that of the rules, and the limit is tested on it.
+-- Refusals in the order of docs/REFUSALS.md; the generator's list is that of the rules, and the limit is tested on it.
 use mathlib.Core.Path.{sym, ap, _∙_}
 use Rattle.positions.specs.Boards.{boardOf}
 use Rattle.rules.specs.Ordered.{legal}

@@ -1,4 +1,4 @@
--- Refusals in the paper's order; what is divided is seen from the position's board.
+-- Refusals in the order of docs/REFUSALS.md; what is divided is seen from the position's board.
 use mathlib.Core.Path.{sym, ap₂, _∙_}
 use borrow.Author.Tests.{lt-leb, le-leb}
 use Rattle.movegen.specs.Counts.{dividedOf, divideOf}

@@ -1,4 +1,4 @@
--- Refusals in the paper's order; what is counted is seen from the position's board.
+-- Refusals in the order of docs/REFUSALS.md; what is counted is seen from the position's board.
 use mathlib.Core.Path.{refl, sym, ap, _∙_}
 use borrow.Author.Tests.{lt-leb, le-leb}
 use Rattle.movegen.specs.Counts.{depthCount, perftOf}

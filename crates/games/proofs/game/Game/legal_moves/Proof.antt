@@ -1,4 +1,4 @@
--- Refusals in the paper's order; no moves once there is an outcome.
+-- Refusals in the order of docs/REFUSALS.md; no moves once there is an outcome.
 use mathlib.Core.Path.{sym, _∙_}
 use borrow.Author.Tests.{le-leb, lt-leb}
 use Rattle.games.specs.Play.{legalMovesOf}

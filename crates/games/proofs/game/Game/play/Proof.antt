@@ -1,4 +1,5 @@
--- Refusals in the paper's order; a game that goes on has its first counter below 50, so that one more position fits.
+-- Refusals in the order of docs/REFUSALS.md. A game that goes on has its first counter below 50, so one more position
+-- fits.
 use mathlib.Core.Path.{sym, _∙_}
 use Rattle.positions.specs.Boards.{boardOf}
 use Rattle.games.specs.Games.{lastOf, stood, judgedOf}
