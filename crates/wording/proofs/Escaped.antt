@@ -1,5 +1,5 @@
 -- Escapes, place by place; and what undoing wrote.
-use Prim.Native.Nat.{ℕ, zero, suc, _+_, _-_, _*_, _≤_, _<_}
+use Prim.Native.Nat.{ℕ, zero, suc, _+_, _-_, _*_, _≤_, _<_, min}
 use mathlib.Core.Path.{_≡_, refl, ap, sym, _∙_, subst}
 use mathlib.Core.List.{List, [], _∷_, _++_, append-assoc, append-nil}
 use mathlib.Core.Bool.{Bool, true, false, cond, _&&_, true≢false, false≢true}
@@ -10,12 +10,11 @@ use lib.Dec.{eqb, leb}
 use borrow.Author.Tests.{le-leb, lt-leb, eq-eqb, ne-eqb}
 use Rattle.texts.proofs.Cuts.{drop-next, rest}
 use Rattle.texts.proofs.Pieces.{start}
-use Rattle.texts.specs.Lent.{Holds, Adds}
+use Rattle.texts.specs.Lent.{Holds, Adds, written}
 use Rattle.wording.specs.Numbers.{digitOf}
-use Rattle.wording.specs.Escapes.{Plain, text, broken, highOf, hexEscape, escapeOf, UsedIn, before, onEscape, undo, plain, isPlain, undoneOf, undoneBytes, Undid}
+use Rattle.wording.specs.Escapes.{Plain, text, broken, highOf, hexEscape, escapeOf, UsedIn, before, onEscape, undo, plain, isPlain, textOf, undone, Undid}
 use Rattle.wording.specs.declared.escapes.Escape.{Escape}
 use Rattle.wording.specs.declared.escapes.Escape.the-variants as escape
-use Rattle.wording.specs.declared.escapes.Undone.the-variants as undone
 
 -- ---- \xHH
 pub hex-short : (s : List ℕ) → length s < 2 → hexEscape s ≡ escape.Bad
@@ -173,24 +172,30 @@ undoing-byte {s} {o} {out} {new} {i} {at} {end} j b u a e =
       held = a .held o (u .done) (u .held);
     }
 
--- where an escape is none, nothing was written
-pub undid-none : (s o : List ℕ) → isPlain (plain s) ≡ false → Undid s o o undone.Bad
-undid-none s o q = go (plain s) refl
+-- where an escape is invalid, nothing was written
+undone-none : (s : List ℕ) → isPlain (plain s) ≡ false → undone s ≡ []
+unfolding undone
+undone-none s q = go (plain s) q
   where
-    go : (p : Plain) → plain s ≡ p → Undid s o o undone.Bad
-    go (text t) e = absurd (true≢false (sym (ap isPlain e) ∙ q))
-    go broken e = record { answer = sym (ap (undoneOf (length o)) e); bytes = sym (ap (λ (p : Plain). undoneBytes p o) e) }
+    go : (p : Plain) → isPlain p ≡ false → textOf p ≡ []
+    go (text t) e = absurd (true≢false e)
+    go broken e = refl
+
+pub undid-none : (s o : List ℕ) → isPlain (plain s) ≡ false → Undid s o o 0
+undid-none s o q =
+    let e = undone-none s q in
+    record { answer = start o .place ∙ sym (ap (λ (t : List ℕ). min (length t) (length o)) e); bytes = start o .bytes ∙ sym (ap (λ (t : List ℕ). written t o) e) }
 
 -- that was seen before anything was written
 pub undoing-never : {s o out : List ℕ} {i at : ℕ} → Undoing s o out i at → isPlain (plain s) ≡ true → undo 0 (drop i s) ≡ broken → ⊥
 unfolding behind
 undoing-never u q e = true≢false (sym q ∙ ap isPlain (u .whole ∙ ap (behind (u .done)) e))
 
-pub undoing-end : {s o out : List ℕ} {i at : ℕ} → Undoing s o out i at → undo 0 (drop i s) ≡ text [] → Undid s o out (undone.Length at)
-unfolding behind
+pub undoing-end : {s o out : List ℕ} {i at : ℕ} → Undoing s o out i at → undo 0 (drop i s) ≡ text [] → Undid s o out at
+unfolding behind undone
 undoing-end {s} {o} u e =
     let w : plain s ≡ text (u .done) = u .whole ∙ ap (behind (u .done)) e ∙ ap text (append-nil (u .done)) in
     record {
-      answer = ap undone.Length (u .held .place) ∙ sym (ap (undoneOf (length o)) w);
-      bytes = u .held .bytes ∙ sym (ap (λ (p : Plain). undoneBytes p o) w);
+      answer = u .held .place ∙ sym (ap (λ (p : Plain). min (length (textOf p)) (length o)) w);
+      bytes = u .held .bytes ∙ sym (ap (λ (p : Plain). written (textOf p) o) w);
     }

@@ -1,5 +1,7 @@
 pub mod WordLaws
 pub mod Values
+pub mod Given
+pub mod GivenTexts
 pub mod Escaped
 pub mod Numerals
 pub mod Signs

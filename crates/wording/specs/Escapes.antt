@@ -10,8 +10,6 @@ use Rattle.texts.specs.Lent.{written}
 use Rattle.wording.specs.Numbers.{digitOf}
 use Rattle.wording.specs.declared.escapes.Escape.{Escape}
 use Rattle.wording.specs.declared.escapes.Escape.the-variants as escape
-use Rattle.wording.specs.declared.escapes.Undone.{Undone}
-use Rattle.wording.specs.declared.escapes.Undone.the-variants as undone
 
 -- a word with its escapes undone, or that one of them is none
 pub data Plain : Type 0 where
@@ -69,17 +67,15 @@ abbrev pub isPlain : Plain → Bool
 isPlain (text t) = true
 isPlain broken = false
 
--- the answer for lent bytes of this length
-abbrev pub undoneOf : ℕ → Plain → Undone
-undoneOf room (text t) = undone.Length (min (length t) room)
-undoneOf room broken = undone.Bad
+abbrev pub textOf : Plain → List ℕ
+textOf (text t) = t
+textOf broken = []
 
--- the lent bytes o afterwards: the text over their start, or all as it was
-abbrev pub undoneBytes : Plain → List ℕ → List ℕ
-undoneBytes (text t) o = written t o
-undoneBytes broken o = o
+-- the text of the word s: empty where an escape in it is invalid
+unfoldable pub undone : List ℕ → List ℕ
+undone s = textOf (plain s)
 
--- the text of the word s was written over the lent bytes o, or nothing was
-pub record Undid (s o out : List ℕ) (r : Undone) : Type 0 where
-  pub answer : r ≡ undoneOf (length o) (plain s)
-  pub bytes : out ≡ undoneBytes (plain s) o
+-- as much of the text of the word s as fits was written over the start of the lent bytes o; r is how many bytes that is
+pub record Undid (s o out : List ℕ) (r : ℕ) : Type 0 where
+  pub answer : r ≡ min (length (undone s)) (length o)
+  pub bytes : out ≡ written (undone s) o

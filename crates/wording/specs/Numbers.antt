@@ -2,7 +2,7 @@
 use Prim.Native.Nat.{ℕ, _+_, _-_, _*_, _^_, _≤_}
 use Prim.Native.Char.{code}
 use mathlib.Core.List.{List, [], _∷_}
-use mathlib.Core.Bool.{true, false, cond, _&&_}
+use mathlib.Core.Bool.{Bool, true, false, cond, _&&_}
 use lib.Dec.{eqb, leb, ltb}
 use lib.IntN.{pos, negℤ}
 use Rattle.texts.specs.Bytes.{strip}
@@ -37,6 +37,16 @@ numberIn base limit (b ∷ s) = valueFrom base limit 0 (b ∷ s)
 -- an unsigned number of 32 bits
 unfoldable pub unsignedOf : List ℕ → Parsed
 unsignedOf s = numberIn 10 (2 ^ 32 - 1) (strip (code "+") s)
+
+-- a zero before another byte
+unfoldable pub needless : List ℕ → Bool
+needless [] = false
+needless (b ∷ []) = false
+needless (b ∷ (c ∷ s)) = eqb b (code "0")
+
+-- a number as `decimal` writes it: digits alone, no needless zeros; at most the limit
+unfoldable pub givenOf : ℕ → List ℕ → Parsed
+givenOf limit s = cond (needless s) parsed.Bad (numberIn 10 limit s)
 
 -- without every 0x at the start
 unfoldable pub withoutPrefix : List ℕ → List ℕ

@@ -9,6 +9,8 @@ use Rattle.io.specs.Digits.{digits}
 use Rattle.squares.specs.Refusals.{numberOf, squareOf}
 use Rattle.squares.specs.declared.refusal.Refusal.{Refusal}
 use Rattle.texts.specs.Bytes.{bytes}
+use Rattle.wording.specs.declared.output.Flaw.{Flaw}
+use Rattle.wording.specs.declared.output.Flaw.the-variants as flaw
 
 -- ---- numbers
 
@@ -36,5 +38,18 @@ signed (negsuc n) = code "-" ∷ decimal (suc n)
 unfoldable pub refusalText : Refusal → List ℕ
 refusalText e = bytes "err " ++ (decimal (numberOf e) ++ (code " " ∷ decimal (squareOf e)))
 
-unfoldable pub bad : List ℕ
-bad = bytes "bad request"
+-- `!` and the number of the refusal
+unfoldable pub numberWord : Refusal → List ℕ
+numberWord e = code "!" ∷ decimal (numberOf e)
+
+-- what is wrong with a bad request, in one word
+unfoldable pub flawWord : Flaw → List ℕ
+flawWord flaw.Length = bytes "length"
+flawWord flaw.Escape = bytes "escape"
+flawWord flaw.Name = bytes "name"
+flawWord flaw.Words = bytes "words"
+flawWord flaw.Number = bytes "number"
+flawWord flaw.Side = bytes "side"
+
+unfoldable pub bad : Flaw → List ℕ
+bad f = bytes "bad request: " ++ flawWord f

@@ -11,12 +11,6 @@ pub(crate) enum Escape {
     Bad,
 }
 
-// The length of a text, or that an escape in it is none.
-pub enum Undone {
-    Length(usize),
-    Bad,
-}
-
 // The value of the first of two hexadecimal digits, above 15 where it is none; a sign is read as Rust reads it.
 fn high(b: u8) -> u8
     ensures { λ r. ⌜ r ≡ highOf b ⌝ }
@@ -60,8 +54,8 @@ fn read_escape(s: &[u8]) -> Escape
     }
 }
 
-// Whether every escape of a word is one.
-fn is_plain(s: &[u8]) -> bool
+// Whether every escape in the word is valid.
+pub fn is_plain(s: &[u8]) -> bool
     ensures { λ r. ⌜ r ≡ isPlain (plain (now (s .entry))) ⌝ }
 {
     let mut i = 0;
@@ -82,12 +76,13 @@ fn is_plain(s: &[u8]) -> bool
     true
 }
 
-// The text of a word, in lent bytes; what has no room is left out. Where an escape is none, nothing is written.
-pub fn unescape(s: &[u8], out: &mut [u8]) -> Undone
+// Writes the text of a word into lent bytes, as much of it as fits, and returns how many bytes were written. Where an escape is
+// invalid the text is empty, so nothing is written: callers that must know ask `is_plain`.
+pub fn unescape(s: &[u8], out: &mut [u8]) -> usize
     ensures { λ r. ⌜ Undid (now (s .entry)) (now (out .entry)) (now (out .exit)) r ⌝ }
 {
     if !is_plain(s) {
-        return Undone::Bad;
+        return 0;
     }
     let mut i = 0;
     let mut at = 0;
@@ -101,12 +96,12 @@ pub fn unescape(s: &[u8], out: &mut [u8]) -> Undone
                     i += n;
                 }
                 Escape::Bad => {
-                    return Undone::Bad;
+                    return 0;
                 }
             }
         } else {
             at = output::put_byte(out, at, b);
         }
     }
-    Undone::Length(at)
+    at
 }

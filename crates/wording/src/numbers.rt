@@ -2,7 +2,7 @@
 use texts::bytes;
 ghost use mathlib.Core.Path.{_≡_};
 ghost use Prim.Native.Nat.{_-_, _^_, _≤_, _<_};
-ghost use Rattle.wording.specs.Numbers.{digitOf, AtMost, numberIn, unsignedOf, withoutPrefix, setOf, positiveOf, negativeOf, signedOf};
+ghost use Rattle.wording.specs.Numbers.{digitOf, AtMost, numberIn, unsignedOf, givenOf, withoutPrefix, setOf, positiveOf, negativeOf, signedOf};
 
 pub enum Parsed {
     Value(u64),
@@ -72,6 +72,19 @@ pub fn unsigned(s: &[u8]) -> Parsed
     ensures { λ r. ⌜ (r ≡ unsignedOf (now (s .entry))) × AtMost (2 ^ 32 - 1) r ⌝ }
 {
     number(bytes::strip(s, b'+'), 10, 0xFFFF_FFFF)
+}
+
+// A number as `put_decimal` writes it: digits alone, no needless zeros; at most the limit.
+pub fn given(s: &[u8], limit: u64) -> Parsed
+    ensures { λ r. ⌜ (r ≡ givenOf limit (now (s .entry))) × AtMost limit r ⌝ }
+{
+    if 1 < s.len() {
+        if s[0] == b'0' {
+            return Parsed::Bad;
+        }
+        return number(s, 10, limit);
+    }
+    number(s, 10, limit)
 }
 
 // Without every `0x` at the start.

@@ -2,7 +2,18 @@
 use squares::refusal::Refusal;
 pub use texts::bytes::put_byte;
 ghost use Rattle.texts.specs.Lent.{Adds};
-ghost use Rattle.wording.specs.Output.{decimal, hex, hash, signed, refusalText, bad};
+ghost use Rattle.wording.specs.Output.{decimal, hex, hash, signed, refusalText, numberWord, flawWord, bad};
+
+// What is wrong with a bad request: the line is too long, an escape in it is invalid, its first word is no request, the number of
+// its words is wrong, a number in it cannot be read, its side is neither W nor B.
+pub enum Flaw {
+    Length,
+    Escape,
+    Name,
+    Words,
+    Number,
+    Side,
+}
 
 pub fn put(out: &mut [u8], at: usize, s: &[u8]) -> usize
     ensures { λ r. ⌜ Adds (now (s .entry)) (now (out .entry)) at (now (out .exit)) r ⌝ }
@@ -63,8 +74,31 @@ pub fn put_refusal(out: &mut [u8], at: usize, e: Refusal) -> usize
     put_decimal(out, m, e.square() as u64)
 }
 
-pub fn put_bad(out: &mut [u8], at: usize) -> usize
-    ensures { λ r. ⌜ Adds bad (now (out .entry)) at (now (out .exit)) r ⌝ }
+// `!` and the number of the refusal.
+pub fn put_number(out: &mut [u8], at: usize, e: Refusal) -> usize
+    ensures { λ r. ⌜ Adds (numberWord e) (now (out .entry)) at (now (out .exit)) r ⌝ }
 {
-    put(out, at, b"bad request")
+    let k = put_byte(out, at, b'!');
+    put_decimal(out, k, e.number() as u64)
+}
+
+fn put_flaw(out: &mut [u8], at: usize, flaw: Flaw) -> usize
+    ensures { λ r. ⌜ Adds (flawWord flaw) (now (out .entry)) at (now (out .exit)) r ⌝ }
+{
+    match flaw {
+        Flaw::Length => put(out, at, b"length"),
+        Flaw::Escape => put(out, at, b"escape"),
+        Flaw::Name => put(out, at, b"name"),
+        Flaw::Words => put(out, at, b"words"),
+        Flaw::Number => put(out, at, b"number"),
+        Flaw::Side => put(out, at, b"side"),
+    }
+}
+
+// `bad request: ` and the one word that says what is wrong.
+pub fn put_bad(out: &mut [u8], at: usize, flaw: Flaw) -> usize
+    ensures { λ r. ⌜ Adds (bad flaw) (now (out .entry)) at (now (out .exit)) r ⌝ }
+{
+    let k = put(out, at, b"bad request: ");
+    put_flaw(out, k, flaw)
 }
