@@ -17,7 +17,7 @@ use Rattle.squares.proofs.Numbers.{bit-square, bit-back, single-is}
 use Rattle.positions.specs.Moves.{isCapture, squaresOf}
 use Rattle.positions.specs.declared.moves.Move.{Move}
 use Rattle.positions.proofs.Records.{OnBoard, on-board}
-use Rattle.texts.specs.Bytes.{readable, blank, is, holds, splitOn, joined, digits}
+use Rattle.texts.specs.Bytes.{longestText, readable, blank, is, holds, splitOn, joined, digits}
 use Rattle.texts.proofs.ListLaws.{each, each-map, each-imp, lacks, lacks-joined, lacks-or, holds-lacks, holds-in, trim-lacks, split-joined}
 use Rattle.texts.proofs.Clean.{high, Reader, blanks, dash, cross, above, lacks-of, digits-law, numbers-lack, ascii-lacks}
 use Rattle.texts.proofs.Marks.{marks, always, put-members, each-members}
@@ -182,14 +182,14 @@ module _ (m : Move) (o : OnBoard m) where
       go true = f
       go false = e
 
-pub move-readable : (m : Move) → squaresOf m ≡ true → readable (moveText m) ≡ true
+pub move-readable : (limit : ℕ) (m : Move) → 155 ≤ limit → squaresOf m ≡ true → readable limit (moveText m) ≡ true
 unfolding readable high
-move-readable m e =
-    and-both _ _ (le-leb (length (moveText m)) 4096 (omega (arith, move-short m e))) (ascii-lacks (moveText m) (move-lacks m (on-board m e) above refl refl))
+move-readable limit m h e =
+    and-both _ _ (le-leb (length (moveText m)) limit (omega (arith, h, move-short m e))) (ascii-lacks (moveText m) (move-lacks m (on-board m e) above refl refl))
 
 -- reading what was written
 pub move-says : (m : Move) → squaresOf m ≡ true → readMoveOf (moveText m) ≡ heard.Said (saidOf m)
 unfolding readMoveOf blank
 move-says m e =
     let o = on-board m e in
-    rw (move-readable m e) (ap heardTrimmed (trim-lacks blank (moveText m) (move-lacks m o blanks refl refl)) ∙ trimmed m o)
+    rw (move-readable longestText m (omega arith) e) (ap heardTrimmed (trim-lacks blank (moveText m) (move-lacks m o blanks refl refl)) ∙ trimmed m o)

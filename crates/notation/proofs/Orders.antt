@@ -19,7 +19,7 @@ use Rattle.positions.specs.declared.moves.Move.{Move}
 use Rattle.positions.specs.declared.position.Position.{Position}
 use Rattle.captures.specs.Lists.{blank}
 use Rattle.rules.specs.Ordered.{legal}
-use Rattle.texts.specs.Bytes.{readable, trim}
+use Rattle.texts.specs.Bytes.{longestText, readable, trim}
 use Rattle.texts.specs.Bytes as texts
 use Rattle.texts.specs.Lent.{emitOf}
 use Rattle.texts.specs.Told.{wroteTold}
@@ -32,9 +32,9 @@ use Rattle.notation.specs.declared.notation.Heard.the-variants as heard
 use Rattle.notation.specs.declared.notation.Said.{Said}
 
 -- 1, then 9 or what was read
-pub read-move-told : (s : List ℕ) → heardTold (readMoveOf s) ≡ inOrder (when 1 (not (readable s)) ∷ []) (heardTold (heardTrimmed (trim texts.blank s)))
+pub read-move-told : (s : List ℕ) → heardTold (readMoveOf s) ≡ inOrder (when 1 (not (readable longestText s)) ∷ []) (heardTold (heardTrimmed (trim texts.blank s)))
 unfolding readMoveOf
-read-move-told s = refused-unless heardTold 1 0 (readable s) _ _ _ _ refl (none-left _)
+read-move-told s = refused-unless heardTold 1 0 (readable longestText s) _ _ _ _ refl (none-left _)
 
 -- what was read fits none, several, or one of the moves
 only-told : (l : List Move) → foundTold (only l) ≡ inOrder (when 15 (eqb (length l) 0) ∷ when 16 (ltb 1 (length l)) ∷ []) (result (getD l 0 blank))

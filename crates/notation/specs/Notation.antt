@@ -10,7 +10,7 @@ use Rattle.squares.specs.Squares.{single}
 use Rattle.squares.specs.declared.square.Numbered.{Numbered}
 use Rattle.squares.specs.declared.square.Numbered.the-variants as numbered
 use Rattle.squares.specs.Refusals.{refusal}
-use Rattle.texts.specs.Bytes.{readable, blank, is, holds, trim, splitOn, readSquare}
+use Rattle.texts.specs.Bytes.{longestText, readable, blank, is, holds, trim, splitOn, readSquare}
 use Rattle.notation.specs.declared.notation.Said.{Said}
 use Rattle.notation.specs.declared.notation.Heard.{Heard}
 use Rattle.notation.specs.declared.notation.Heard.the-variants as heard
@@ -64,4 +64,4 @@ heardTrimmed t = inForm (holds (code "-") t) (heardSquares (unsaid (holds (code 
 
 -- refusals: 1, 9
 unfoldable pub readMoveOf : List ℕ → Heard
-readMoveOf s = cond (readable s) (heardTrimmed (trim blank s)) (heard.Refused (refusal 1))
+readMoveOf s = cond (readable longestText s) (heardTrimmed (trim blank s)) (heard.Refused (refusal 1))

@@ -12,7 +12,7 @@ use Rattle.squares.specs.declared.square.Numbered.the-variants as numbered
 use Rattle.squares.proofs.Bools.{imp, imp-elim, and-left, and-right}
 use Rattle.squares.proofs.Below.{below, below-at}
 use Rattle.squares.proofs.Numbers.{square-range}
-use Rattle.texts.specs.Bytes.{ascii, blank, is, upTo, behind, startsWith, digits, readSquare}
+use Rattle.texts.specs.Bytes.{ascii, blank, is, upTo, afterOrAll, startsWith, digits, readSquare}
 use Rattle.texts.specs.Fen.{endOf, itemText}
 use Rattle.texts.specs.Computed.{computed}
 use Rattle.texts.proofs.ListLaws.{each, each-map, each-imp, lacks, lacks-imp, lacks-cons}
@@ -69,14 +69,14 @@ reads-is n (numbered.Refused e) h = absurd (false≢true h)
 
 pub record Digits (n : ℕ) : Type 0 where
   pub up-to : endOf (upTo 45 (digits n)) ≡ numbered.Number n
-  pub behind-it : endOf (behind 45 (digits n)) ≡ numbered.Number n
+  pub after-it : endOf (afterOrAll 45 (digits n)) ≡ numbered.Number n
   pub read : readSquare (digits n) ≡ numbered.Number n
   pub no-king : startsWith 75 (digits n) ≡ false
   pub clean : lacks special (digits n) ≡ true
 
 test : ℕ → Bool
 test n =
-    reads n (endOf (upTo 45 (digits n))) && (reads n (endOf (behind 45 (digits n))) && (reads n (readSquare (digits n))
+    reads n (endOf (upTo 45 (digits n))) && (reads n (endOf (afterOrAll 45 (digits n))) && (reads n (readSquare (digits n))
     && (not (startsWith 75 (digits n)) && lacks special (digits n))))
 
 tested : below 51 (λ (n : ℕ). imp (isSquare n) (test n)) ≡ true
@@ -88,7 +88,7 @@ unfolding test
 digits-law n h =
     let t : test n ≡ true = imp-elim (isSquare n) (test n) (below-at 51 (λ (n : ℕ). imp (isSquare n) (test n)) tested n (omega (arith, square-range n h .1))) h in
     let a = reads n (endOf (upTo 45 (digits n))) in
-    let b = reads n (endOf (behind 45 (digits n))) in
+    let b = reads n (endOf (afterOrAll 45 (digits n))) in
     let c = reads n (readSquare (digits n)) in
     let d = not (startsWith 75 (digits n)) in
     let t1 = and-right a _ t in
@@ -96,7 +96,7 @@ digits-law n h =
     let t3 = and-right c _ t2 in
     record {
       up-to = reads-is n _ (and-left a _ t);
-      behind-it = reads-is n _ (and-left b _ t1);
+      after-it = reads-is n _ (and-left b _ t1);
       read = reads-is n _ (and-left c _ t2);
       no-king = not-true _ (and-left d _ t3);
       clean = and-right d _ t3;

@@ -10,7 +10,7 @@ use lib.ListN.{length, take, drop, getD, length-drop, drop-of-length-le}
 use lib.Seq.{drop-cons, take-suc, take-all, drop-drop, length-take-le}
 use lib.Dec.{leb, ltb, eqb, leb·suc-suc}
 use borrow.Author.Tests.{le-leb, lt-leb, lt-ltb, eq-eqb, ne-eqb, leb-true, leb-false}
-use Rattle.texts.specs.Bytes.{ascii, is, holds, trimStart, keepEnd, trimEnd, consHead, splitOn, upTo, behindOr, behind, afterFirst, startsWith, strip, indexOf, partsFrom}
+use Rattle.texts.specs.Bytes.{ascii, is, holds, trimStart, keepEnd, trimEnd, consHead, splitOn, upTo, afterOr, afterOrAll, afterFirst, startsWith, strip, indexOf, partsFrom}
 
 -- one more element at i + 1
 pub drop-next : (s : List ℕ) (i : ℕ) → i < length s → drop i s ≡ getD s i 0 ∷ drop (i + 1) s
@@ -102,7 +102,7 @@ holds-found c (b ∷ s) = go (eqb b c) (holds-found c s)
     go true e = lt-ltb 0 (suc (length s)) (omega arith)
     go false e = leb·suc-suc (suc (indexOf (is c) s)) (length s) ∙ e
 
--- ---- before and behind
+-- ---- before and after a byte
 pub up-to-is : (c : ℕ) (s : List ℕ) → upTo c s ≡ take (indexOf (is c) s) s
 unfolding upTo indexOf is
 up-to-is c [] = refl
@@ -112,39 +112,39 @@ up-to-is c (b ∷ s) = go (eqb b c) (up-to-is c s)
     go true e = refl
     go false e = ap (λ (x : List ℕ). b ∷ x) e
 
-behind-in : (t : List ℕ) (c : ℕ) (s : List ℕ) → indexOf (is c) s < length s → behindOr t c s ≡ drop (suc (indexOf (is c) s)) s
-unfolding behindOr indexOf is
-behind-in t c [] h = absurd (omega arith)
-behind-in t c (b ∷ s) h = go (eqb b c) (behind-in t c s) h
+after-in : (t : List ℕ) (c : ℕ) (s : List ℕ) → indexOf (is c) s < length s → afterOr t c s ≡ drop (suc (indexOf (is c) s)) s
+unfolding afterOr indexOf is
+after-in t c [] h = absurd (omega arith)
+after-in t c (b ∷ s) h = go (eqb b c) (after-in t c s) h
   where
-    go : (x : Bool) → (indexOf (is c) s < length s → behindOr t c s ≡ drop (suc (indexOf (is c) s)) s) → cond x 0 (suc (indexOf (is c) s)) < suc (length s)
-        → cond x s (behindOr t c s) ≡ drop (suc (cond x 0 (suc (indexOf (is c) s)))) (b ∷ s)
+    go : (x : Bool) → (indexOf (is c) s < length s → afterOr t c s ≡ drop (suc (indexOf (is c) s)) s) → cond x 0 (suc (indexOf (is c) s)) < suc (length s)
+        → cond x s (afterOr t c s) ≡ drop (suc (cond x 0 (suc (indexOf (is c) s)))) (b ∷ s)
     go true e l = refl
     go false e l = e (omega arith)
 
-pub behind-hit : (c : ℕ) (s : List ℕ) → indexOf (is c) s < length s → behind c s ≡ drop (indexOf (is c) s + 1) s
-unfolding behind
-behind-hit c s h = behind-in s c s h ∙ ap (λ (n : ℕ). drop n s) (sym (add-one (indexOf (is c) s)))
+pub after-all-hit : (c : ℕ) (s : List ℕ) → indexOf (is c) s < length s → afterOrAll c s ≡ drop (indexOf (is c) s + 1) s
+unfolding afterOrAll
+after-all-hit c s h = after-in s c s h ∙ ap (λ (n : ℕ). drop n s) (sym (add-one (indexOf (is c) s)))
 
-behind-out : (t : List ℕ) (c : ℕ) (s : List ℕ) → length s ≤ indexOf (is c) s → behindOr t c s ≡ t
-unfolding behindOr indexOf is
-behind-out t c [] h = refl
-behind-out t c (b ∷ s) h = go (eqb b c) (behind-out t c s) h
+after-out : (t : List ℕ) (c : ℕ) (s : List ℕ) → length s ≤ indexOf (is c) s → afterOr t c s ≡ t
+unfolding afterOr indexOf is
+after-out t c [] h = refl
+after-out t c (b ∷ s) h = go (eqb b c) (after-out t c s) h
   where
-    go : (x : Bool) → (length s ≤ indexOf (is c) s → behindOr t c s ≡ t) → suc (length s) ≤ cond x 0 (suc (indexOf (is c) s)) → cond x s (behindOr t c s) ≡ t
+    go : (x : Bool) → (length s ≤ indexOf (is c) s → afterOr t c s ≡ t) → suc (length s) ≤ cond x 0 (suc (indexOf (is c) s)) → cond x s (afterOr t c s) ≡ t
     go true e l = absurd (omega arith)
     go false e l = e (omega arith)
 
-pub behind-none : (c : ℕ) (s : List ℕ) → length s ≤ indexOf (is c) s → behind c s ≡ s
-unfolding behind
-behind-none c s h = behind-out s c s h
+pub after-all-none : (c : ℕ) (s : List ℕ) → length s ≤ indexOf (is c) s → afterOrAll c s ≡ s
+unfolding afterOrAll
+after-all-none c s h = after-out s c s h
 
 pub after-is : (c : ℕ) (s : List ℕ) → afterFirst c s ≡ drop (indexOf (is c) s + 1) s
-unfolding afterFirst behindOr indexOf is
+unfolding afterFirst afterOr indexOf is
 after-is c [] = refl
 after-is c (b ∷ s) = go (eqb b c) (after-is c s)
   where
-    go : (t : Bool) → behindOr [] c s ≡ drop (indexOf (is c) s + 1) s → cond t s (behindOr [] c s) ≡ drop (cond t 0 (suc (indexOf (is c) s)) + 1) (b ∷ s)
+    go : (t : Bool) → afterOr [] c s ≡ drop (indexOf (is c) s + 1) s → cond t s (afterOr [] c s) ≡ drop (cond t 0 (suc (indexOf (is c) s)) + 1) (b ∷ s)
     go true e = refl
     go false e =
         let q : suc (indexOf (is c) s + 1) ≡ suc (indexOf (is c) s) + 1 = omega arith in
@@ -156,7 +156,7 @@ after-hit c s n e = ap (λ (k : ℕ). drop (k + 1) s) e ∙ sym (after-is c s)
 
 pub after-none : (c : ℕ) (s : List ℕ) (n : ℕ) → n ≡ indexOf (is c) s → length s ≤ n → drop n s ≡ afterFirst c s
 unfolding afterFirst
-after-none c s n e h = drop-of-length-le s {i = n} h ∙ sym (behind-out [] c s (omega (arith, e)))
+after-none c s n e h = drop-of-length-le s {i = n} h ∙ sym (after-out [] c s (omega (arith, e)))
 
 -- ---- the first byte
 pub first-at : (c : ℕ) (s : List ℕ) → (length s ≡ 0 → ⊥) → eqb (indexOf (is c) s) 0 ≡ startsWith c s

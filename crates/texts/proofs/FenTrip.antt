@@ -17,7 +17,7 @@ use Rattle.squares.proofs.Bools.{and-left, and-right, and-both}
 use Rattle.squares.proofs.Numbers.{bit-square, bit-back}
 use Rattle.positions.specs.Boards.{Board}
 use Rattle.positions.specs.Acceptance.{Accepted}
-use Rattle.texts.specs.Bytes.{blank, is, trimStart, keepEnd, trimEnd, trim, splitOn, joined, upTo, behind, startsWith, strip, number, readSquare, digits}
+use Rattle.texts.specs.Bytes.{blank, is, trimStart, keepEnd, trimEnd, trim, splitOn, joined, upTo, afterOrAll, startsWith, strip, number, readSquare, digits}
 use Rattle.texts.specs.Parts.{added, withSquares, begun}
 use Rattle.texts.specs.Fen.{itemText, listText, fenText, fenColorOf, endOf, rangeOf, itemOf, readEach, itemsOf, fieldOf, fieldsOf, sideOf, fenFields, body, fenParts}
 use Rattle.texts.specs.declared.parts.Parts.{Parts}
@@ -36,7 +36,7 @@ unfolding startsWith strip
 no-strip c [] h = refl
 no-strip c (b ∷ s) h = rw h
 
-item-some : (c : Color) (p : Parts) (s : List ℕ) (n : ℕ) → startsWith 75 s ≡ false → endOf (upTo 45 s) ≡ numbered.Number n → endOf (behind 45 s) ≡ numbered.Number n
+item-some : (c : Color) (p : Parts) (s : List ℕ) (n : ℕ) → startsWith 75 s ≡ false → endOf (upTo 45 s) ≡ numbered.Number n → endOf (afterOrAll 45 s) ≡ numbered.Number n
     → itemOf c p s ≡ reading.Parts (withSquares c false (run n (n + 1 - n)) p)
 unfolding itemOf rangeOf endOf upTo trim trimStart trimEnd readSquare strip number
 item-some c p [] n h e q = let z : numbered.Refused BadSquare ≡ numbered.Number n = e in let y : _≡_ {A = ℕ} 0 1 = cc in absurd (omega arith)
@@ -44,7 +44,7 @@ item-some c p (x ∷ s) n h e q = rw (h, no-strip 75 (x ∷ s) h, e, q)
 
 item-king : (c : Color) (p : Parts) (n : ℕ) → Digits n → itemOf c p (75 ∷ digits n) ≡ reading.Parts (withSquares c true (run n (n + 1 - n)) p)
 unfolding itemOf startsWith strip rangeOf
-item-king c p n d = rw (d .up-to, d .behind-it)
+item-king c p n d = rw (d .up-to, d .after-it)
 
 item-law : (c : Color) (p : Parts) (kings n : ℕ) → Digits n
     → itemOf c p (itemText kings n) ≡ reading.Parts (withSquares c (containsOf kings n) (run n (n + 1 - n)) p)
@@ -53,7 +53,7 @@ item-law c p kings n d = go (containsOf kings n)
   where
     go : (t : Bool) → itemOf c p (cond t (75 ∷ digits n) (digits n)) ≡ reading.Parts (withSquares c t (run n (n + 1 - n)) p)
     go true = item-king c p n d
-    go false = item-some c p (digits n) n (d .no-king) (d .up-to) (d .behind-it)
+    go false = item-some c p (digits n) n (d .no-king) (d .up-to) (d .after-it)
 
 -- one square alone
 one-square : (n : ℕ) → run n (n + 1 - n) ≡ 2 ^ bitOf n

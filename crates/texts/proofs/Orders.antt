@@ -11,7 +11,7 @@ use Rattle.squares.proofs.Orders.{refused-unless, none-left}
 use Rattle.positions.specs.Acceptance.{sound}
 use Rattle.positions.specs.Boards.{boardOf}
 use Rattle.positions.specs.declared.position.Position.{Position}
-use Rattle.texts.specs.Bytes.{readable, readSquare, fromStrOf}
+use Rattle.texts.specs.Bytes.{longestText, readable, readSquare, fromStrOf}
 use Rattle.texts.specs.Fen.{fenText, fenOf}
 use Rattle.texts.specs.Hub.{hubText, hubOf}
 use Rattle.texts.specs.Lent.{emitOf}
@@ -37,6 +37,6 @@ hub-told p out =
     (refused-unless wroteTold 19 0 (leb (length (hubText (boardOf p))) (length out)) _ _ _ _ refl (none-left _))
 
 -- 1, then 4 or the square
-pub from-str-told : (s : List ℕ) → numberedTold (fromStrOf s) ≡ inOrder (when 1 (not (readable s)) ∷ []) (numberedTold (readSquare s))
+pub from-str-told : (s : List ℕ) → numberedTold (fromStrOf s) ≡ inOrder (when 1 (not (readable longestText s)) ∷ []) (numberedTold (readSquare s))
 unfolding fromStrOf
-from-str-told s = refused-unless numberedTold 1 0 (readable s) _ _ _ _ refl (none-left _)
+from-str-told s = refused-unless numberedTold 1 0 (readable longestText s) _ _ _ _ refl (none-left _)

@@ -20,7 +20,7 @@ use Rattle.positions.specs.Acceptance.{acceptedSets, accepted, Accepted, Sound,
 use Rattle.positions.specs.declared.position.Position.{Position}
 use Rattle.positions.specs.declared.position.Placed.the-variants as placed
 use Rattle.positions.proofs.Accepts.{from-parts-sound, says-accepted, says-sound, sound-position, say-squares}
-use Rattle.texts.specs.Bytes.{readable}
+use Rattle.texts.specs.Bytes.{longestText, readable}
 use Rattle.texts.specs.Parts.{placing}
 use Rattle.texts.specs.Lent.{emitOf, emitted}
 use Rattle.texts.specs.Fen.{fenText, fenOf, fenLent, fenParts, fromFenOf}
@@ -44,11 +44,11 @@ read-sound false r p e = absurd (let z : _≡_ {A = ℕ} 0 1 = cc in omega arith
 
 pub from-fen-sound : (s : List ℕ) (p : Position) → fromFenOf s ≡ placed.Position p → Sound p
 unfolding fromFenOf
-from-fen-sound s p e = read-sound (readable s) (fenParts s) p e
+from-fen-sound s p e = read-sound (readable longestText s) (fenParts s) p e
 
 pub from-hub-sound : (s : List ℕ) (p : Position) → fromHubOf s ≡ placed.Position p → Sound p
 unfolding fromHubOf
-from-hub-sound s p e = read-sound (readable s) (hubParts s) p e
+from-hub-sound s p e = read-sound (readable longestText s) (hubParts s) p e
 
 -- ---- the parts of a sound position are accepted as it
 kings-kept : (b : Board) → Accepted b → bitAnd (b .kings) (bitOr (b .white) (b .black)) ≡ b .kings
@@ -81,27 +81,27 @@ parts-back b a =
     (place-back b a)
 
 -- ---- the texts are readable
-fen-readable : (b : Board) → Accepted b → readable (fenText b) ≡ true
+pub fen-readable : (limit : ℕ) (b : Board) → 196 ≤ limit → Accepted b → readable limit (fenText b) ≡ true
 unfolding readable high
-fen-readable b a =
-    and-both _ _ (le-leb (length (fenText b)) 4096 (omega (arith, fen-short b a))) (ascii-lacks (fenText b) (text-lacks b a above refl refl refl refl))
+fen-readable limit b h a =
+    and-both _ _ (le-leb (length (fenText b)) limit (omega (arith, h, fen-short b a))) (ascii-lacks (fenText b) (text-lacks b a above refl refl refl refl))
 
-hub-readable : (b : Board) → readable (hubText b) ≡ true
+pub hub-readable : (limit : ℕ) (b : Board) → 51 ≤ limit → readable limit (hubText b) ≡ true
 unfolding readable
-hub-readable b = and-both _ _ (le-leb (length (hubText b)) 4096 (omega (arith, hub-length b))) (hub-ascii b)
+hub-readable limit b h = and-both _ _ (le-leb (length (hubText b)) limit (omega (arith, h, hub-length b))) (hub-ascii b)
 
 -- ---- reading back
 pub fen-reads : (p : Position) → Sound p → fromFenOf (fenText (boardOf p)) ≡ placed.Position p
 unfolding fromFenOf
 fen-reads p s =
     let b = boardOf p in
-    rw (fen-readable b (s .accepted)) (ap placing (fen-back b (s .accepted)) ∙ parts-back b (s .accepted) ∙ ap placed.Position (sym (sound-position p s)))
+    rw (fen-readable longestText b (omega arith) (s .accepted)) (ap placing (fen-back b (s .accepted)) ∙ parts-back b (s .accepted) ∙ ap placed.Position (sym (sound-position p s)))
 
 pub hub-reads : (p : Position) → Sound p → fromHubOf (hubText (boardOf p)) ≡ placed.Position p
 unfolding fromHubOf
 hub-reads p s =
     let b = boardOf p in
-    rw (hub-readable b) (ap placing (hub-back b (s .accepted)) ∙ parts-back b (s .accepted) ∙ ap placed.Position (sym (sound-position p s)))
+    rw (hub-readable longestText b (omega arith)) (ap placing (hub-back b (s .accepted)) ∙ parts-back b (s .accepted) ∙ ap placed.Position (sym (sound-position p s)))
 
 -- ---- through lent space: n is the length that the writer told
 pub lent-front : (t out : List ℕ) (n : ℕ) → emitOf t out ≡ wrote.Length n → take n (emitted t out) ≡ t

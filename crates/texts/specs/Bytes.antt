@@ -20,9 +20,13 @@ unfoldable pub ascii : List ℕ → Bool
 ascii [] = true
 ascii (b ∷ s) = leb b 127 && ascii s
 
--- what refusal 1 asks: at most 4,096 bytes, none above 127
-unfoldable pub readable : List ℕ → Bool
-readable s = leb (length s) 4096 && ascii s
+-- how many bytes a FEN, Hub, square or move text may have
+abbrev pub longestText : ℕ
+longestText = 4096
+
+-- at most so many bytes, none above 127: every reader refuses other texts with 1
+unfoldable pub readable : ℕ → List ℕ → Bool
+readable limit s = leb (length s) limit && ascii s
 
 -- bytes 9 to 13 and 32
 unfoldable pub blank : ℕ → Bool
@@ -79,17 +83,17 @@ upTo c [] = []
 upTo c (b ∷ s) = cond (eqb b c) [] (b ∷ upTo c s)
 
 -- what stands behind the first c of s, t where there is none
-unfoldable pub behindOr : List ℕ → ℕ → List ℕ → List ℕ
-behindOr t c [] = t
-behindOr t c (b ∷ s) = cond (eqb b c) s (behindOr t c s)
+unfoldable pub afterOr : List ℕ → ℕ → List ℕ → List ℕ
+afterOr t c [] = t
+afterOr t c (b ∷ s) = cond (eqb b c) s (afterOr t c s)
 
 -- the same, the whole where there is none
-unfoldable pub behind : ℕ → List ℕ → List ℕ
-behind c s = behindOr s c s
+unfoldable pub afterOrAll : ℕ → List ℕ → List ℕ
+afterOrAll c s = afterOr s c s
 
 -- the same, nothing where there is none
 unfoldable pub afterFirst : ℕ → List ℕ → List ℕ
-afterFirst c s = behindOr [] c s
+afterFirst c s = afterOr [] c s
 
 unfoldable pub startsWith : ℕ → List ℕ → Bool
 startsWith c [] = false
@@ -121,7 +125,7 @@ readSquare s = number (strip (code "+") s)
 
 -- the same as an entry: 1, then 4
 unfoldable pub fromStrOf : List ℕ → Numbered
-fromStrOf s = cond (readable s) (readSquare s) (numbered.Refused (refusal 1))
+fromStrOf s = cond (readable longestText s) (readSquare s) (numbered.Refused (refusal 1))
 
 -- a number below 100 in decimal
 unfoldable pub digits : ℕ → List ℕ

@@ -21,7 +21,7 @@ use Rattle.positions.specs.Acceptance.{sound}
 use Rattle.positions.specs.declared.position.Position.{Position}
 use Rattle.positions.specs.declared.position.Placed.{Placed}
 use Rattle.positions.specs.declared.position.Placed.the-variants as placed
-use Rattle.texts.specs.Bytes.{readable, blank, is, trimStart, trimEnd, trim, splitOn, joined, upTo, behind, startsWith, strip, readSquare, digits}
+use Rattle.texts.specs.Bytes.{longestText, readable, blank, is, trimStart, trimEnd, trim, splitOn, joined, upTo, afterOrAll, startsWith, strip, readSquare, digits}
 use Rattle.texts.specs.Parts.{withSquares, begun, andThen, placing}
 use Rattle.texts.specs.Lent.{emitOf, emitted}
 use Rattle.texts.specs.declared.parts.Parts.{Parts}
@@ -102,7 +102,7 @@ endsOf c king p (numbered.Refused e) q = reading.Refused e
 
 -- an item without its first K: a range cut at the first -, or one square
 unfoldable pub rangeOf : Color → Bool → Parts → List ℕ → Reading
-rangeOf c king p s = endsOf c king p (endOf (upTo (code "-") s)) (endOf (behind (code "-") s))
+rangeOf c king p s = endsOf c king p (endOf (upTo (code "-") s)) (endOf (afterOrAll (code "-") s))
 
 -- a trimmed item, skipped where it is empty; one leading K makes it a king
 unfoldable pub itemOf : Color → Parts → List ℕ → Reading
@@ -144,4 +144,4 @@ fenParts s = fenFields (splitOn atColon (body s))
 
 -- 1, then 2 to 4 in reading order, 7, 8
 unfoldable pub fromFenOf : List ℕ → Placed
-fromFenOf s = cond (readable s) (placing (fenParts s)) (placed.Refused (refusal 1))
+fromFenOf s = cond (readable longestText s) (placing (fenParts s)) (placed.Refused (refusal 1))

@@ -19,7 +19,7 @@ use Rattle.positions.specs.declared.position.Standing.{Standing}
 use Rattle.positions.specs.declared.position.Standing.the-variants as standing
 use Rattle.positions.specs.declared.position.Placed.{Placed}
 use Rattle.positions.specs.declared.position.Placed.the-variants as placed
-use Rattle.texts.specs.Bytes.{readable}
+use Rattle.texts.specs.Bytes.{longestText, readable}
 use Rattle.texts.specs.Parts.{withSquares, begun, andThen, placing}
 use Rattle.texts.specs.Lent.{emitOf, emitted}
 use Rattle.texts.specs.Fen.{onColor}
@@ -86,4 +86,4 @@ hubParts (x ∷ s) = onColor (refusal 2) (colorFromCharOf x) (λ c. hubFrom 50 1
 
 -- 1, 2, 5 (among the first 50 squares), 6, 7, 8
 unfoldable pub fromHubOf : List ℕ → Placed
-fromHubOf s = cond (readable s) (placing (hubParts s)) (placed.Refused (refusal 1))
+fromHubOf s = cond (readable longestText s) (placing (hubParts s)) (placed.Refused (refusal 1))

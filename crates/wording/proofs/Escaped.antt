@@ -140,26 +140,26 @@ pub plain-next : (s : List ℕ) (i j b : ℕ) → isPlain (plain s) ≡ isPlain 
 plain-next s i j b w e = w ∙ ap isPlain e ∙ before-plain b (undo 0 (drop j s))
 
 -- bytes before what is left
-unfoldable pub behind : List ℕ → Plain → Plain
-behind d (text t) = text (d ++ t)
-behind d broken = broken
+unfoldable pub prepended : List ℕ → Plain → Plain
+prepended d (text t) = text (d ++ t)
+prepended d broken = broken
 
-behind-byte : (d : List ℕ) (b : ℕ) (p : Plain) → behind d (before b p) ≡ behind (d ++ (b ∷ [])) p
-unfolding behind
-behind-byte d b (text t) = ap text (sym (append-assoc d (b ∷ []) t))
-behind-byte d b broken = refl
+prepended-byte : (d : List ℕ) (b : ℕ) (p : Plain) → prepended d (before b p) ≡ prepended (d ++ (b ∷ [])) p
+unfolding prepended
+prepended-byte d b (text t) = ap text (sym (append-assoc d (b ∷ []) t))
+prepended-byte d b broken = refl
 
 -- the bytes before the place i of the word were undone: what they stand for was written
 pub record Undoing (s o out : List ℕ) (i at : ℕ) : Type 0 where
   pub done : List ℕ
-  pub whole : plain s ≡ behind done (undo 0 (drop i s))
+  pub whole : plain s ≡ prepended done (undo 0 (drop i s))
   pub held : Holds o done out at
 
 pub undoing-start : (s o : List ℕ) → Undoing s o o 0 0
-unfolding plain behind
+unfolding plain prepended
 undoing-start s o = record { done = []; whole = go (undo 0 s); held = start o }
   where
-    go : (p : Plain) → p ≡ behind [] p
+    go : (p : Plain) → p ≡ prepended [] p
     go (text t) = refl
     go broken = refl
 
@@ -168,7 +168,7 @@ pub undoing-byte : {s o out new : List ℕ} {i at end : ℕ} (j b : ℕ) → Und
 undoing-byte {s} {o} {out} {new} {i} {at} {end} j b u a e =
     record {
       done = u .done ++ (b ∷ []);
-      whole = u .whole ∙ ap (behind (u .done)) e ∙ behind-byte (u .done) b (undo 0 (drop j s));
+      whole = u .whole ∙ ap (prepended (u .done)) e ∙ prepended-byte (u .done) b (undo 0 (drop j s));
       held = a .held o (u .done) (u .held);
     }
 
@@ -188,13 +188,13 @@ undid-none s o q =
 
 -- that was seen before anything was written
 pub undoing-never : {s o out : List ℕ} {i at : ℕ} → Undoing s o out i at → isPlain (plain s) ≡ true → undo 0 (drop i s) ≡ broken → ⊥
-unfolding behind
-undoing-never u q e = true≢false (sym q ∙ ap isPlain (u .whole ∙ ap (behind (u .done)) e))
+unfolding prepended
+undoing-never u q e = true≢false (sym q ∙ ap isPlain (u .whole ∙ ap (prepended (u .done)) e))
 
 pub undoing-end : {s o out : List ℕ} {i at : ℕ} → Undoing s o out i at → undo 0 (drop i s) ≡ text [] → Undid s o out at
-unfolding behind undone
+unfolding prepended undone
 undoing-end {s} {o} u e =
-    let w : plain s ≡ text (u .done) = u .whole ∙ ap (behind (u .done)) e ∙ ap text (append-nil (u .done)) in
+    let w : plain s ≡ text (u .done) = u .whole ∙ ap (prepended (u .done)) e ∙ ap text (append-nil (u .done)) in
     record {
       answer = u .held .place ∙ sym (ap (λ (p : Plain). min (length (textOf p)) (length o)) w);
       bytes = u .held .bytes ∙ sym (ap (λ (p : Plain). written (textOf p) o) w);

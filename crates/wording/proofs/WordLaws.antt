@@ -7,7 +7,7 @@ use native.Mathlib.Omega.{arith}
 use lib.ListN.{length, take, drop, getD, drop-of-length-le}
 use lib.Seq.{drop-drop}
 use borrow.Author.Tests.{eq-eqb, ne-eqb}
-use Rattle.texts.specs.Bytes.{is, behindOr, afterFirst, indexOf}
+use Rattle.texts.specs.Bytes.{is, afterOr, afterFirst, indexOf}
 use Rattle.texts.proofs.Cuts.{drop-next, rest, after-hit, after-none}
 use Rattle.wording.specs.Words.{sameText, firstWord, afterWord, wordAt, blanksIn}
 
@@ -37,7 +37,7 @@ same-end a b i h k = rw (drop-of-length-le a h, drop-of-length-le b k)
 
 -- ---- words
 none-after : afterWord [] ≡ []
-unfolding afterWord afterFirst behindOr
+unfolding afterWord afterFirst afterOr
 none-after = refl
 
 first-none : firstWord [] ≡ []

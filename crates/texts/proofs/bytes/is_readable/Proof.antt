@@ -11,11 +11,11 @@ is-ascii-requires c κs = search needs
 
 returns : tie.Need-returns
 unfolding readable
-returns c = c .is-ascii .ensures ∙ simp (le-leb _ 4096 (c .before .if1 .taken))
+returns c = c .is-ascii .ensures ∙ simp (le-leb _ _ (c .before .if1 .taken))
 
 returns-2 : tie.Need-returns-2
 unfolding readable
-returns-2 c = simp (lt-leb _ 4096 (c .if1 .left))
+returns-2 c = simp (lt-leb _ _ (c .if1 .left))
 
 pub is-readable-spec : {M : Type 1} → statement M
 is-readable-spec = tie.close (tie.spec is-ascii-requires returns returns-2)

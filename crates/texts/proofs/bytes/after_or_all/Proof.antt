@@ -6,8 +6,8 @@ use denote.Ref.{now}
 use Rattle.texts.proofs.Cuts as laws
 use borrow.Author.Needs.{needs}
 use native.Mathlib.Omega.{arith}
-use Rattle.texts.proofs.bytes.behind.Statement.{statement}
-use Rattle.texts.proofs.bytes.behind.Tie as tie
+use Rattle.texts.proofs.bytes.after_or_all.Statement.{statement}
+use Rattle.texts.proofs.bytes.after_or_all.Tie as tie
 
 find-requires : tie.Need-find-requires
 find-requires c κs = search needs
@@ -28,16 +28,16 @@ returns : tie.Need-returns
 returns c =
     let s = now (c .before .before .before .before .args .s) in
     let f = c .before .before .find in
-    laws.rest s (f .result + 1) ∙ ap (λ (n : ℕ). drop (n + 1) s) (f .ensures .0) ∙ sym (laws.behind-hit (c .before .before .before .before .args .c) s (omega (arith, f .ensures .0, c .before .if1 .taken)))
+    laws.rest s (f .result + 1) ∙ ap (λ (n : ℕ). drop (n + 1) s) (f .ensures .0) ∙ sym (laws.after-all-hit (c .before .before .before .before .args .c) s (omega (arith, f .ensures .0, c .before .if1 .taken)))
 
 returns-2 : tie.Need-returns-2
 returns-2 c =
     let s = now (c .before .before .before .args .s) in
     let f = c .before .find in
-    sym (laws.behind-none (c .before .before .before .args .c) s (omega (arith, f .ensures .0, c .if1 .left)))
+    sym (laws.after-all-none (c .before .before .before .args .c) s (omega (arith, f .ensures .0, c .if1 .left)))
 
-pub behind-spec : {M : Type 1} → statement M
-behind-spec =
+pub after-or-all-spec : {M : Type 1} → statement M
+after-or-all-spec =
     tie.close
     (tie.spec
     find-requires
