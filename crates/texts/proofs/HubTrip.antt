@@ -37,7 +37,7 @@ hub-length b = refl
 pub hub-starts : (b : Board) {o new : List ℕ} {n : ℕ} → length o ≡ 51 → Adds (hubText b) o 0 new n → Starts (hubText b) new n
 hub-starts b e a = starts (omega (arith, hub-length b, e)) a
 
--- who stands on bit i, by the letter
+-- whose piece is on bit i, by the letter
 isWhite : Board → ℕ → Bool
 isWhite b i = has (b .white) i
 

@@ -1,5 +1,6 @@
--- What the writers answer, in the paper's numbers and order: FEN 12, 18, 19; Hub 12, 19. A square's text alone: 1, 4. The orders of the
--- readers, FEN 1, then 2 to 4 in reading order, 7, 8, and Hub 1, 2, 5, 6, 7, 8, are those of reading itself (specs/Fen.antt, specs/Hub.antt).
+-- The refusals of the writers, in the numbers and the order of docs/REFUSALS.md: FEN 12, 18, 19; Hub 12, 19; and those of a square's
+-- text: 1, 4. The orders of the readers, FEN 1, then 2 to 4 in reading order, 7, 8, and Hub 1, 2, 5, 6, 7, 8, are those of reading
+-- itself (specs/Fen.antt, specs/Hub.antt).
 use mathlib.Core.Path.{_≡_, refl}
 use mathlib.Core.Bool.{not}
 use mathlib.Core.List.{List, [], _∷_}

@@ -1,4 +1,4 @@
--- Pieces of an answer: one byte more, one piece behind another, whatever room there is.
+-- Pieces of an answer: one byte more, one piece after another, whatever room there is.
 use Prim.Native.Nat.{ℕ, suc, _+_, _≤_, _<_, min}
 use mathlib.Core.Path.{_≡_, refl, ap, sym, _∙_, subst}
 use mathlib.Core.List.{List, [], _∷_, _++_, append-assoc, append-nil}
@@ -58,7 +58,7 @@ start o = record { bytes = sym (ap (λ (y : List ℕ). y ++ o) (take-nil (length
 pub whole : {s o new : List ℕ} {end : ℕ} → Adds s o 0 new end → (end ≡ min (length s) (length o)) × (new ≡ written s o)
 whole {s} {o} a = let h = a .held o [] (start o) in (h .place, h .bytes)
 
--- what stands before the place: the text, as far as there is room
+-- what is before the place: the text, as far as there is room
 pub part-of : {o t out : List ℕ} {at : ℕ} → Holds o t out at → take at out ≡ take (length o) t
 unfolding written
 part-of {o} {t} {out} {at} h =

@@ -103,7 +103,7 @@ hub-reads p s =
     let b = boardOf p in
     rw (hub-readable longestText b (omega arith)) (ap placing (hub-back b (s .accepted)) ∙ parts-back b (s .accepted) ∙ ap placed.Position (sym (sound-position p s)))
 
--- ---- through lent space: n is the length that the writer told
+-- ---- through lent space: n is the length that the writer reported
 pub lent-front : (t out : List ℕ) (n : ℕ) → emitOf t out ≡ wrote.Length n → take n (emitted t out) ≡ t
 unfolding emitOf emitted
 lent-front t out n = go (leb (length t) (length out))

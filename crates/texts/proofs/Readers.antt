@@ -92,7 +92,7 @@ unfolding fieldOf
 field-none p [] e = refl
 field-none p (b ∷ s) e = absurd (omega arith)
 
--- u is what stands behind the colour
+-- u is what comes after the colour
 pub field-some : (p : Parts) (s u : List ℕ) (a : Sided) → (length s ≡ 0 → ⊥) → u ≡ drop 1 s → a ≡ fenColorOf (getD s 0 0)
     → fieldOf p s ≡ onColor NoColor a (λ c. itemsOf c p (splitOn (is 44) u))
 unfolding fieldOf
@@ -109,7 +109,7 @@ unfolding itemOf
 item-king c p [] u k h d e = absurd (h refl)
 item-king c p (b ∷ s) u k h d e = rw (e, d)
 
--- r is where the first K stands
+-- r is the index of the first K
 pub item-some : (c : Color) (p : Parts) (s u : List ℕ) (r : ℕ) → (length s ≡ 0 → ⊥) → u ≡ strip 75 s → r ≡ indexOf (is 75) s → itemOf c p s ≡ rangeOf c (eqb r 0) p u
 item-some c p s u r h d e = item-king c p s u (eqb r 0) h d (ap (λ (n : ℕ). eqb n 0) e ∙ first-at 75 s h)
 
@@ -125,7 +125,7 @@ side-other [] e = refl
 side-other (b ∷ []) e = absurd (e refl)
 side-other (b ∷ (x ∷ s)) e = refl
 
--- the first field, and those behind it
+-- the first field, and those after it
 pub fen-open : (s t f : List ℕ) (n : ℕ) (a : Sided) → t ≡ body s → n ≡ indexOf (is 58) t → f ≡ trim blank (take n t) → a ≡ sideOf f
     → fenParts s ≡ onColor NoSide a (λ c. fieldsOf (begun c) (partsFrom (is 58) t (n + 1)))
 unfolding fenParts fenFields

@@ -49,7 +49,7 @@ digits-short n = go (ltb n 10)
     go true = omega arith
     go false = omega arith
 
--- each number has at most two digits, and a separator behind it but for the last
+-- each number has at most two digits, and a separator after it but for the last
 pub joined-short : (c n : ℕ) (l : List ℕ) → suc (length (joined c (map digits (n ∷ l)))) ≤ 3 * length (n ∷ l)
 unfolding joined
 joined-short c n [] = omega (arith, digits-short n)
@@ -110,7 +110,7 @@ pub remaining-end : (kings : ℕ) (first : Bool) (s : ℕ) → s ≡ 0 → remai
 unfolding remaining
 remaining-end kings first s e = ap (λ (x : ℕ). remaining kings first (members x)) e ∙ ap (remaining kings first) members-none
 
--- where `left` goes behind what was written so far, the whole text has gone behind what stood at first
+-- where `left` is written after what was written so far, the whole text comes after what was there at first
 pub record Leaves (whole first : List ℕ) (from : ℕ) (left out : List ℕ) (at : ℕ) : Type 0 where
   pub rest : (new : List ℕ) (end : ℕ) → Adds left out at new end → Adds whole first from new end
 

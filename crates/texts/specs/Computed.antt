@@ -1,4 +1,4 @@
--- What a computed row opens.
+-- The definitions that are unfolded where a row is proved by computing it.
 use Rattle.positions.specs.Computed as positions
 use Rattle.texts.specs.Bytes.{ascii, readable, blank, is, holds, trimStart, keepEnd, trimEnd, trim, consHead, splitOn, partsAt, joined, upTo, afterOr, afterOrAll, afterFirst, startsWith, strip, inRange, digitsFrom, number, readSquare, fromStrOf, digits}
 use Rattle.texts.specs.Parts.{added, withSquares, begun}

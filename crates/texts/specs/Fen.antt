@@ -1,4 +1,4 @@
--- FEN (document 01, "position.rs"): the text of a board, and the position of a text.
+-- FEN (docs/RULES.md, "FEN"): the text of a board, and the position of a text.
 use Prim.Native.Nat.{ℕ, _+_, _-_}
 use Prim.Native.Char.{code}
 use mathlib.Core.List.{List, [], _∷_, map}
@@ -32,15 +32,15 @@ use Rattle.texts.specs.declared.bytes.Wrote.the-variants as wrote
 
 -- ---- writing
 
--- a square's number, K before a king
+-- a square's number, with a K before it for a king
 unfoldable pub itemText : ℕ → ℕ → List ℕ
 itemText kings n = cond (containsOf kings n) (code "K" ∷ digits n) (digits n)
 
--- the squares of s, rising
+-- the squares of s in rising order
 unfoldable pub listText : ℕ → ℕ → List ℕ
 listText kings s = joined (code ",") (map (itemText kings) (map squareAtBit (members s)))
 
--- the side, White's list, Black's list, empty ones too
+-- the side, White's list, Black's list; an empty list is written too
 unfoldable pub fenText : Board → List ℕ
 fenText b =
     joined (code ":")
@@ -53,10 +53,11 @@ fenText b =
 unfoldable pub separator : Bool → List ℕ
 separator first = cond first [] (code "," ∷ [])
 
+-- one colour's list, with its letter and the colon before it
 unfoldable pub fieldText : ℕ → ℕ → ℕ → List ℕ
 fieldText letter kings s = code ":" ∷ letter ∷ listText kings s
 
--- the answer: 12, then 18 above 200 bytes, then 19
+-- the answer; refusals: 12, then 18 above 200 bytes, then 19
 unfoldable pub fenOf : Position → List ℕ → Wrote
 fenOf p out =
     let t = fenText (boardOf p) in
@@ -72,44 +73,44 @@ fenLent p out =
 
 -- ---- reading
 
--- what separates items, and fields
+-- items are separated by commas, fields by colons
 abbrev pub atComma : ℕ → Bool
 atComma = is (code ",")
 
 abbrev pub atColon : ℕ → Bool
 atColon = is (code ":")
 
--- W, w, B or b
+-- the colour of a letter: W, w, B or b
 unfoldable pub fenColorOf : ℕ → Sided
 fenColorOf c =
     cond (eqb c (code "W") || eqb c (code "w")) (sided.Side White)
     (cond (eqb c (code "B") || eqb c (code "b")) (sided.Side Black) (sided.Refused (refusal 2)))
 
--- goes on with the colour, or is refused e
+-- k goes on with the colour; where there is none, the refusal is e
 abbrev pub onColor : Refusal → Sided → (Color → Reading) → Reading
 onColor e (sided.Side c) k = k c
 onColor e (sided.Refused f) k = reading.Refused e
 
--- an end of a range, or the whole of an item without one: trimmed, without leading Ks
+-- one end of a range, or an item that is no range: it is trimmed, and leading Ks are dropped
 unfoldable pub endOf : List ℕ → Numbered
 endOf s = readSquare (trimStart (is (code "K")) (trim blank s))
 
--- the squares lo to hi, none where lo is above hi
+-- the squares from lo to hi are added; none where lo is above hi
 abbrev pub endsOf : Color → Bool → Parts → Numbered → Numbered → Reading
 endsOf c king p (numbered.Number lo) (numbered.Number hi) = reading.Parts (withSquares c king (run lo (hi + 1 - lo)) p)
 endsOf c king p (numbered.Number lo) (numbered.Refused e) = reading.Refused e
 endsOf c king p (numbered.Refused e) q = reading.Refused e
 
--- an item without its first K: a range cut at the first -, or one square
+-- an item whose leading K was taken off: a range, cut at its first -, or one square
 unfoldable pub rangeOf : Color → Bool → Parts → List ℕ → Reading
 rangeOf c king p s = endsOf c king p (endOf (upTo (code "-") s)) (endOf (afterOrAll (code "-") s))
 
--- a trimmed item, skipped where it is empty; one leading K makes it a king
+-- a trimmed item; an empty one is skipped, and a leading K makes kings
 unfoldable pub itemOf : Color → Parts → List ℕ → Reading
 itemOf c p [] = reading.Parts p
 itemOf c p (x ∷ s) = rangeOf c (startsWith (code "K") (x ∷ s)) p (strip (code "K") (x ∷ s))
 
--- what `read` answers of each part, trimmed, one after the other: the first refusal, or all that was read
+-- each part is trimmed and given to `read`, in order: the first refusal, or all that was read
 unfoldable pub readEach : (Parts → List ℕ → Reading) → Parts → List (List ℕ) → Reading
 readEach read p [] = reading.Parts p
 readEach read p (f ∷ fs) = andThen (read p (trim blank f)) (λ q. readEach read q fs)
@@ -117,7 +118,7 @@ readEach read p (f ∷ fs) = andThen (read p (trim blank f)) (λ q. readEach rea
 abbrev pub itemsOf : Color → Parts → List (List ℕ) → Reading
 itemsOf c = readEach (itemOf c)
 
--- a trimmed field: its colour, then items split at commas
+-- a trimmed field: its colour, then its items, split at commas
 unfoldable pub fieldOf : Parts → List ℕ → Reading
 fieldOf p [] = reading.Refused (refusal 3)
 fieldOf p (x ∷ s) = onColor (refusal 3) (fenColorOf x) (λ c. itemsOf c p (splitOn atComma s))
@@ -125,23 +126,24 @@ fieldOf p (x ∷ s) = onColor (refusal 3) (fenColorOf x) (λ c. itemsOf c p (spl
 abbrev pub fieldsOf : Parts → List (List ℕ) → Reading
 fieldsOf = readEach fieldOf
 
--- a trimmed first field: the side alone
+-- the side to move: the trimmed first field is one letter
 unfoldable pub sideOf : List ℕ → Sided
 sideOf [] = sided.Refused (refusal 2)
 sideOf (x ∷ []) = fenColorOf x
 sideOf (x ∷ (y ∷ s)) = sided.Refused (refusal 2)
 
+-- the side, then the fields after it
 unfoldable pub fenFields : List (List ℕ) → Reading
 fenFields [] = reading.Refused (refusal 2)
 fenFields (f ∷ fs) = onColor (refusal 2) (sideOf (trim blank f)) (λ c. fieldsOf (begun c) fs)
 
--- blanks are trimmed at both ends, then every quote at both ends, then every dot at the end
+-- the text without blanks at both ends, then without quotes at both ends, then without dots at the end
 unfoldable pub body : List ℕ → List ℕ
 body s = trimEnd (is (code ".")) (trim (is (code "\"")) (trim blank s))
 
 unfoldable pub fenParts : List ℕ → Reading
 fenParts s = fenFields (splitOn atColon (body s))
 
--- 1, then 2 to 4 in reading order, 7, 8
+-- the position of a text; refusals: 1, then 2 to 4 in reading order, then 7, 8
 unfoldable pub fromFenOf : List ℕ → Placed
 fromFenOf s = cond (readable longestText s) (placing (fenParts s)) (placed.Refused (refusal 1))

@@ -1,4 +1,5 @@
--- Hub (document 01, "position.rs"): W or B, then 50 of w b W B e (capital = king, e = empty).
+-- Hub (docs/RULES.md, "Hub"): the side, W or B, then a letter for each of the 50 squares: w and b for men, W and B for
+-- kings, e for an empty square.
 use Prim.Native.Nat.{ℕ, zero, suc, _+_}
 use Prim.Native.Char.{code}
 use mathlib.Core.List.{List, [], _∷_, map}
@@ -31,11 +32,12 @@ use Rattle.texts.specs.declared.bytes.Wrote.the-variants as wrote
 
 -- ---- writing
 
--- the squares n, n + 1, .., k of them
+-- k squares from n on: n, n + 1, ..
 unfoldable pub squaresFrom : ℕ → ℕ → List ℕ
 squaresFrom zero n = []
 squaresFrom (suc k) n = n ∷ squaresFrom k (n + 1)
 
+-- the letter of what is on a square
 abbrev pub standingChar : Standing → ℕ
 standingChar (standing.Piece p) = pieceChar p
 standingChar standing.Nothing = code "e"
@@ -45,13 +47,14 @@ standingChar (standing.Refused e) = code "e"
 abbrev pub letterOf : Bool → Bool → Bool → ℕ
 letterOf white black king = standingChar (cond white (standingOf White king) (cond black (standingOf Black king) standing.Nothing))
 
+-- the letter of square n
 unfoldable pub hubChar : Board → ℕ → ℕ
 hubChar b n = standingChar (pieceAtOf b n)
 
 unfoldable pub hubText : Board → List ℕ
 hubText b = colorChar (b .side) ∷ map (hubChar b) (squaresFrom 50 1)
 
--- the answer: 12, then 19
+-- the answer; refusals: 12, 19
 unfoldable pub hubOf : Position → List ℕ → Wrote
 hubOf p out = cond (sound p) (emitOf (hubText (boardOf p)) out) (wrote.Refused (refusal 12))
 
@@ -64,26 +67,27 @@ abbrev pub isKing : PieceKind → Bool
 isKing Man = false
 isKing King = true
 
--- the piece on square n; 5 where the byte is none
+-- the piece is added on square n; the refusal is 5 where the byte is no piece
 abbrev pub knownOn : ℕ → Parts → Known → Reading
 knownOn n p (known.Piece q) = reading.Parts (withSquares (q .color) (isKing (q .kind)) (single n) p)
 knownOn n p (known.Refused e) = reading.Refused e
 
--- the byte x for square n
+-- the byte x is read for square n
 unfoldable pub hubByteOf : ℕ → ℕ → Parts → Reading
 hubByteOf n x p = cond (eqb x (code "e")) (reading.Parts p) (knownOn n p (pieceFromCharOf x))
 
--- k squares from n on, and nothing after them
+-- k squares from n on are read, and nothing comes after them
 unfoldable pub hubFrom : ℕ → ℕ → Parts → List ℕ → Reading
 hubFrom zero n p [] = reading.Parts p
 hubFrom zero n p (x ∷ s) = reading.Refused (refusal 6)
 hubFrom (suc k) n p [] = reading.Refused (refusal 6)
 hubFrom (suc k) n p (x ∷ s) = andThen (hubByteOf n x p) (λ q. hubFrom k (n + 1) q s)
 
+-- the side, then the 50 squares
 unfoldable pub hubParts : List ℕ → Reading
 hubParts [] = reading.Refused (refusal 2)
 hubParts (x ∷ s) = onColor (refusal 2) (colorFromCharOf x) (λ c. hubFrom 50 1 (begun c) s)
 
--- 1, 2, 5 (among the first 50 squares), 6, 7, 8
+-- the position of a text; refusals: 1, 2, then 5 for a byte among the first 50 squares, 6, 7, 8
 unfoldable pub fromHubOf : List ℕ → Placed
 fromHubOf s = cond (readable longestText s) (placing (hubParts s)) (placed.Refused (refusal 1))

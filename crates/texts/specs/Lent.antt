@@ -1,4 +1,5 @@
--- Writing into lent space (document 01: bytes after a written text stay; refused, every byte stays).
+-- Writing into lent space (docs/RULES.md, "Limits and lent space"): the bytes after a written text stay as they were;
+-- where the text is refused, all of them do.
 use Prim.Native.Nat.{ℕ, _<_, min}
 use mathlib.Core.Path.{_≡_}
 use mathlib.Core.List.{List, _++_}
@@ -9,7 +10,7 @@ use Rattle.squares.specs.Refusals.{refusal}
 use Rattle.texts.specs.declared.bytes.Wrote.{Wrote}
 use Rattle.texts.specs.declared.bytes.Wrote.the-variants as wrote
 
--- the answer for the text t and the lent bytes out: the length, or 19
+-- the answer for the text t and the lent bytes out: the length, or the refusal 19
 unfoldable pub emitOf : List ℕ → List ℕ → Wrote
 emitOf t out = cond (leb (length t) (length out)) (wrote.Length (length t)) (wrote.Refused (refusal 19))
 
@@ -19,17 +20,17 @@ emitted t out = cond (leb (length t) (length out)) (t ++ drop (length t) out) ou
 
 -- ---- piece by piece into lent bytes
 
--- the lent bytes o with the text t over their start; what has no room is left out, bytes behind the text stay
+-- the lent bytes o with the text t over their start: what has no room is left out, and the bytes after the text stay
 unfoldable pub written : List ℕ → List ℕ → List ℕ
 written t o = take (length o) t ++ drop (length t) o
 
--- so far the text t was written over the lent bytes o, up to the place
+-- so far the text t was written over the lent bytes o; `at` is the place after it
 pub record Holds (o t out : List ℕ) (at : ℕ) : Type 0 where
   pub bytes : out ≡ written t o
   pub place : at ≡ min (length t) (length o)
 
--- the piece s went behind whatever had been written
+-- the piece s was written after whatever had been written before
 pub record Adds (s out : List ℕ) (at : ℕ) (new : List ℕ) (end : ℕ) : Type 0 where
   pub held : (o t : List ℕ) → Holds o t out at → Holds o (t ++ s) new end
-  -- from a place behind the lent bytes nothing is written
+  -- at a place past the lent bytes nothing is written
   pub beyond : length out < at → (new ≡ out) × (end ≡ at)

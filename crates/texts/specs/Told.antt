@@ -1,4 +1,4 @@
--- Number, square and value of what a writer answers, in document 01's terms.
+-- A writer's answer as number, square and value, in the terms of docs/REFUSALS.md.
 use Prim.Native.Nat.{ℕ}
 use Rattle.squares.specs.Told.{Told, result, turnedBack}
 use Rattle.texts.specs.declared.bytes.Wrote.{Wrote}

@@ -1,4 +1,4 @@
--- Escapes of a word: \\ \s \t \n \r \xHH stand for a backslash, space, tab, line feed, carriage return and any byte.
+-- Escapes: \\ \s \t \n \r stand for a backslash, space, tab, line feed and carriage return, \xHH for any byte.
 use mathlib.Core.Path.{_≡_}
 use Prim.Native.Nat.{ℕ, zero, suc, _+_, _*_, _≤_, min}
 use Prim.Native.Char.{code}
@@ -11,22 +11,22 @@ use Rattle.wording.specs.Numbers.{digitOf}
 use Rattle.wording.specs.declared.escapes.Escape.{Escape}
 use Rattle.wording.specs.declared.escapes.Escape.the-variants as escape
 
--- a word with its escapes undone, or that one of them is none
+-- the text that a word stands for, or `broken` where one of its escapes is invalid
 pub data Plain : Type 0 where
   text : List ℕ → Plain
   broken : Plain
 
--- the first of two hexadecimal digits may be a sign, as Rust reads it
+-- the value of the first of two hexadecimal digits; Rust reads a + there as a sign
 unfoldable pub highOf : ℕ → ℕ
 highOf b = cond (eqb b (code "+")) 0 (digitOf b)
 
--- the byte of the digits after \x, and how many bytes there are after the backslash
+-- the byte of the two digits after \x; such an escape has 3 bytes after its backslash
 unfoldable pub hexEscape : List ℕ → Escape
 hexEscape [] = escape.Bad
 hexEscape (a ∷ []) = escape.Bad
 hexEscape (a ∷ (b ∷ s)) = cond (leb (highOf a) 15 && leb (digitOf b) 15) (escape.Byte (highOf a * 16 + digitOf b) 3) escape.Bad
 
--- the escape after a backslash: s is what follows it
+-- an escape: s is what comes after its backslash
 unfoldable pub escapeOf : List ℕ → Escape
 escapeOf [] = escape.Bad
 escapeOf (c ∷ s) =
@@ -37,21 +37,22 @@ escapeOf (c ∷ s) =
     (cond (eqb c (code "r")) (escape.Byte 13 1)
     (cond (eqb c (code "x")) (hexEscape s) escape.Bad)))))
 
--- an escape lies within the bytes after the backslash
+-- an escape has at most k bytes after its backslash
 abbrev pub UsedIn : Escape → ℕ → Type 0
 UsedIn (escape.Byte b n) k = n ≤ k
 UsedIn escape.Bad k = Unit
 
--- a byte before what is left
+-- a byte before the text of the rest
 abbrev pub before : ℕ → Plain → Plain
 before b (text t) = text (b ∷ t)
 before b broken = broken
 
+-- k goes on with the byte and the length of a valid escape
 abbrev pub onEscape : Escape → (ℕ → ℕ → Plain) → Plain
 onEscape (escape.Byte b n) k = k b n
 onEscape escape.Bad k = broken
 
--- the text of a word of which k bytes more belong to an escape
+-- the text that a word stands for, after its first k bytes, which belong to an escape
 unfoldable pub undo : ℕ → List ℕ → Plain
 undo k [] = text []
 undo (suc k) (b ∷ s) = undo k s
@@ -59,10 +60,11 @@ undo zero (b ∷ s) =
     elim (eqb b (code "\\"))
     [ true ↦ onEscape (escapeOf s) (λ x n. before x (undo n s)) | false ↦ before b (undo 0 s) ]
 
+-- the text that a word stands for
 unfoldable pub plain : List ℕ → Plain
 plain s = undo 0 s
 
--- whether every escape of the word is one
+-- whether every escape in the word is valid
 abbrev pub isPlain : Plain → Bool
 isPlain (text t) = true
 isPlain broken = false
@@ -71,11 +73,11 @@ abbrev pub textOf : Plain → List ℕ
 textOf (text t) = t
 textOf broken = []
 
--- the text of the word s: empty where an escape in it is invalid
+-- the text that the word s stands for; the empty text where an escape in it is invalid
 unfoldable pub undone : List ℕ → List ℕ
 undone s = textOf (plain s)
 
--- as much of the text of the word s as fits was written over the start of the lent bytes o; r is how many bytes that is
+-- as much of the text of s as fits was written over the start of the lent bytes o, and r is how many bytes that is
 pub record Undid (s o out : List ℕ) (r : ℕ) : Type 0 where
   pub answer : r ≡ min (length (undone s)) (length o)
   pub bytes : out ≡ written (undone s) o

@@ -14,7 +14,7 @@ use Rattle.wording.specs.declared.output.Flaw.the-variants as flaw
 
 -- ---- numbers
 
--- how many digits n has in base b, up to f and one
+-- how many digits n has in base b, at most f + 1
 unfoldable pub places : ℕ → ℕ → ℕ → ℕ
 places b zero n = 1
 places b (suc f) n = elim (ltb n b) [ true ↦ 1 | false ↦ suc (places b f (n / b)) ]
@@ -34,11 +34,13 @@ unfoldable pub signed : ℤ → List ℕ
 signed (pos n) = decimal n
 signed (negsuc n) = code "-" ∷ decimal (suc n)
 
--- ---- answers that say no
+-- ---- refusals and bad requests
+
+-- err, the number of the refusal, its square
 unfoldable pub refusalText : Refusal → List ℕ
 refusalText e = bytes "err " ++ (decimal (numberOf e) ++ (code " " ∷ decimal (squareOf e)))
 
--- `!` and the number of the refusal
+-- ! and the number of the refusal
 unfoldable pub numberWord : Refusal → List ℕ
 numberWord e = code "!" ∷ decimal (numberOf e)
 
@@ -51,5 +53,6 @@ flawWord flaw.Words = bytes "words"
 flawWord flaw.Number = bytes "number"
 flawWord flaw.Side = bytes "side"
 
+-- the answer to a bad request
 unfoldable pub bad : Flaw → List ℕ
 bad f = bytes "bad request: " ++ flawWord f

@@ -1,24 +1,30 @@
-// Escapes: `\\ \s \t \n \r \xHH` stand for a backslash, space, tab, line feed, carriage return and any byte.
+// Escapes let a word contain bytes that would end it, or the line. A backslash begins one:
+//
+//     \\  a backslash       \s  a space       \t  a tab       \n  a line feed       \r  a carriage return
+//     \xHH  the byte of two hexadecimal digits
+//
+// A backslash that begins none of these is an invalid escape.
 use crate::numbers;
 use crate::output;
 ghost use mathlib.Core.Path.{_≡_};
 ghost use lib.ListN.{length};
 ghost use Rattle.wording.specs.Escapes.{highOf, hexEscape, escapeOf, UsedIn, plain, isPlain, Undid};
 
-// What an escape stands for, and how many bytes it has after the backslash.
+// The byte that an escape stands for, and how many bytes the escape has after its backslash; or that it is invalid.
 pub(crate) enum Escape {
     Byte(u8, usize),
     Bad,
 }
 
-// The value of the first of two hexadecimal digits, above 15 where it is none; a sign is read as Rust reads it.
+// The value of the first of two hexadecimal digits, above 15 where it is no digit. Rust reads a `+` there as a sign, so
+// `\x+A` is the byte 10.
 fn high(b: u8) -> u8
     ensures { λ r. ⌜ r ≡ highOf b ⌝ }
 {
     if b == b'+' { 0 } else { numbers::digit(b) }
 }
 
-// The byte of the two digits after `\x`.
+// Reads the two digits after `\x`.
 fn hex_escape(s: &[u8]) -> Escape
     ensures { λ r. ⌜ r ≡ hexEscape (now (s .entry)) ⌝ }
 {
@@ -36,7 +42,7 @@ fn hex_escape(s: &[u8]) -> Escape
     Escape::Byte(a * 16 + b, 3)
 }
 
-// The escape after a backslash.
+// Reads an escape: s is what comes after its backslash.
 fn read_escape(s: &[u8]) -> Escape
     ensures { λ r. ⌜ (r ≡ escapeOf (now (s .entry))) × UsedIn r (length (now (s .entry))) ⌝ }
 {
@@ -76,8 +82,8 @@ pub fn is_plain(s: &[u8]) -> bool
     true
 }
 
-// Writes the text of a word into lent bytes, as much of it as fits, and returns how many bytes were written. Where an escape is
-// invalid the text is empty, so nothing is written: callers that must know ask `is_plain`.
+// Writes the text of a word into lent bytes, as much of it as fits, and returns how many bytes were written. Where an
+// escape is invalid nothing is written: a caller that must know asks `is_plain`.
 pub fn unescape(s: &[u8], out: &mut [u8]) -> usize
     ensures { λ r. ⌜ Undid (now (s .entry)) (now (out .entry)) (now (out .exit)) r ⌝ }
 {

@@ -1,4 +1,9 @@
-// Numbers as Rust reads them: an optional sign, digits, leading zeros allowed, nothing beyond the type's limits.
+// Readers of numbers. Each takes a whole word and answers its value, or `Bad` where it is not such a number:
+//
+// * `unsigned`: up to 2^32 - 1, as Rust reads a u32 (a `+` and leading zeros are allowed);
+// * `read_signed`: from -2^31 to 2^31 - 1, as Rust reads an i32;
+// * `set`: 64 bits in hexadecimal, with or without `0x`;
+// * `given`: decimal digits alone, exactly as `output::put_decimal` writes them.
 use texts::bytes;
 ghost use mathlib.Core.Path.{_≡_};
 ghost use Prim.Native.Nat.{_-_, _^_, _≤_, _<_};
@@ -14,7 +19,7 @@ pub enum Signed {
     Bad,
 }
 
-// The value of a digit of any base up to 16, 16 where it is none.
+// The value of a hexadecimal digit in either case; 16 where the byte is no digit.
 pub(crate) fn digit(b: u8) -> u8
     ensures { λ r. ⌜ r ≡ digitOf b ⌝ }
     ensures { λ r. ⌜ r ≤ 16 ⌝ }
@@ -40,7 +45,7 @@ pub(crate) fn digit(b: u8) -> u8
     16
 }
 
-// One digit or more, at most the limit.
+// Reads one digit or more of this base; the value is at most the limit.
 fn number(s: &[u8], base: u64, limit: u64) -> Parsed
     requires { ⌜ 0 < base ⌝ }
     ensures { λ r. ⌜ (r ≡ numberIn base limit (now (s .entry))) × AtMost limit r ⌝ }
@@ -67,14 +72,14 @@ fn number(s: &[u8], base: u64, limit: u64) -> Parsed
     Parsed::Value(v)
 }
 
-// A number of 32 bits.
+// An unsigned number of 32 bits.
 pub fn unsigned(s: &[u8]) -> Parsed
     ensures { λ r. ⌜ (r ≡ unsignedOf (now (s .entry))) × AtMost (2 ^ 32 - 1) r ⌝ }
 {
     number(bytes::strip(s, b'+'), 10, 0xFFFF_FFFF)
 }
 
-// A number as `put_decimal` writes it: digits alone, no needless zeros; at most the limit.
+// A decimal number: digits alone, no sign, no needless zero at the start, at most the limit. Each number has one text.
 pub fn given(s: &[u8], limit: u64) -> Parsed
     ensures { λ r. ⌜ (r ≡ givenOf limit (now (s .entry))) × AtMost limit r ⌝ }
 {
@@ -87,7 +92,7 @@ pub fn given(s: &[u8], limit: u64) -> Parsed
     number(s, 10, limit)
 }
 
-// Without every `0x` at the start.
+// The text without every `0x` at its start; Rust's `trim_start_matches` drops them all too.
 fn without_prefix(s: &[u8]) -> &[u8]
     ensures { λ r. ⌜ now r ≡ withoutPrefix (now (s .entry)) ⌝ }
 {
@@ -104,7 +109,7 @@ fn without_prefix(s: &[u8]) -> &[u8]
     &s[i..]
 }
 
-// A set in hexadecimal.
+// A set of 64 bits in hexadecimal.
 pub fn set(s: &[u8]) -> Parsed
     ensures { λ r. ⌜ r ≡ setOf (now (s .entry)) ⌝ }
 {
@@ -115,6 +120,7 @@ pub fn set(s: &[u8]) -> Parsed
     )
 }
 
+// The number itself, up to 2^31 - 1.
 fn positive(n: Parsed) -> Signed
     ensures { λ r. ⌜ r ≡ positiveOf n ⌝ }
 {
@@ -129,7 +135,7 @@ fn positive(n: Parsed) -> Signed
     }
 }
 
-// The smallest number has no opposite.
+// The number with its sign changed, down to -2^31. That smallest number has no opposite of 32 bits.
 fn negative(n: Parsed) -> Signed
     ensures { λ r. ⌜ r ≡ negativeOf n ⌝ }
 {

@@ -1,20 +1,27 @@
-// An answer is written piece by piece into lent bytes, each piece after the one before; what has no room is left out.
+// Writers of answers. An answer is written piece by piece into lent bytes. Each function writes its piece at the place `at`
+// and returns the place after it, where the next piece goes. What has no room is left out.
 use squares::refusal::Refusal;
 pub use texts::bytes::put_byte;
 ghost use Rattle.texts.specs.Lent.{Adds};
 ghost use Rattle.wording.specs.Output.{decimal, hex, hash, signed, refusalText, numberWord, flawWord, bad};
 
-// What is wrong with a bad request: the line is too long, an escape in it is invalid, its first word is no request, the number of
-// its words is wrong, a number in it cannot be read, its side is neither W nor B.
+// What is wrong with a bad request.
 pub enum Flaw {
+    // The line is too long.
     Length,
+    // An escape in the line is invalid.
     Escape,
+    // The first word names no request.
     Name,
+    // The request needs more words, or fewer.
     Words,
+    // A number in the line cannot be read.
     Number,
+    // The side is neither W nor B.
     Side,
 }
 
+// Writes these bytes.
 pub fn put(out: &mut [u8], at: usize, s: &[u8]) -> usize
     ensures { λ r. ⌜ Adds (now (s .entry)) (now (out .entry)) at (now (out .exit)) r ⌝ }
 {
@@ -27,6 +34,7 @@ pub fn put(out: &mut [u8], at: usize, s: &[u8]) -> usize
     k
 }
 
+// Writes a number in decimal, without needless zeros.
 pub fn put_decimal(out: &mut [u8], at: usize, n: u64) -> usize
     ensures { λ r. ⌜ Adds (decimal n) (now (out .entry)) at (now (out .exit)) r ⌝ }
 {
@@ -35,7 +43,7 @@ pub fn put_decimal(out: &mut [u8], at: usize, n: u64) -> usize
     put(out, at, &digits[..k])
 }
 
-// A signed number. The smallest one has no opposite, so 1 is added before the sign is changed.
+// Writes a signed number. The smallest one has no opposite, so 1 is added before the sign is changed.
 pub fn put_signed(out: &mut [u8], at: usize, z: i32) -> usize
     ensures { λ r. ⌜ Adds (signed z) (now (out .entry)) at (now (out .exit)) r ⌝ }
 {
@@ -46,7 +54,7 @@ pub fn put_signed(out: &mut [u8], at: usize, z: i32) -> usize
     put_decimal(out, at, z as u64)
 }
 
-// Hexadecimal digits, as few as there can be.
+// Writes a number in hexadecimal, without needless zeros.
 pub fn put_hex(out: &mut [u8], at: usize, n: u64) -> usize
     ensures { λ r. ⌜ Adds (hex n) (now (out .entry)) at (now (out .exit)) r ⌝ }
 {
@@ -55,7 +63,7 @@ pub fn put_hex(out: &mut [u8], at: usize, n: u64) -> usize
     put(out, at, &digits[..k])
 }
 
-// The 16 hexadecimal digits of a hash.
+// Writes the 16 hexadecimal digits of a hash.
 pub fn put_hash(out: &mut [u8], at: usize, n: u64) -> usize
     ensures { λ r. ⌜ Adds (hash n) (now (out .entry)) at (now (out .exit)) r ⌝ }
 {
@@ -64,7 +72,7 @@ pub fn put_hash(out: &mut [u8], at: usize, n: u64) -> usize
     put(out, at, &digits[..k])
 }
 
-// `err`, the number of the refusal and its square.
+// Writes `err`, the number of the refusal and its square: `err 7 31`.
 pub fn put_refusal(out: &mut [u8], at: usize, e: Refusal) -> usize
     ensures { λ r. ⌜ Adds (refusalText e) (now (out .entry)) at (now (out .exit)) r ⌝ }
 {
@@ -74,7 +82,7 @@ pub fn put_refusal(out: &mut [u8], at: usize, e: Refusal) -> usize
     put_decimal(out, m, e.square() as u64)
 }
 
-// `!` and the number of the refusal.
+// Writes `!` and the number of the refusal: `!15`.
 pub fn put_number(out: &mut [u8], at: usize, e: Refusal) -> usize
     ensures { λ r. ⌜ Adds (numberWord e) (now (out .entry)) at (now (out .exit)) r ⌝ }
 {
@@ -95,7 +103,7 @@ fn put_flaw(out: &mut [u8], at: usize, flaw: Flaw) -> usize
     }
 }
 
-// `bad request: ` and the one word that says what is wrong.
+// Writes `bad request:` and the word that says what is wrong.
 pub fn put_bad(out: &mut [u8], at: usize, flaw: Flaw) -> usize
     ensures { λ r. ⌜ Adds (bad flaw) (now (out .entry)) at (now (out .exit)) r ⌝ }
 {

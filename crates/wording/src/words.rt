@@ -1,4 +1,5 @@
-// The words of a request: what stands between single spaces.
+// The words of a line. Every single space ends a word, so two spaces have an empty word between them, and a line has one
+// word more than it has spaces.
 use texts::bytes;
 ghost use mathlib.Core.Path.{_≡_};
 ghost use Rattle.wording.specs.Words.{sameText, firstWord, afterWord, wordAt, blanksIn};
@@ -20,20 +21,21 @@ pub fn same(a: &[u8], b: &[u8]) -> bool
     true
 }
 
+// What comes before the first space: the whole where there is none.
 pub fn first(s: &[u8]) -> &[u8]
     ensures { λ r. ⌜ now r ≡ firstWord (now (s .entry)) ⌝ }
 {
     bytes::up_to(s, b' ')
 }
 
-// What comes after the first word and its space: nothing where there is none.
+// What comes after the first space: nothing where there is none.
 pub fn rest(s: &[u8]) -> &[u8]
     ensures { λ r. ⌜ now r ≡ afterWord (now (s .entry)) ⌝ }
 {
     bytes::after_first(s, b' ')
 }
 
-// The word of this index, from 0 on.
+// The word of this index, from 0 on; empty where there are fewer words.
 pub fn word(s: &[u8], index: usize) -> &[u8]
     ensures { λ r. ⌜ now r ≡ wordAt index (now (s .entry)) ⌝ }
 {
@@ -51,7 +53,7 @@ pub fn word(s: &[u8], index: usize) -> &[u8]
     first(&s[at..])
 }
 
-// How many spaces there are: one less than words.
+// How many spaces there are.
 pub fn blanks(s: &[u8]) -> usize
     ensures { λ r. ⌜ r ≡ blanksIn (now (s .entry)) ⌝ }
 {

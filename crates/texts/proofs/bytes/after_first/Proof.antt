@@ -1,4 +1,4 @@
--- Behind the place that `find` gives; from that place on there is nothing where it is the end.
+-- After the place that `find` gives; from that place on there is nothing where it is the end.
 use mathlib.Core.Path.{_∙_}
 use Prim.Native.Nat.{_+_}
 use denote.Ref.{now}

@@ -1,4 +1,4 @@
--- Behind the place that `find` gives, where there is one.
+-- After the place that `find` gives, where there is one.
 use mathlib.Core.Path.{ap, sym, _∙_}
 use Prim.Native.Nat.{ℕ, _+_}
 use lib.ListN.{drop}

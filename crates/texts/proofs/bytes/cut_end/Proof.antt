@@ -1,4 +1,4 @@
--- The bytes behind the place are all taken; the first from the end that is not ends the rest.
+-- The bytes after the place are all removed; the first from the end that is not removed ends the rest.
 use mathlib.Core.Path.{_≡_, ap, sym, _∙_}
 use Prim.Native.Nat.{_≤_}
 use lib.ListN.{length, take}

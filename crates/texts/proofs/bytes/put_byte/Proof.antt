@@ -1,4 +1,4 @@
--- The byte goes behind the text, or has no room.
+-- The byte goes after the text, or has no room.
 use Rattle.texts.proofs.Pieces as laws
 use denote.Ref.{now}
 use borrow.Author.Needs.{needs}

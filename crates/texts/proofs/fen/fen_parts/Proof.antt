@@ -1,4 +1,4 @@
--- The side, then the fields behind it.
+-- The side, then the fields after it.
 use mathlib.Core.Path.{sym, _∙_}
 use lib.Seq.{length-take-le}
 use denote.Ref.{now}

@@ -1,4 +1,4 @@
--- What the bytes before the place stand for was written; nothing where an escape is none.
+-- What the bytes before the place stand for was written; nothing where an escape is invalid.
 use mathlib.Core.Path.{_≡_, refl, ap, sym, _∙_}
 use mathlib.Core.Bool.{true}
 use Prim.Native.Nat.{_≤_, _-_, _+_}

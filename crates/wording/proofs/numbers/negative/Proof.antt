@@ -1,4 +1,4 @@
--- The sign is changed; the smallest number stands by itself.
+-- The sign is changed; the smallest number is a case of its own.
 use Rattle.wording.proofs.Values as laws
 use mathlib.Core.Path.{ap, sym, _∙_}
 use Rattle.wording.proofs.Signs as signs

@@ -1,4 +1,4 @@
--- What stands before the first space.
+-- What comes before the first space.
 use Rattle.wording.specs.Words.{firstWord}
 use borrow.Author.Needs.{needs}
 use Rattle.wording.proofs.words.first.Statement.{statement}

@@ -1,4 +1,4 @@
--- What stands behind the first space.
+-- What comes after the first space.
 use Rattle.wording.specs.Words.{afterWord}
 use borrow.Author.Needs.{needs}
 use Rattle.wording.proofs.words.rest.Statement.{statement}
