@@ -11,20 +11,20 @@ use Rattle.notation.specs.Notation.{readMoveOf}
 use Rattle.notation.specs.declared.notation.Heard.the-variants as heard
 use Rattle.notation.specs.declared.notation.Said.{Said}
 use Rattle.games.specs.Games.{lastOf, valid, judgedOf, ended}
-use Rattle.games.specs.Told.{playedTold}
 use Rattle.games.specs.declared.game.Game.{Game}
 use Rattle.gametexts.specs.Texts.{playFound, playSaid, playStrOf}
+use Rattle.gametexts.specs.Told.{playedTextTold}
 
 -- 13, then 1 or 9, which reading has told
 pub play-refused-told : (g : Game) (text : List ℕ) (e : Refusal) → readMoveOf text ≡ heard.Refused e
-    → playedTold (playStrOf g text) ≡ inOrder (when 13 (not (valid g)) ∷ []) (turnedBack e)
+    → playedTextTold (playStrOf g text) ≡ inOrder (when 13 (not (valid g)) ∷ []) (turnedBack e)
 unfolding playStrOf
-play-refused-told g text e r = rw r (refused-unless playedTold 13 0 (valid g) _ _ _ _ refl (none-left _))
+play-refused-told g text e r = rw r (refused-unless playedTextTold 13 0 (valid g) _ _ _ _ refl (none-left _))
 
 -- 13, 14, then 17, 15 or 16, which fitting tells, or the play of the move that was found
 pub play-read-told : (g : Game) (text : List ℕ) (h : Said) → readMoveOf text ≡ heard.Said h
-    → playedTold (playStrOf g text)
-    ≡ inOrder (when 13 (not (valid g)) ∷ when 14 (ended (judgedOf g)) ∷ []) (playedTold (playFound g (fitOf (lastOf g) h)))
+    → playedTextTold (playStrOf g text)
+    ≡ inOrder (when 13 (not (valid g)) ∷ when 14 (ended (judgedOf g)) ∷ []) (playedTextTold (playFound g (fitOf (lastOf g) h)))
 unfolding playStrOf playSaid
 play-read-told g text h r =
-    rw r (refused-unless playedTold 13 0 (valid g) _ _ _ _ refl (refused-where playedTold 14 0 (ended (judgedOf g)) _ _ _ _ refl (none-left _)))
+    rw r (refused-unless playedTextTold 13 0 (valid g) _ _ _ _ refl (refused-where playedTextTold 14 0 (ended (judgedOf g)) _ _ _ _ refl (none-left _)))

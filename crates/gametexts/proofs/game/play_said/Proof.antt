@@ -12,8 +12,8 @@ is-over-requires c κs = search needs
 enum-known-over : tie.Need-enum-known-over
 enum-known-over c = search needs
 
-not-played-requires : tie.Need-not-played-requires
-not-played-requires c κs = search needs
+refused-text-requires : tie.Need-refused-text-requires
+refused-text-requires c κs = search needs
 
 returns : tie.Need-returns
 unfolding playSaid
@@ -21,7 +21,7 @@ returns c =
     let o = c .before .before .before in
     let s = o .before .before .before in
     let e = over-at (s .args .g) (s .pre .0) _ (sym (o .before .before .is-over .ensures) ∙ o .over .given .1) ∙ c .before .if1 .taken in
-    rw e (c .not-played .ensures)
+    rw e (c .refused-text .ensures)
 
 fit-requires : tie.Need-fit-requires
 fit-requires c κs = search needs
@@ -32,8 +32,8 @@ play-found-requires c κs = search needs
 enum-known-e : tie.Need-enum-known-e
 enum-known-e c = search needs
 
-not-played-requires-2 : tie.Need-not-played-requires-2
-not-played-requires-2 c κs = search needs
+refused-text-requires-2 : tie.Need-refused-text-requires-2
+refused-text-requires-2 c κs = search needs
 
 returns-2 : tie.Need-returns-2
 unfolding playSaid
@@ -54,11 +54,11 @@ play-said-spec =
     (tie.spec
     is-over-requires
     enum-known-over
-    not-played-requires
+    refused-text-requires
     returns
     fit-requires
     play-found-requires
     enum-known-e
-    not-played-requires-2
+    refused-text-requires-2
     returns-2
     returns-3)

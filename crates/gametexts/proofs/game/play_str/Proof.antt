@@ -1,7 +1,6 @@
 -- The position tells 13, the text 1 and 9, what it says the rest.
 use mathlib.Core.Path.{sym, ap, _∙_}
-use Rattle.games.specs.Play.{refusedPlay}
-use Rattle.gametexts.specs.Texts.{playStrOf}
+use Rattle.gametexts.specs.Texts.{refusedText, playStrOf}
 use Rattle.gametexts.proofs.Answers.{stands-at, stands-not}
 use borrow.Author.Needs.{needs}
 use Rattle.gametexts.proofs.game.play_str.Statement.{statement}
@@ -28,14 +27,14 @@ play-said-requires c κs =
 enum-known-e : tie.Need-enum-known-e
 enum-known-e c = search needs
 
-not-played-requires : tie.Need-not-played-requires
-not-played-requires c κs = search needs
+refused-text-requires : tie.Need-refused-text-requires
+refused-text-requires c κs = search needs
 
 enum-known-e-2 : tie.Need-enum-known-e-2
 enum-known-e-2 c = search needs
 
-not-played-requires-2 : tie.Need-not-played-requires-2
-not-played-requires-2 c κs = search needs
+refused-text-requires-2 : tie.Need-refused-text-requires-2
+refused-text-requires-2 c κs = search needs
 
 returns : tie.Need-returns
 unfolding playStrOf
@@ -53,7 +52,7 @@ returns-2 c =
     let p = r .before .before in
     let o = p .before .before in
     let q = stands-at (o .before .before .args .g) _ (sym (o .position .ensures) ∙ p .p .given .1) in
-    rw (q .0, ← r .read-move .ensures, c .before .before .e .given .1) (c .not-played .ensures)
+    rw (q .0, ← r .read-move .ensures, c .before .before .e .given .1) (c .refused-text .ensures)
 
 returns-3 : tie.Need-returns-3
 unfolding playStrOf
@@ -61,7 +60,7 @@ returns-3 c =
     let o = c .before .before .before .before in
     let g = o .before .before .args .g in
     let q = stands-not g _ (sym (o .position .ensures) ∙ c .before .before .e2 .given .1) in
-    rw (q .0) (c .not-played2 .ensures ∙ ap (refusedPlay g) (q .1))
+    rw (q .0) (c .refused-text2 .ensures ∙ ap (refusedText g) (q .1))
 
 pub play-str-spec : {M : Type 1} → statement M
 play-str-spec =
@@ -73,9 +72,9 @@ play-str-spec =
     enum-known-said
     play-said-requires
     enum-known-e
-    not-played-requires
+    refused-text-requires
     enum-known-e-2
-    not-played-requires-2
+    refused-text-requires-2
     returns
     returns-2
     returns-3)
