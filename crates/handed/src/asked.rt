@@ -133,7 +133,7 @@ fn answer(s: &[u8], p: Position, m: Move, w: Classical, g: Game) {
         b'c' => of_space(entry, n, p, m),
         b'd' => show::found(notation::notation::parse_move(p, words::word(s, 1))),
         b'e' => of_game(entry, n, g, m),
-        b'h' => show_games::played(g, gametexts::game::play_str(g, words::word(s, 1))),
+        b'h' => show_games::played_text(g, gametexts::game::play_str(g, words::word(s, 1))),
         b'j' => show_games::begun(gametexts::game::from_fen(words::word(s, 1))),
         _ => of_list(s, p, entry, n),
     }

@@ -71,11 +71,15 @@ pub(crate) fn answer(a: Answer) {
     }
 }
 
-pub(crate) fn placed(p: Placed) {
+pub(crate) fn place(p: Placed) {
     match p {
         Placed::Position(q) => position(q),
         Placed::Refused(e) => refusal(e),
     }
+}
+
+pub(crate) fn placed(p: Placed) {
+    place(p);
     end();
 }
 
@@ -135,7 +139,7 @@ pub(crate) fn gathered(g: Gathered) {
 }
 
 // The first and last square and the set's number.
-fn record(m: Move) {
+pub(crate) fn record(m: Move) {
     number(m.from as u64);
     write(b" ");
     number(m.to as u64);

@@ -8,9 +8,11 @@ use games::game::Judged;
 use games::game::Outcome;
 use games::game::Played;
 use games::game::Termination;
+use gametexts::game::PlayedText;
 use positions::position;
 use positions::position::Position;
 use squares::piece::Color;
+use squares::refusal::Answer;
 
 pub(crate) fn blank_game() -> Game {
     let b = Game::from_position(position::initial());
@@ -111,17 +113,33 @@ pub(crate) fn begun_with(b: Begun, answers: &[u8]) {
     show::end();
 }
 
-pub(crate) fn played(came: Game, r: Played) {
-    let told = r.answer;
-    let g = r.game;
+fn after_play(came: Game, told: Answer, g: Game) {
     show::answer(told);
     game(g);
     if same(came, g) {
-        show::write(b", as it came\n");
+        show::write(b", as it came");
     } else {
         show::write(b", ");
-        show::placed(g.position());
+        show::place(g.position());
     }
+}
+
+pub(crate) fn played(came: Game, r: Played) {
+    let told = r.answer;
+    let g = r.game;
+    after_play(came, told, g);
+    show::end();
+}
+
+// The same for a move text, then the move handed back.
+pub(crate) fn played_text(came: Game, r: PlayedText) {
+    let told = r.answer;
+    let g = r.game;
+    let m = r.mv;
+    after_play(came, told, g);
+    show::write(b", move ");
+    show::record(m);
+    show::end();
 }
 
 fn termination(t: Termination) {
