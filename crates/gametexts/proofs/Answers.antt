@@ -1,4 +1,4 @@
--- What the entries of a game say by their answers.
+-- What the answers of a game's entries say about the game.
 use mathlib.Core.Path.{_≡_, refl, sym, ap, _∙_}
 use Prim.Native.Nat.{ℕ}
 use native.Mathlib.Omega.{arith}
@@ -12,7 +12,7 @@ use Rattle.games.specs.Games.{lastOf, valid, judgedOf, ended}
 use Rattle.games.specs.Play.{isOverOf, standsOf}
 use Rattle.games.specs.declared.game.Game.{Game}
 
--- a position is told of a game that 13 lets pass
+-- where a position is answered, the game is valid, and the position is its current one
 pub stands-at : (g : Game) (p : Position) → standsOf g ≡ placed.Position p → (valid g ≡ true) × (p ≡ lastOf g)
 unfolding standsOf
 stands-at g p e = go (valid g) refl e
@@ -21,7 +21,7 @@ stands-at g p e = go (valid g) refl e
     go true v e = (v, cc)
     go false v e = absurd (let z : _≡_ {A = ℕ} 0 1 = cc in omega arith)
 
--- and no refusal but 13
+-- the only refusal is 13
 pub stands-not : (g : Game) (e : Refusal) → standsOf g ≡ placed.Refused e → (valid g ≡ false) × (e ≡ BadGame)
 unfolding standsOf
 stands-not g e h = go (valid g) refl h

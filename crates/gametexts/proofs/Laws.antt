@@ -1,5 +1,5 @@
--- What playing a text comes to: an accepted text is the play of a listed move, which is handed back; a refused one leaves the game
--- as it came and hands back a blank move; and Hub's text of a legal move plays that move.
+-- What playing a text comes to. An accepted text is the play of a listed move, and this move is handed back. A refused text leaves
+-- the game as it came and hands back a blank move. Hub's text of a legal move plays that move.
 use mathlib.Core.Path.{_≡_, refl, sym, ap, _∙_}
 use Prim.Native.Nat.{ℕ, _≤_}
 use native.Mathlib.Omega.{arith}
@@ -67,14 +67,14 @@ pub record Plays (g : Game) (text : List ℕ) (m : Move) : Type 0 where
 beside-done : (m : Move) (p : Played) → p .answer ≡ Done → beside m p ≡ record { answer = Done; game = p .game; mv = m }
 beside-done m p e = ap (λ (a : Answer). record { answer = a; game = p .game; mv = moveWhere a m }) e
 
--- what holds of a text that was accepted: it was read, and means the listed move m, which is played
+-- what holds of an accepted text: it was read, it means the listed move m, and it plays m
 pub record Accepted (g : Game) (text : List ℕ) (m : Move) : Type 0 where
   pub said : Said
   pub read : readMoveOf text ≡ heard.Said said
   pub fitted : Fitted (lastOf g) said m
   pub played : Plays g text m
 
--- the move handed back is that move
+-- an accepted text means the move that is handed back
 pub accepted-says : (g : Game) (text : List ℕ) → playStrOf g text .answer ≡ Done → Accepted g text (playStrOf g text .mv)
 unfolding playStrOf playSaid
 accepted-says g text e = go (valid g) refl (readMoveOf text) refl
@@ -102,7 +102,7 @@ accepted-says g text e = go (valid g) refl (readMoveOf text) refl
     go true v (heard.Refused x) r = not-done x (rw (v, r) at e)
     go true v (heard.Said h) r = at h r v (ended (judgedOf g)) refl (fitOf (lastOf g) h) refl
 
--- ---- a refused text: the game as it came, and no move
+-- ---- a refused text: the game as it came, and a blank move
 
 refused-is : (g : Game) (e x : Refusal) → _≡_ {A = Answer} (Refused e) (Refused x) → refusedText g e ≡ refusedText g x
 refused-is g e x h = ap (λ (a : Answer). record { answer = a; game = g; mv = blankMove }) h

@@ -1,5 +1,5 @@
--- What the entries that take texts answer (document 01, "Turned back because of the state"): a new game from FEN has FEN's
--- refusals; a move text on a game meets 13, 1, 9, 14, 17, 15, 16.
+-- What the entries that take texts answer (docs/RULES.md, "Move texts" and "Refusals"). A new game from a FEN has the refusals of
+-- FEN. A move text on a game has 13, 1, 9, 14, 17, 15, 16, in this order.
 use Prim.Native.Nat.{ℕ}
 use mathlib.Core.Bool.{cond}
 use mathlib.Core.List.{List}
@@ -26,7 +26,7 @@ use Rattle.games.specs.declared.game.Game.{Game}
 use Rattle.games.specs.declared.game.Played.{Played}
 use Rattle.gametexts.specs.declared.game.PlayedText.{PlayedText}
 
--- a new game of what was read
+-- a new game from the position that was read
 abbrev pub begunAt : Placed → Begun
 begunAt (placed.Position p) = newOf p
 begunAt (placed.Refused e) = notBegun e
@@ -34,36 +34,37 @@ begunAt (placed.Refused e) = notBegun e
 unfoldable pub gameFromFenOf : List ℕ → Begun
 gameFromFenOf text = begunAt (fromFenOf text)
 
--- no move
+-- the blank move
 abbrev pub blankMove : Move
 blankMove = move 0 0 0
 
--- a refused text: the game as it came, and no move
+-- a refused text: the game as it came, and a blank move
 abbrev pub refusedText : Game → Refusal → PlayedText
 refusedText g e = record { answer = answer.Refused e; game = g; mv = blankMove }
 
--- the move m where its play was accepted, else no move
+-- the move m where its play was accepted, else the blank move
 abbrev pub moveWhere : Answer → Move → Move
 moveWhere answer.Done m = m
 moveWhere (answer.Refused e) m = blankMove
 
--- what the play of m came to, and m beside it
+-- the answer and the game of a play of m, and m; the blank move where the play was refused
 abbrev pub beside : Move → Played → PlayedText
 beside m p = record { answer = p .answer; game = p .game; mv = moveWhere (p .answer) m }
 
--- the move that was found is played as its record is
+-- the move that was found is played as its record is; a refusal is passed on
 abbrev pub playFound : Game → Found → PlayedText
 playFound g (found.Move m) = beside m (playOf g m)
 playFound g (found.Refused e) = refusedText g e
 
--- 14, then 17, 15, 16
+-- 14, then 17, 15 and 16 of the search for the move
 unfoldable pub playSaid : Game → Said → PlayedText
 playSaid g h = cond (ended (judgedOf g)) (refusedText g (refusal 14)) (playFound g (fitOf (lastOf g) h))
 
+-- what was read is played, a refusal is passed on
 abbrev pub playHeard : Game → Heard → PlayedText
 playHeard g (heard.Said h) = playSaid g h
 playHeard g (heard.Refused e) = refusedText g e
 
--- 13, then 1 and 9
+-- 13, then 1 and 9 of reading
 unfoldable pub playStrOf : Game → List ℕ → PlayedText
 playStrOf g text = cond (valid g) (playHeard g (readMoveOf text)) (refusedText g (refusal 13))

@@ -1,7 +1,13 @@
-// What a line asks. Its first byte says of what: a of a position, b of a number, c of lent space, d of a move text, e of a
-// game, g of a list of records, h of a move text on a game, j of a FEN that begins a game. Then come the entry's number and a
-// number for it (d, h and j: the text; g: how many answers, how many numbers, and these), and behind a semicolon what the
-// answer begins with.
+// What a line asks. Its first byte says what the question is about, and the words after it are:
+//   a  a position: the number of the entry, a number for it
+//   b  a number: the number of the entry, this number
+//   c  lent space: the number of the entry, how many bytes are lent
+//   d  a move text on a position: the text
+//   e  a game: the number of the entry, a number for it
+//   g  a list of records: how many answers are lent, how many numbers the list has, these numbers
+//   h  a move text on a game: the text
+//   j  a new game from a FEN: the FEN
+// A semicolon follows, and after it the text that the answer begins with.
 use crate::given;
 use crate::show;
 use crate::show_games;
@@ -62,7 +68,8 @@ fn write_into(entry: u64, p: Position, m: Move, out: &mut [u8]) -> Wrote {
     }
 }
 
-// So many of these bytes are lent, which are dots. Refused, every dot stands; written, the dots behind the text do.
+// Lends the first n of these bytes, which are dots. A writer that refuses must leave every dot as it is; one that writes
+// must leave the dots after its text.
 fn lend(entry: u64, n: usize, p: Position, m: Move, dots: &mut [u8]) {
     if n <= dots.len() {
         let w = write_into(entry, p, m, &mut dots[..n]);
@@ -87,7 +94,7 @@ fn of_game(entry: u64, n: u64, g: Game, m: Move) {
     }
 }
 
-// The numbers of a list, so many behind the first three words.
+// Reads the numbers of a list. They come after the first three words of the line.
 fn listed(s: &[u8], list: &mut [u64]) {
     let mut i = 0;
     while i < list.len() {
@@ -101,7 +108,7 @@ fn replay(p: Position, list: &[u64], answers: &mut [u8]) {
     show_games::begun_with(b, answers);
 }
 
-// A list of at most nine numbers, and a byte for each of at most four answers, 46 beforehand.
+// Lends the first numbers of a list of nine, and a byte for each of at most four answers. Each byte is 46 beforehand.
 fn lend_answers(
     s: &[u8],
     p: Position,

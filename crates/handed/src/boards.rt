@@ -1,4 +1,4 @@
-// The position of three sets and a side.
+// Makes a position of three sets and a side without testing them.
 use positions::position::Position;
 use squares::bitboard;
 use squares::bitboard::Bitboard;
@@ -19,7 +19,8 @@ fn turn_key(side: Color) -> u64 {
     }
 }
 
-// These sets with the hash of the pieces that they have, whatever else is wrong with them; but for the bits of `wrong`.
+// These sets with the hash of the pieces in them, whatever is wrong with the sets. The bits of `wrong` are flipped in the
+// hash.
 pub(crate) fn with_hash(
     white: Bitboard,
     black: Bitboard,

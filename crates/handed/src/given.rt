@@ -1,5 +1,12 @@
-// What a line hands in. Its first byte says what: p a position, i the initial one, m a move record, w weights, and of a game
-// f the same position in every entry, k a kept one, n its three numbers. Numbers are hexadecimal, weights decimal.
+// What a line hands in. Its first byte says what:
+//   p  a position
+//   i  the initial position
+//   m  a move record
+//   w  weights
+//   f  in a game: the position handed in last, for every entry
+//   k  in a game: the position handed in last, for one entry
+//   n  in a game: the number of kept positions and the two counters
+// Weights are decimal, other numbers hexadecimal. What cannot be read counts as 0.
 use crate::boards;
 use games::game::Game;
 use positions::moves::Move;
@@ -16,7 +23,7 @@ pub(crate) fn letter(s: &[u8]) -> u8 {
     if 0 < s.len() { s[0] } else { 0 }
 }
 
-// The number in the word of this index.
+// The number in the word with this index.
 pub(crate) fn number(s: &[u8], index: usize) -> u64 {
     match numbers::set(words::word(s, index)) {
         Parsed::Value(n) => n,
@@ -39,7 +46,7 @@ fn side(n: u64) -> Color {
     if n == 0 { Color::White } else { Color::Black }
 }
 
-// White, black, kings, the side and what is wrong with the hash.
+// The words are the white set, the black set, the kings, the side, and the bits of the hash that are wrong.
 fn placed(s: &[u8]) -> Position {
     let white = number(s, 1);
     let black = number(s, 2);

@@ -1,4 +1,5 @@
-// What is written. A position is written as its FEN and its hash; one that breaks 12 has no FEN, and 12 stands instead.
+// Writes answers. A position is written as its FEN and its hash. One that refusal 12 turns back has no FEN: the refusal is
+// written in its place.
 use captures::moves::MoveList;
 use libc::STDOUT_FILENO;
 use movegen::movegen::Listed;
@@ -27,7 +28,7 @@ pub(crate) fn number(n: u64) {
     io::print_decimal(STDOUT_FILENO, n);
 }
 
-// A signed number. The smallest one has no opposite, so 1 is added before the sign is changed.
+// A signed number. The smallest one has no opposite, so 1 is added before the sign is changed and again after.
 fn signed(z: i32) {
     if z < 0 {
         write(b"-");
@@ -138,7 +139,7 @@ pub(crate) fn gathered(g: Gathered) {
     end();
 }
 
-// The first and last square and the set's number.
+// The first square, the last square, and the set taken as a number.
 pub(crate) fn record(m: Move) {
     number(m.from as u64);
     write(b" ");
@@ -155,7 +156,7 @@ pub(crate) fn found(f: Found) {
     end();
 }
 
-// What a writer answers, then the lent bytes as they are afterwards.
+// The answer of a writer, then the lent bytes as they are after it.
 pub(crate) fn wrote(w: Wrote, out: &[u8]) {
     match w {
         Wrote::Length(n) => {
@@ -170,7 +171,7 @@ pub(crate) fn wrote(w: Wrote, out: &[u8]) {
     end();
 }
 
-// 1 or 0, so that a count goes up without a branch.
+// 1 or 0, so that counting needs no branch.
 pub(crate) fn one(yes: bool) -> u64
     ensures { λ r. ⌜ r ≤ 1 ⌝ }
 {

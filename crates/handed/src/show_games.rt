@@ -1,6 +1,6 @@
-// What is written of games. Of a game handed back: its number of kept positions, the two counters, and how many of all 51
-// entries are blank; after a play also the position standing, or, where nothing at all differs from the game handed in,
-// unused entries included, that it is as it came.
+// Writes games. A game handed back is written as the number of kept positions, the two counters, and how many of all 51
+// entries are blank. After a play the current position follows, or `as it came` where the game equals the one handed in,
+// unused entries included. After the play of a move text the move handed back comes last.
 use crate::show;
 use games::game::Begun;
 use games::game::Game;
@@ -46,7 +46,7 @@ fn blank_positions(g: Game) -> u64 {
     n
 }
 
-// Whether all 51 entries are the same.
+// Whether the two games have the same 51 entries.
 fn same_entries(g: Game, h: Game) -> bool {
     let mut i: usize = 0;
     while i < 51 {
@@ -105,7 +105,7 @@ fn codes(answers: &[u8]) {
     }
 }
 
-// The lent answers as they are afterwards stand behind the game.
+// The game, then the lent answers as they are after the call.
 pub(crate) fn begun_with(b: Begun, answers: &[u8]) {
     answered(b);
     show::write(b", answers");
@@ -131,7 +131,7 @@ pub(crate) fn played(came: Game, r: Played) {
     show::end();
 }
 
-// The same for a move text, then the move handed back.
+// The same, then the move handed back.
 pub(crate) fn played_text(came: Game, r: PlayedText) {
     let told = r.answer;
     let g = r.game;

@@ -1,5 +1,6 @@
-// Runs SplitMix64, the key table and the square numbers. What it writes is held to the file stdout beside src/,
-// which scripts/vectors makes from published vectors and from the Rust's own answers.
+// Writes outputs of SplitMix64, the keys of the pieces and of the side, and number, bit, row and file of each square
+// (docs/RULES.md, "The board" and "Keys and hash"). The output must equal the file stdout beside src/, which
+// scripts/vectors makes from published vectors and from the answers of the Rust.
 use libc::STDOUT_FILENO;
 use squares::piece::Color;
 use squares::piece::PieceKind;
@@ -54,7 +55,7 @@ fn square_line(n: u32) {
     io::write_all(STDOUT_FILENO, b"\n");
 }
 
-// Every square, and the numbers next to them that are none.
+// Every square, and the numbers 0 and 51, which are no squares.
 fn square_lines() {
     for n in 0..=51 {
         square_line(n);

@@ -1,4 +1,4 @@
--- 14 before the list is looked at; the current position of a game that 13 lets pass is the one handed in.
+-- 14 is tested before the list is looked at; the position handed in is the current one of a valid game.
 use mathlib.Core.Path.{sym, _∙_}
 use Rattle.gametexts.specs.Texts.{playSaid}
 use Rattle.gametexts.proofs.Answers.{over-at, over-not}

@@ -1,4 +1,4 @@
--- The position tells 13, the text 1 and 9, what it says the rest.
+-- Asking for the position gives 13, reading the text 1 and 9, playing what it says the rest.
 use mathlib.Core.Path.{sym, ap, _∙_}
 use Rattle.gametexts.specs.Texts.{refusedText, playStrOf}
 use Rattle.gametexts.proofs.Answers.{stands-at, stands-not}
