@@ -1,15 +1,13 @@
-"""A game by document 01's words, over the Rust's positions and lists without a limit. Shared by scripts/rule.py and scripts/games.
+"""A game by docs/RULES.md, over the Rust's positions and lists of any length. Shared by scripts/rule.py and scripts/games.
 
-It says what `dame` answers where the Rust has no answer: move records, which its protocol does not know, and games on boards where
-it panics at a 257th entry. Positions are told apart by their FEN, over the whole game.
+It answers what the Rust cannot: move records, which its protocol does not have, and games on boards where it panics at a
+257th entry. Positions are compared by their FEN, over the whole game.
 """
 import collections
 import re
 
 import rule
-from rule import BAD, bit
-
-RECORD = rb"\+?[0-9]+,\+?[0-9]+,(0x)*\+?[0-9A-Fa-f]+"
+from rule import bit
 
 
 def kings(fen):
@@ -17,7 +15,7 @@ def kings(fen):
 
 
 def ends(fen, times, quiet, still):
-    """The outcome of a position that has moves, by how often it has stood and the two counts."""
+    """The outcome of a position that has moves, by how often it has been reached and the two counts."""
     if times >= 3:
         return b"draw3"
     if quiet >= 50:
@@ -81,18 +79,14 @@ def after(oracle, fen, move):
 
 def begun(oracle, line):
     """The game of a line whose position is accepted, and the line's other words."""
-    words = line.split(b" ")[1:]
-    if len(words) > 1 and words[-1] == b"":
-        words.pop()
-    white, black, crowned, side = oracle.one(b"bits " + words[0]).split()[1:5]
-    return Game(oracle, oracle.one(b"parts %s %s %s %s" % (white, black, crowned, side))[3:]), words[1:]
+    fen, words = rule.played_words(line)
+    white, black, crowned, side = oracle.one(b"bits " + fen).split()[1:5]
+    return Game(oracle, oracle.one(b"parts %s %s %s %s" % (white, black, crowned, side))[3:]), words
 
 
 def played(oracle, line):
     """The answer to a `play` whose position is accepted."""
     game, words = begun(oracle, line)
-    if None in map(rule.undone, words):
-        return BAD
     out = b"ok"
     for word in words:
         said = oracle.one(b"parse W:W32 " + word)
@@ -110,21 +104,11 @@ def played(oracle, line):
 
 
 def recorded(oracle, line):
-    """The answer to a `record` whose position is accepted."""
+    """The answer to a `record` whose position is accepted and whose records can be read."""
     game, words = begun(oracle, line)
-    records = []
-    for word in words:
-        if not re.fullmatch(RECORD, word):
-            return BAD
-        first, last, taken = word.split(b",")
-        taken = taken.replace(b"0x", b"") if b"0x" in taken else taken
-        numbers = int(first), int(last), int(taken, 16) if taken else -1
-        if numbers[0] >= 2 ** 32 or numbers[1] >= 2 ** 32 or not 0 <= numbers[2] < 2 ** 64:
-            return BAD
-        records.append(numbers)
     squares = sum(bit(n) for n in range(1, 51))
     out = b"ok"
-    for first, last, taken in records:
+    for first, last, taken in map(rule.move_record, words):
         if not (1 <= first <= 50 and 1 <= last <= 50) or taken & ~squares:
             out += b" 11"
             continue

@@ -1,22 +1,29 @@
-"""What `dame` answers, from what the Rust's line protocol answers. Shared by scripts/dame and scripts/compare.
+"""What `dame` answers to a line, from what the oracle answers. Shared by scripts/dame, scripts/compare and scripts/games.
 
-The two agree byte for byte but for the cases below, each of which is written here as a rule and not as stored answers:
-  names      `movebits`, `list`, `naive`, `calls`, `sequences` and `keys` are no requests of `dame`
-  words      `bad number` and `bad escape` are `bad request`, and so is a side in `parts` other than W or B; a bad escape in a
-             text of `play` breaks the whole request
-  length     a line of more than 65,536 bytes is a bad request
+The oracle is the Rust behind its line protocol (oracle/README.md). A line that cannot be read is answered
+`bad request: WORD`. The word is found here, from the line and not from the oracle; it is the first of these that fits:
+  length     the line has more than 65,536 bytes
+  escape     a backslash in the line begins no escape
+  name       the first word is no request
+  words      `parts` has not four words after its name, or `evalw` not six
+  number     a limit, depth, weight, set or record cannot be read
+  side       the side of `parts` is not W or B
+A depth and records are read after the FEN, so a refusal of the FEN comes before their `number`; all else comes before
+any refusal. To other lines the two answer the same, byte for byte, except by these rules:
   limits     a depth above 7 and a weight outside -10,000 to 10,000 are refused with 10, after the FEN's refusals
-  atmost     the Rust has no such request: its list without a limit, then 10 above 256 and 17 above the limit
-  record     the Rust has no such request: the position's refusals, else the game by scripts/gamerule.py
-  panics     where the Rust panics at a 257th entry, the list without a limit decides: 17, or what it says; a game goes on
-  hashes     the Rust counts repetitions by hash; where a game meets two positions with one hash, the game by scripts/gamerule.py
+  atmost     the Rust has no such request: its list of any length, then 10 above 256 and 17 above the limit
+  record     the Rust has no such request: the FEN's refusals, else the game by scripts/gamerule.py
+  panics     where the Rust panics at a 257th entry, its list of any length decides: 17, or what it says; a game goes on
+  hashes     the Rust counts repetitions by hash; a game that meets two positions with one hash is by scripts/gamerule.py
 """
 import re
 import subprocess
 
 MASK = 2 ** 64 - 1
-BAD = b"bad request"
-NAMES = (b"fen hub fen2hub hub2fen square parts bits moves parse after perft divide eval evalw hash flip caps quiet play outcome record").split()
+LONGEST = 65536
+NAMES = (b"fen hub fen2hub hub2fen square parts bits moves atmost parse after perft divide eval evalw hash flip caps quiet "
+         b"play outcome record").split()
+FLAWS = ["length", "escape", "name", "words", "number", "side"]
 
 
 # From this board on a game can come within 16 plies to another position with the same hash (docs/DIFFERENCES.md).
@@ -69,7 +76,7 @@ class Board:
 
 
 def drawn(draw, count):
-    """An accepted board of that many pieces; men that would stand on their promotion row are kings."""
+    """An accepted board of that many pieces; men on their promotion row are kings."""
     squares = list(range(1, 51))
     for i in range(50):
         j = i + draw.below(50 - i)
@@ -85,16 +92,93 @@ def drawn(draw, count):
     return Board("WB"[draw.below(2)], white, black, kings)
 
 
+def digits(word, base, limit):
+    """The number that the word is, or None: digits of this base, leading zeros allowed, at most the limit."""
+    if not re.fullmatch(rb"[0-9]+" if base == 10 else rb"[0-9A-Fa-f]+", word):
+        return None
+    word = word.lstrip(b"0") or b"0"
+    return int(word, base) if len(word) <= 20 and int(word, base) <= limit else None
+
+
 def unsigned(word):
     """A number of 32 bits as Rust reads it, or None."""
-    if re.fullmatch(rb"\+?[0-9]+", word) and int(word) < 2 ** 32:
-        return int(word)
-    return None
+    return digits(word.removeprefix(b"+"), 10, 2 ** 32 - 1)
 
 
 def signed(word):
-    if re.fullmatch(rb"[+-]?[0-9]+", word) and -2 ** 31 <= int(word) < 2 ** 31:
-        return int(word)
+    if word[:1] == b"-":
+        number = digits(word[1:], 10, 2 ** 31)
+        return None if number is None else -number
+    return digits(word.removeprefix(b"+"), 10, 2 ** 31 - 1)
+
+
+def number_set(word):
+    """A set of 64 bits in hexadecimal, after any number of 0x, or None."""
+    while word.startswith(b"0x"):
+        word = word[2:]
+    return digits(word.removeprefix(b"+"), 16, 2 ** 64 - 1)
+
+
+def move_record(word):
+    """First square, last square and set, or None."""
+    parts = word.split(b",")
+    if len(parts) != 3:
+        return None
+    record = unsigned(parts[0]), unsigned(parts[1]), number_set(parts[2])
+    return None if None in record else record
+
+
+ESCAPE = rb"\\(?:([\\strn])|x([+0-9A-Fa-f][0-9A-Fa-f]))"
+
+
+def undone(word):
+    """The word with its escapes undone, or None where a backslash begins none. Rust takes a sign as the first digit."""
+    if b"\\" in re.sub(ESCAPE, b"", word):
+        return None
+    plain = {b"\\": b"\\", b"s": b" ", b"t": b"\t", b"r": b"\r", b"n": b"\n"}
+    return re.sub(ESCAPE, lambda m: plain[m[1]] if m[1] else bytes([int(m[2], 16)]), word)
+
+
+def bad(word):
+    return b"bad request: " + word.encode()
+
+
+def played_words(line):
+    """The FEN of a `play` or `record`, and the words to play. A space at the end of the line begins no word."""
+    fen, *words = line.split(b" ")[1:] or [b""]
+    if words and words[-1] == b"":
+        words.pop()
+    return fen, words
+
+
+def flaw(line):
+    """The word for what is wrong with a line before its FEN is read, or None."""
+    if len(line) > LONGEST:
+        return "length"
+    if undone(line) is None:
+        return "escape"
+    name, _, arg = line.partition(b" ")
+    if name not in NAMES:
+        return "name"
+    words = arg.split(b" ")
+    if name == b"atmost" and unsigned(words[0]) is None:
+        return "number"
+    if name == b"evalw":
+        return "words" if len(words) != 6 else "number" if None in map(signed, words[1:]) else None
+    if name == b"parts":
+        if len(words) != 4:
+            return "words"
+        return "number" if None in map(number_set, words[:3]) else "side" if words[3] not in (b"W", b"B") else None
+    return None
+
+
+def late_flaw(line):
+    """The same for what is read after an accepted FEN."""
+    name, _, arg = line.partition(b" ")
+    if name in (b"perft", b"divide") and unsigned(arg.partition(b" ")[2]) is None:
+        return "number"
+    if name == b"record" and None in map(move_record, played_words(line)[1]):
+        return "number"
     return None
 
 
@@ -125,35 +209,23 @@ class Oracle:
 
 
 def asked(line):
-    """What the Rust is asked for a line of `dame`'s, and the rule that then makes its answer `dame`'s; no line: the answer itself."""
-    if len(line) > 65536:
-        return None, "length", BAD
+    """What the oracle is asked for a line, and the rule that makes its answer `dame`'s; None: the answer is known."""
+    word = flaw(line)
+    if word is not None:
+        return None, word, bad(word)
     name, _, arg = line.partition(b" ")
+    fen, _, rest = arg.partition(b" ")
+    word = late_flaw(line)
+    if word is not None:
+        return b"bits " + fen, word, bad(word)
     if name == b"atmost":
-        limit, _, fen = arg.partition(b" ")
-        n = unsigned(limit)
-        if n is None:
-            return None, "atmost", BAD
-        return b"list " + fen, "atmost", n
-    if name not in NAMES:
-        return None, "names", BAD
+        return b"list " + rest, "atmost", unsigned(fen)
     if name == b"record":
-        return b"bits " + arg.partition(b" ")[0], "record", None
-    if name == b"parts":
-        words = arg.split(b" ")
-        if len(words) == 4 and words[3] not in (b"W", b"B"):
-            return None, "words", BAD
-    if name in (b"perft", b"divide"):
-        fen, _, depth = arg.partition(b" ")
-        n = unsigned(depth)
-        if n is not None and n > 7:
-            return b"perft " + fen + b" 0", "limits", None
-    if name == b"evalw":
-        words = arg.split(b" ")
-        if len(words) == 6:
-            weights = [signed(w) for w in words[1:]]
-            if None not in weights and any(abs(w) > 10000 for w in weights):
-                return b"eval " + words[0], "limits", None
+        return b"bits " + fen, "record", None
+    if name in (b"perft", b"divide") and unsigned(rest) > 7:
+        return b"bits " + fen, "limits", b"err 10 0"
+    if name == b"evalw" and any(abs(signed(w)) > 10000 for w in rest.split(b" ")):
+        return b"bits " + fen, "limits", b"err 10 0"
     return line, "same", None
 
 
@@ -161,22 +233,30 @@ def answer(oracle, line, rule, extra, told):
     """`dame`'s answer and the rule that made it."""
     if told is None:
         return extra, rule
-    if told in (b"bad number", b"bad escape") or (line.startswith(b"play ") and b" !escape" in told):
-        return BAD, "words"
-    if rule == "record" and told.startswith(b"ok"):
+    assert not told.startswith(b"bad "), (line[:300], told)
+    if told.startswith(b"err "):
+        return told, "same"
+    if rule in FLAWS or rule == "limits":
+        return extra, rule
+    if rule == "record":
         return gamerule.recorded(oracle, line), rule
-    if rule == "limits" and told.startswith(b"ok"):
-        return b"err 10 0", rule
-    if rule == "atmost" and told.startswith(b"ok"):
-        count = int(told.split()[1])
+    if rule == "atmost":
         if extra > 256:
             return b"err 10 0", rule
-        return (b"err 17 0" if count > extra else told), rule
+        return (b"err 17 0" if int(told.split()[1]) > extra else told), rule
     if told == b"panic":
         return panicked(oracle, line), "panics"
     if line.startswith(b"play " + ONE_HASH + b" "):
         return gamerule.played(oracle, line), "hashes"
     return told, rule
+
+
+def answers(oracle, lines):
+    """`dame`'s answer to each line and the rule that made it."""
+    plans = [asked(line) for line in lines]
+    told = iter(oracle.ask([ask for ask, _, _ in plans if ask is not None]))
+    return [answer(oracle, line, rule, extra, None if ask is None else next(told))
+            for line, (ask, rule, extra) in zip(lines, plans)]
 
 
 def panicked(oracle, line):
@@ -222,7 +302,7 @@ def counted(oracle, fen, depth):
 
 
 def after(oracle, fen, move):
-    """The position after a move of a king, by document 01's words, with the Rust's hash."""
+    """The position after a move of a king, by docs/RULES.md, with the Rust's hash."""
     white, black, kings, side = oracle.one(b"bits " + fen).split()[1:5]
     sets = [int(s, 16) for s in (white, black, kings)]
     assert sets[2] & bit(move[0])
@@ -233,19 +313,8 @@ def after(oracle, fen, move):
     return told + b" " + oracle.one(b"hash " + told[3:])[3:]
 
 
-ESCAPE = rb"\\(?:([\\strn])|x([+0-9A-Fa-f][0-9A-Fa-f]))"
-
-
-def undone(word):
-    """The text of a word with its escapes undone, or None where one of them is none; a sign is read as Rust reads it."""
-    if b"\\" in re.sub(ESCAPE, b"", word):
-        return None
-    plain = {b"\\": b"\\", b"s": b" ", b"t": b"\t", b"r": b"\r", b"n": b"\n"}
-    return re.sub(ESCAPE, lambda m: plain[m[1]] if m[1] else bytes([int(m[2], 16)]), word)
-
-
 def fitting(moves, word):
-    """The listed moves that the word of a well-formed text means (document 01, notation.rs)."""
+    """The listed moves that a well-formed text means (docs/RULES.md, "Move texts")."""
     text = undone(word).strip(b"\t\n\x0b\x0c\r ")
     capture = b"x" in text
     squares = [int(n) for n in re.split(rb"[-x]", text)]
@@ -260,4 +329,4 @@ def fitting(moves, word):
     return [m for m in moves if m[1] == squares[-1]]
 
 
-import gamerule  # noqa: E402  (it uses what stands above)
+import gamerule  # noqa: E402  (it uses the definitions above)

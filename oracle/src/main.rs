@@ -1,7 +1,7 @@
 //! Answers one request a line, as README.md says, by the rules of dame-rs.
 //!
-//! The files of dame-rs are taken unchanged from the checkout that DAME_RS names. They name each other by `crate::`, and
-//! `list` and `keys` need items that only their own crate may use, so they and the protocol are one crate.
+//! The files of dame-rs are taken unchanged from the checkout that DAME_RS names. They name each other by `crate::`,
+//! and `list` and `keys` need items that only their own crate may use, so they and the protocol are one crate.
 #![allow(dead_code)]
 
 mod answers;
