@@ -1,7 +1,7 @@
-"""A game by docs/RULES.md, over the Rust's positions and lists of any length. Shared by scripts/rule.py and scripts/games.
+"""A game by docs/RULES.md, over the Rust's positions and lists of any length. Shared by scripts/rule.py and games.
 
-It answers what the Rust cannot: move records, which its protocol does not have, and games on boards where it panics at a
-257th entry. Positions are compared by their FEN, over the whole game.
+It answers what the Rust cannot: move records, which its protocol does not have, and games on boards where it panics at
+a 257th entry. Positions are compared by their FEN, over the whole game.
 """
 import collections
 import re

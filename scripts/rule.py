@@ -1,7 +1,8 @@
-"""What `dame` answers to a line, from what the oracle answers. Shared by scripts/dame, scripts/compare and scripts/games.
+"""What `dame` answers to a line, from what the oracle answers. Shared by scripts/dame, compare and games.
 
-The oracle is the Rust behind its line protocol (oracle/README.md). A line that cannot be read is answered
-`bad request: WORD`. The word is found here, from the line and not from the oracle; it is the first of these that fits:
+The oracle is dame-rs, the Rust, with nearly the same line protocol (oracle/README.md). A line that cannot be read is
+answered `bad request: WORD`. The word is found here, from the line and not from the oracle: the first of these that
+fits.
   length     the line has more than 65,536 bytes
   escape     a backslash in the line begins no escape
   name       the first word is no request
@@ -14,7 +15,7 @@ any refusal. To other lines the two answer the same, byte for byte, except by th
   atmost     the Rust has no such request: its list of any length, then 10 above 256 and 17 above the limit
   record     the Rust has no such request: the FEN's refusals, else the game by scripts/gamerule.py
   panics     where the Rust panics at a 257th entry, its list of any length decides: 17, or what it says; a game goes on
-  hashes     the Rust counts repetitions by hash; a game that meets two positions with one hash is by scripts/gamerule.py
+  hashes     the Rust counts repetitions by hash; a game that meets two positions with one hash is by gamerule.py
 """
 import re
 import subprocess
@@ -183,7 +184,7 @@ def late_flaw(line):
 
 
 class Oracle:
-    """The Rust behind its line protocol, asked many lines at a time."""
+    """The program of oracle/, asked many lines at a time."""
 
     def __init__(self, program):
         self.program = program
