@@ -68,8 +68,8 @@ fn write_into(entry: u64, p: Position, m: Move, out: &mut [u8]) -> Wrote {
     }
 }
 
-// Lends the first n of these bytes, which are dots. A writer that refuses must leave every dot as it is; one that writes
-// must leave the dots after its text.
+// Lends the first n of these bytes, which are dots. A writer that refuses must leave every dot as it is; one that
+// writes must leave the dots after its text.
 fn lend(entry: u64, n: usize, p: Position, m: Move, dots: &mut [u8]) {
     if n <= dots.len() {
         let w = write_into(entry, p, m, &mut dots[..n]);

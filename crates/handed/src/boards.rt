@@ -19,8 +19,8 @@ fn turn_key(side: Color) -> u64 {
     }
 }
 
-// These sets with the hash of the pieces in them, whatever is wrong with the sets. The bits of `wrong` are flipped in the
-// hash.
+// These sets with the hash of the pieces in them, whatever is wrong with the sets. The bits of `wrong` are flipped in
+// the hash.
 pub(crate) fn with_hash(
     white: Bitboard,
     black: Bitboard,

@@ -1,5 +1,5 @@
-// Writes answers. A position is written as its FEN and its hash. One that refusal 12 turns back has no FEN: the refusal is
-// written in its place.
+// Writes answers. A position is written as its FEN and its hash. One that refusal 12 turns back has no FEN: the refusal
+// is written in its place.
 use captures::moves::MoveList;
 use libc::STDOUT_FILENO;
 use movegen::movegen::Listed;

@@ -1,6 +1,6 @@
 // Writes games. A game handed back is written as the number of kept positions, the two counters, and how many of all 51
-// entries are blank. After a play the current position follows, or `as it came` where the game equals the one handed in,
-// unused entries included. After the play of a move text the move handed back comes last.
+// entries are blank. After a play the current position follows, or `as it came` where the game equals the one handed
+// in, unused entries included. After the play of a move text the move handed back comes last.
 use crate::show;
 use games::game::Begun;
 use games::game::Game;
