@@ -1,9 +1,7 @@
 pub mod Told
+pub mod Readings
 pub mod Listing
+pub mod Suffixes
 pub mod Table
 pub mod Sides
 pub mod PlayLaws
-pub mod PlayedGames
-pub mod Lengths
-pub mod Falling
-pub mod Room

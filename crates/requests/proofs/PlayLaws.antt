@@ -4,48 +4,38 @@ use mathlib.Core.Path.{_≡_, refl, ap, sym, _∙_}
 use mathlib.Core.List.{List, [], _∷_, _++_}
 use mathlib.Core.Bool.{Bool, true, false, cond}
 use native.Mathlib.Omega.{arith}
-use lib.Dec.{eqb, leb}
+use lib.Dec.{eqb}
 use lib.ListN.{length, take, drop, length-drop, drop-of-length-le}
-use lib.Seq.{drop-drop}
-use borrow.Author.Tests.{leb-true, leb-false}
-use Rattle.squares.specs.declared.refusal.Refusal.the-variants.{TextTooLong, BadGame, BadMoveText}
+use Rattle.squares.specs.declared.refusal.Refusal.the-variants.{TextTooLong, BadGame}
 use Rattle.positions.specs.Moves.{move}
 use Rattle.positions.specs.declared.position.Position.{Position}
-use Rattle.texts.specs.Bytes.{bytes, is, indexOf, partsAt, upTo, behindOr, afterFirst, consHead, readable}
+use Rattle.texts.specs.Bytes.{bytes, partsAt, upTo, afterOr, afterFirst, consHead, readable, longestText}
 use Rattle.notation.specs.Notation.{readMoveOf}
 use Rattle.games.specs.Games.{valid}
-use Rattle.games.specs.Play.{newOf, refusedPlay}
+use Rattle.games.specs.Play.{newOf}
 use Rattle.games.specs.declared.game.Begun.{Begun}
 use Rattle.games.specs.declared.game.Game.{Game}
-use Rattle.games.specs.declared.game.Played.{Played}
-use Rattle.gametexts.specs.Texts.{playStrOf}
-use Rattle.wording.specs.Escapes.{Plain, text, broken, plain, isPlain, undoneOf, Undid}
+use Rattle.gametexts.specs.Texts.{refusedText, playStrOf}
+use Rattle.gametexts.specs.declared.game.PlayedText.{PlayedText}
+use Rattle.wording.specs.Escapes.{undone, Undid}
 use Rattle.wording.specs.Numbers.{unsignedOf, setOf}
-use Rattle.wording.specs.Output.{bad}
 use Rattle.wording.specs.Words.{firstWord, afterWord}
-use Rattle.wording.specs.declared.escapes.Undone.{Undone}
-use Rattle.wording.specs.declared.escapes.Undone.the-variants as undone
 use Rattle.wording.specs.declared.numbers.Parsed.the-variants as parsed
-use Rattle.requests.specs.Plays.{wordsOf, recordOf, isTextOf, readableOf, allReadable, playPlain, playTextOf, playWordOf, wordTold, gameText, playsAnswer}
+use Rattle.requests.specs.Plays.{wordsOf, recordOf, isRecordOf, allRecords, playTextOf, playWordOf, wordTold, gameText, gameAnswer}
 use Rattle.requests.specs.States.{endText}
 use Rattle.requests.specs.declared.plays.Given.{Given}
 use Rattle.requests.specs.declared.plays.Recorded.the-variants as recorded
-use Rattle.texts.proofs.Cuts.{after-is}
-use Rattle.requests.proofs.Told.{cut, said, said-broken, cut-part}
+use Rattle.requests.proofs.Readings.{cut, cut-part}
+use Rattle.requests.proofs.Suffixes as suffixes
 
--- ---- a word and the words behind it
+-- ---- a word and the words after it
 after-space : (b : ℕ) (t : List ℕ) → eqb b 32 ≡ true → afterWord (b ∷ t) ≡ t
-unfolding afterWord afterFirst behindOr
+unfolding afterWord afterFirst afterOr
 after-space b t e = rw e
 
 after-other : (b : ℕ) (t : List ℕ) → eqb b 32 ≡ false → afterWord (b ∷ t) ≡ afterWord t
-unfolding afterWord afterFirst behindOr
+unfolding afterWord afterFirst afterOr
 after-other b t e = rw e
-
--- the same by places
-after-at : (s : List ℕ) → afterWord s ≡ drop (indexOf (is 32) s + 1) s
-unfolding afterWord
-after-at s = after-is 32 s
 
 step : (b : ℕ) (t : List ℕ) → consHead b (wordsOf t) ≡ (b ∷ firstWord t) ∷ wordsOf (afterWord t) → (q : Bool) → eqb b 32 ≡ q → wordsOf (b ∷ t) ≡ firstWord (b ∷ t) ∷ wordsOf (afterWord (b ∷ t))
 unfolding partsAt firstWord upTo
@@ -53,7 +43,7 @@ step b t h true e = rw (after-space b t e, e)
 step b t h false e = rw (after-other b t e, e) h
 
 heads : (b : ℕ) (t : List ℕ) → consHead b (wordsOf t) ≡ (b ∷ firstWord t) ∷ wordsOf (afterWord t)
-unfolding consHead partsAt firstWord upTo afterWord afterFirst behindOr
+unfolding consHead partsAt firstWord upTo afterWord afterFirst afterOr
 heads b [] = refl
 heads b (c ∷ t) = ap (consHead b) (step c t (heads c t) (eqb c 32) refl)
 
@@ -65,26 +55,14 @@ words-none : (s : List ℕ) (i : ℕ) → length s ≤ i → wordsOf (drop i s) 
 unfolding partsAt
 words-none s i h = rw (drop-of-length-le s h)
 
--- a part at the end is found again by its length
-suffix : (s : List ℕ) (m : ℕ) → drop (length s - length (drop m s)) s ≡ drop m s
-suffix s m = go (leb m (length s)) refl
-  where
-    go : (b : Bool) → leb m (length s) ≡ b → drop (length s - length (drop m s)) s ≡ drop m s
-    go true e =
-        let q : length s - length (drop m s) ≡ m = omega (arith, length-drop m s, leb-true m (length s) e) in
-        ap (λ (n : ℕ). drop n s) q
-    go false e =
-        let h = leb-false m (length s) e in
-        drop-of-length-le s {i = length s - length (drop m s)} (omega (arith, length-drop m s, h)) ∙ sym (drop-of-length-le s {i = m} (omega (arith, h)))
-
 module _ (s : List ℕ) (i : ℕ) where
   after-place : drop (length s - length (afterWord (drop i s))) s ≡ afterWord (drop i s)
-  after-place =
-      let d = after-at (drop i s) ∙ drop-drop (indexOf (is 32) (drop i s) + 1) i s in
-      ap (λ (l : List ℕ). drop (length s - length l) s) d ∙ suffix s (i + (indexOf (is 32) (drop i s) + 1)) ∙ sym d
+  unfolding afterWord
+  after-place = suffixes.after-place 32 s i
 
   pub after-less : i < length s → length (afterWord (drop i s)) < length s - i
-  after-less h = omega (arith, ap length (after-at (drop i s)), length-drop (indexOf (is 32) (drop i s) + 1) (drop i s), length-drop i s)
+  unfolding afterWord
+  after-less h = suffixes.after-less 32 s i h
 
   -- the words from a place on: the first, and those from the next place on
   words-next : i < length s → wordsOf (drop i s) ≡ firstWord (drop i s) ∷ wordsOf (drop (length s - length (afterWord (drop i s))) s)
@@ -93,7 +71,7 @@ module _ (s : List ℕ) (i : ℕ) where
   pub rest-less : (left rest : List ℕ) → left ≡ drop i s → rest ≡ afterWord left → i < length s → length rest < length s - i
   rest-less left rest l r h = omega (arith, ap length r, ap (λ (x : List ℕ). length (afterWord x)) l, after-less h)
 
-  -- what is known of a word and of what stands behind it, by how the code found them
+  -- a word and what comes after it, by how the code found them
   module _ (left word rest : List ℕ) (l : left ≡ drop i s) (w : word ≡ firstWord left) (r : rest ≡ afterWord left) (h : i < length s) where
     words-here : wordsOf (drop i s) ≡ word ∷ wordsOf (drop (length s - length rest) s)
     words-here =
@@ -101,35 +79,30 @@ module _ (s : List ℕ) (i : ℕ) where
         ∙ ap (λ (x : List ℕ). x ∷ wordsOf (drop (length s - length (afterWord left)) s)) (sym w)
         ∙ ap (λ (x : List ℕ). word ∷ wordsOf (drop (length s - length x) s)) (sym r)
 
-    pub readable-next : (g : Given) → readableOf g word ≡ true → allReadable g (wordsOf (drop (length s - length rest) s)) ≡ allReadable g (wordsOf (drop i s))
-    unfolding allReadable
-    readable-next g e = rw (words-here, e)
+    pub records-next : isRecordOf word ≡ true → allRecords (wordsOf (drop (length s - length rest) s)) ≡ allRecords (wordsOf (drop i s))
+    unfolding allRecords
+    records-next e = rw (words-here, e)
 
-    pub game-next : (h : Given) (g : Game) (a : Played) → a ≡ playWordOf h g word → wordTold h g word a ++ gameText h (a .game) (wordsOf (drop (length s - length rest) s)) ≡ gameText h g (wordsOf (drop i s))
+    pub game-next : (h : Given) (g : Game) (a : PlayedText) → a ≡ playWordOf h g word → wordTold h a ++ gameText h (a .game) (wordsOf (drop (length s - length rest) s)) ≡ gameText h g (wordsOf (drop i s))
     unfolding gameText
     game-next h g a e = rw (words-here, e)
 
-  pub readable-stop : (left word : List ℕ) → left ≡ drop i s → word ≡ firstWord left → i < length s → (g : Given) → readableOf g word ≡ false → false ≡ allReadable g (wordsOf (drop i s))
-  unfolding allReadable
-  readable-stop left word l w h g e = rw (words-here left word (afterWord left) l w refl h, e)
+  pub records-stop : (left word : List ℕ) → left ≡ drop i s → word ≡ firstWord left → i < length s → isRecordOf word ≡ false → false ≡ allRecords (wordsOf (drop i s))
+  unfolding allRecords
+  records-stop left word l w h e = rw (words-here left word (afterWord left) l w refl h, e)
 
-pub readable-end : (s : List ℕ) (i : ℕ) (g : Given) → length s ≤ i → true ≡ allReadable g (wordsOf (drop i s))
-unfolding allReadable
-readable-end s i g h = rw (words-none s i h)
+pub records-end : (s : List ℕ) (i : ℕ) → length s ≤ i → true ≡ allRecords (wordsOf (drop i s))
+unfolding allRecords
+records-end s i h = rw (words-none s i h)
 
 pub game-end : (s : List ℕ) (i : ℕ) (h : Given) (g : Game) → length s ≤ i → endText g ≡ gameText h g (wordsOf (drop i s))
 unfolding gameText
 game-end s i h g k = rw (words-none s i k)
 
--- ---- the whole request
-module _ (h : Given) (p : Position) (s : List ℕ) where
-  pub plays-good : (b : Begun) → b ≡ newOf p → allReadable h (wordsOf s) ≡ true → bytes "ok" ++ gameText h (b .game) (wordsOf s) ≡ playsAnswer h p s
-  unfolding playsAnswer
-  plays-good b e q = rw (q, e)
-
-  pub plays-bad : allReadable h (wordsOf s) ≡ false → bad ≡ playsAnswer h p s
-  unfolding playsAnswer
-  plays-bad q = rw q
+-- ---- the whole game
+pub game-whole : (h : Given) (p : Position) (s : List ℕ) (b : Begun) → b ≡ newOf p → bytes "ok" ++ gameText h (b .game) (wordsOf s) ≡ gameAnswer h p s
+unfolding gameAnswer
+game-whole h p s b e = rw e
 
 -- ---- records
 module _ (s : List ℕ) where
@@ -150,34 +123,10 @@ module _ (s : List ℕ) where
   record-whole f t c a b d = rw (a, b, d)
 
 -- ---- texts
-play-refused : (g : Game) (s : List ℕ) → readable s ≡ false → playStrOf g s ≡ cond (valid g) (refusedPlay g TextTooLong) (refusedPlay g BadGame)
+play-refused : (g : Game) (s : List ℕ) → readable longestText s ≡ false → playStrOf g s ≡ cond (valid g) (refusedText g TextTooLong) (refusedText g BadGame)
 unfolding playStrOf readMoveOf
 play-refused g s e = rw e
 
-module _ (s o out : List ℕ) (r : Undone) (u : Undid s o out r) where
-  pub is-text : (n : ℕ) → r ≡ undone.Length n → true ≡ isTextOf s
-  unfolding isTextOf
-  is-text n q = go (plain s) refl
-    where
-      go : (p : Plain) → plain s ≡ p → true ≡ isPlain (plain s)
-      go (text t) e = rw e
-      go broken e = absurd (let w : undone.Length n ≡ undone.Bad = sym q ∙ u .answer ∙ ap (undoneOf (length o)) e in let z : _≡_ {A = ℕ} 0 1 = cc in omega arith)
-
-  pub is-broken : r ≡ undone.Bad → false ≡ isTextOf s
-  unfolding isTextOf
-  is-broken q = go (plain s) refl
-    where
-      go : (p : Plain) → plain s ≡ p → false ≡ isPlain (plain s)
-      go (text t) e = absurd (let w : undone.Bad ≡ undoneOf (length o) (text t) = sym q ∙ u .answer ∙ ap (undoneOf (length o)) e in let z : _≡_ {A = ℕ} 0 1 = cc in omega arith)
-      go broken e = rw e
-
-module _ (s o out : List ℕ) (r : Undone) (long : length o ≡ 4097) (u : Undid s o out r) where
-  pub text-played : (g : Game) (n : ℕ) (a : Played) → r ≡ undone.Length n → a ≡ playStrOf g (take n out) → a ≡ playTextOf g s
-  unfolding playTextOf
-  text-played g n a q e =
-      let w = said s o out r long u n q in
-      e ∙ ap (playStrOf g) (cut-part s o out r long u n w) ∙ cut (playStrOf g) _ (play-refused g) (w .done) ∙ sym (ap (playPlain g) (w .whole))
-
-  pub text-unread : (g : Game) (a : Played) → r ≡ undone.Bad → a ≡ refusedPlay g BadMoveText → a ≡ playTextOf g s
-  unfolding playTextOf
-  text-unread g a q e = e ∙ sym (ap (playPlain g) (said-broken s o out r long u q))
+pub text-played : (s o out : List ℕ) (n : ℕ) → length o ≡ 4097 → Undid s o out n → (g : Game) (a : PlayedText) → a ≡ playStrOf g (take n out) → a ≡ playTextOf g s
+unfolding playTextOf
+text-played s o out n long u g a e = e ∙ ap (playStrOf g) (cut-part s o out n long u) ∙ cut (playStrOf g) _ (play-refused g) (undone s)

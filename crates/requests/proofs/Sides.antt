@@ -7,7 +7,7 @@ use lib.ListN.{length, getD}
 use Rattle.squares.specs.Pieces.{colorFromCharOf}
 use Rattle.squares.specs.declared.piece.Sided.the-variants as sided
 use Rattle.squares.specs.declared.refusal.Refusal.the-variants.{NoSide}
-use Rattle.requests.specs.Requests.{sideOf}
+use Rattle.requests.specs.Asked.{sideOf}
 
 pub side-one : (s : List ℕ) → length s ≡ 1 → sideOf s ≡ colorFromCharOf (getD s 0 0)
 unfolding sideOf

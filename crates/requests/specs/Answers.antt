@@ -1,4 +1,4 @@
--- What is told of a position.
+-- What is written of a position, a move, a list of moves or a count.
 use Prim.Native.Nat.{ℕ, zero, suc, min}
 use Prim.Native.Char.{code}
 use mathlib.Core.List.{List, [], _∷_, _++_}
@@ -12,14 +12,11 @@ use Rattle.positions.specs.declared.moves.Move.{Move}
 use Rattle.captures.specs.Lists.{blank}
 use Rattle.positions.specs.Boards.{boardOf}
 use Rattle.positions.specs.Acceptance.{sound}
-use Rattle.positions.specs.Flip.{flippedOf}
-use Rattle.scores.specs.Score.{default, evaluateOf}
 use Rattle.positions.specs.declared.position.Position.{Position}
 use Rattle.positions.specs.declared.position.Placed.{Placed}
 use Rattle.positions.specs.declared.position.Placed.the-variants as placed
 use Rattle.scores.specs.declared.eval.Scored.{Scored}
 use Rattle.scores.specs.declared.eval.Scored.the-variants as scored
-use Rattle.movegen.specs.Lists.{legalMovesOf, hasCapturesOf, hasQuietMovesOf}
 use Rattle.movegen.specs.declared.movegen.Listed.{Listed}
 use Rattle.movegen.specs.declared.perft.Divided.{Divided}
 use Rattle.movegen.specs.declared.movegen.Tested.{Tested}
@@ -31,8 +28,6 @@ use Rattle.texts.specs.Fen.{fenText}
 use Rattle.texts.specs.Hub.{hubText}
 use Rattle.notation.specs.MoveText.{moveText}
 use Rattle.wording.specs.Output.{decimal, hex, hash, signed, refusalText}
-use Rattle.requests.specs.declared.answers.Asked.{Asked}
-use Rattle.requests.specs.declared.answers.Asked.the-variants as asked
 
 abbrev pub ok : List ℕ → List ℕ
 ok t = bytes "ok " ++ t
@@ -119,15 +114,3 @@ moveAnswer m = ok (moveWord m ++ (code " " ∷ recordWord m))
 abbrev pub afterAnswer : Placed → List ℕ
 afterAnswer (placed.Position p) = fenAnswer p ++ (code " " ∷ hash (p .hash))
 afterAnswer (placed.Refused e) = refusalText e
-
--- ---- by what is asked
-abbrev pub answerTo : Asked → Position → List ℕ
-answerTo asked.Fen p = fenAnswer p
-answerTo asked.Hub p = hubAnswer p
-answerTo asked.Bits p = bitsAnswer p
-answerTo asked.Moves p = listAnswer (legalMovesOf p 256)
-answerTo asked.Eval p = scoredAnswer (evaluateOf default p)
-answerTo asked.Hash p = hashAnswer p
-answerTo asked.Flip p = placedAnswer (flippedOf p)
-answerTo asked.Caps p = testedAnswer (hasCapturesOf p)
-answerTo asked.Quiet p = testedAnswer (hasQuietMovesOf p)

@@ -3,11 +3,9 @@
 use Prim.Native.Nat.{ℕ}
 use Prim.Native.Char.{code}
 use mathlib.Core.List.{List, [], _∷_, _++_}
-use Rattle.squares.specs.Refusals.{numberOf}
 use Rattle.squares.specs.declared.piece.Color.the-variants.{White, Black}
 use Rattle.squares.specs.declared.refusal.Answer.{Answer}
 use Rattle.squares.specs.declared.refusal.Answer.the-variants as answer
-use Rattle.squares.specs.declared.refusal.Refusal.{Refusal}
 use Rattle.positions.specs.declared.position.Placed.{Placed}
 use Rattle.positions.specs.declared.position.Placed.the-variants as placed
 use Rattle.movegen.specs.declared.movegen.Listed.{Listed}
@@ -23,7 +21,7 @@ use Rattle.games.specs.declared.game.Termination.{Termination}
 use Rattle.games.specs.declared.game.Termination.the-variants.{NoMoves, Repetition, TwentyFiveMoves, SixteenMoves, FiveMoves}
 use Rattle.games.specs.declared.game.Winner.{Winner}
 use Rattle.games.specs.declared.game.Winner.the-variants as winner
-use Rattle.wording.specs.Output.{decimal}
+use Rattle.wording.specs.Output.{decimal, numberWord}
 use Rattle.requests.specs.Answers.{fenWord}
 
 -- ---- the outcome
@@ -65,10 +63,6 @@ stateText mark g =
 abbrev pub standWord : Placed → List ℕ
 standWord (placed.Position p) = fenWord p
 standWord (placed.Refused e) = []
-
--- a refusal inside a game
-unfoldable pub numberWord : Refusal → List ℕ
-numberWord e = code "!" ∷ decimal (numberOf e)
 
 abbrev pub lengthWord : Answer → ℕ → List ℕ
 lengthWord answer.Done n = decimal n

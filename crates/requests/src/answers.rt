@@ -1,4 +1,4 @@
-// What is told of a position.
+// What is written of a position, a move, a list of moves or a count: `ok` and the answer, or the refusal.
 use captures::moves::MAX_MOVES;
 use captures::moves::MoveList;
 use movegen::movegen::Listed;
@@ -8,7 +8,6 @@ use movegen::perft::Divided;
 use positions::moves::Move;
 use positions::position::Placed;
 use positions::position::Position;
-use scores::eval;
 use scores::eval::Scored;
 use squares::refusal::Answer;
 use texts::bytes::Wrote;
@@ -19,20 +18,7 @@ ghost use mathlib.Core.Path.{_≡_};
 ghost use Prim.Native.Nat.{min};
 ghost use Rattle.texts.specs.Lent.{Adds};
 ghost use Rattle.texts.specs.Bytes.{bytes};
-ghost use Rattle.requests.specs.Answers.{yesNo, setWord, fenWord, hubWord, bitsAnswer, scoredAnswer, testedAnswer, countedAnswer, fenAnswer, hubAnswer, hashAnswer, placedAnswer, moveWord, movesText, countsText, listAnswer, dividedAnswer, recordWord, moveAnswer, afterAnswer, answerTo};
-
-// What a request asks of a position.
-pub enum Asked {
-    Fen,
-    Hub,
-    Bits,
-    Moves,
-    Eval,
-    Hash,
-    Flip,
-    Caps,
-    Quiet,
-}
+ghost use Rattle.requests.specs.Answers.{yesNo, setWord, fenWord, hubWord, bitsAnswer, scoredAnswer, testedAnswer, countedAnswer, fenAnswer, hubAnswer, hashAnswer, placedAnswer, moveWord, movesText, countsText, listAnswer, dividedAnswer, recordWord, moveAnswer, afterAnswer};
 
 pub(crate) fn put_fen(out: &mut [u8], at: usize, p: Position) -> usize
     ensures { λ r. ⌜ Adds (fenWord p) (now (out .entry)) at (now (out .exit)) r ⌝ }
@@ -60,21 +46,21 @@ pub(crate) fn put_ok(out: &mut [u8], at: usize) -> usize
     output::put(out, at, b"ok ")
 }
 
-fn tell_fen(out: &mut [u8], at: usize, p: Position) -> usize
+pub(crate) fn tell_fen(out: &mut [u8], at: usize, p: Position) -> usize
     ensures { λ r. ⌜ Adds (fenAnswer p) (now (out .entry)) at (now (out .exit)) r ⌝ }
 {
     let k = put_ok(out, at);
     put_fen(out, k, p)
 }
 
-fn tell_hub(out: &mut [u8], at: usize, p: Position) -> usize
+pub(crate) fn tell_hub(out: &mut [u8], at: usize, p: Position) -> usize
     ensures { λ r. ⌜ Adds (hubAnswer p) (now (out .entry)) at (now (out .exit)) r ⌝ }
 {
     let k = put_ok(out, at);
     put_hub(out, k, p)
 }
 
-fn tell_hash(out: &mut [u8], at: usize, p: Position) -> usize
+pub(crate) fn tell_hash(out: &mut [u8], at: usize, p: Position) -> usize
     ensures { λ r. ⌜ Adds (hashAnswer p) (now (out .entry)) at (now (out .exit)) r ⌝ }
 {
     let k = put_ok(out, at);
@@ -89,7 +75,7 @@ fn put_set(out: &mut [u8], at: usize, set: u64) -> usize
     output::put_byte(out, k, b' ')
 }
 
-fn tell_bits(out: &mut [u8], at: usize, p: Position) -> usize
+pub(crate) fn tell_bits(out: &mut [u8], at: usize, p: Position) -> usize
     ensures { λ r. ⌜ Adds (bitsAnswer p) (now (out .entry)) at (now (out .exit)) r ⌝ }
 {
     let side = p.side;
@@ -130,7 +116,7 @@ fn yes_no(yes: bool) -> u8
     if yes { b'1' } else { b'0' }
 }
 
-fn tell_tested(out: &mut [u8], at: usize, t: Tested) -> usize
+pub(crate) fn tell_tested(out: &mut [u8], at: usize, t: Tested) -> usize
     ensures { λ r. ⌜ Adds (testedAnswer t) (now (out .entry)) at (now (out .exit)) r ⌝ }
 {
     match t {
@@ -269,21 +255,5 @@ pub(crate) fn tell_after(out: &mut [u8], at: usize, p: Placed) -> usize
             output::put_hash(out, blank, q.hash)
         }
         Placed::Refused(e) => output::put_refusal(out, at, e),
-    }
-}
-
-pub(crate) fn tell(asked: Asked, p: Position, out: &mut [u8], at: usize) -> usize
-    ensures { λ r. ⌜ Adds (answerTo asked p) (now (out .entry)) at (now (out .exit)) r ⌝ }
-{
-    match asked {
-        Asked::Fen => tell_fen(out, at, p),
-        Asked::Hub => tell_hub(out, at, p),
-        Asked::Bits => tell_bits(out, at, p),
-        Asked::Moves => tell_list(out, at, movegen::movegen::legal_moves(p, MAX_MOVES)),
-        Asked::Eval => tell_scored(out, at, eval::evaluate(p)),
-        Asked::Hash => tell_hash(out, at, p),
-        Asked::Flip => tell_placed(out, at, p.flipped()),
-        Asked::Caps => tell_tested(out, at, movegen::movegen::has_captures(p)),
-        Asked::Quiet => tell_tested(out, at, movegen::movegen::has_quiet_moves(p)),
     }
 }

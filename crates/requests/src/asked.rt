@@ -1,15 +1,12 @@
-// The requests: what each reads, in its order, and what it then tells.
+// The requests about a position or a square, one function each.
+//
+// The position that a request is about comes as what was read of its text. If that is a refusal, the refusal is the answer.
 use crate::answers;
-use crate::answers::Asked;
-use crate::heard;
-use crate::heard::Form;
-use crate::heard::Heard;
-use crate::heard::Meant;
-use crate::heard::Placing;
-use crate::plays;
-use crate::plays::Given;
+use crate::reading;
+use crate::reading::Form;
+use notation::notation::Found;
 use positions::position;
-use positions::position::Position;
+use positions::position::Placed;
 use scores::eval::Classical;
 use squares::piece::Color;
 use squares::piece::Sided;
@@ -19,125 +16,126 @@ use wording::numbers;
 use wording::numbers::Parsed;
 use wording::numbers::Signed;
 use wording::output;
+use wording::output::Flaw;
 use wording::words;
 ghost use mathlib.Core.Path.{_≡_};
 ghost use Rattle.texts.specs.Lent.{Adds};
-ghost use Rattle.requests.specs.Requests.{numberWord, squareAnswer, sideOf, partsAnswer, setsAnswer, parsedAnswer, successorAnswer, depthAnswer, splitAnswer, workAnswer, heardAnswer, restAnswer, atmostAnswer, weightsOf, evalwAnswer};
+ghost use Rattle.requests.specs.Asked.{fenRequest, hubRequest, numberedWord, squareRequest, sideOf, setsAnswer, partsRequest, bitsRequest, movesRequest, atmostRequest, parseRequest, afterRequest, perftRequest, divideRequest, evalRequest, weightsOf, evalwRequest, hashRequest, flipRequest, capsRequest, quietRequest};
 
-// What is done with a position: something is told of it alone, or with the rest of the line, or by a limit or weights.
-pub enum Task {
-    Tell(Asked),
-    Parse,
-    After,
-    Perft,
-    Divide,
-    Limit(usize),
-    Weigh(Classical),
-    Play,
-    Record,
-    Outcome,
+pub(crate) fn fen(p: Placed, out: &mut [u8], at: usize) -> usize
+    ensures { λ r. ⌜ Adds (fenRequest p) (now (out .entry)) at (now (out .exit)) r ⌝ }
+{
+    answers::tell_placed(out, at, p)
 }
 
-fn parsed(p: Position, word: &[u8], out: &mut [u8], at: usize) -> usize
-    ensures { λ r. ⌜ Adds (parsedAnswer p (now (word .entry))) (now (out .entry)) at (now (out .exit)) r ⌝ }
+pub(crate) fn hub(p: Placed, out: &mut [u8], at: usize) -> usize
+    ensures { λ r. ⌜ Adds (hubRequest p) (now (out .entry)) at (now (out .exit)) r ⌝ }
 {
-    match heard::listed_move(p, word) {
-        Meant::Move(m) => answers::tell_move(out, at, m),
-        Meant::Refused(e) => output::put_refusal(out, at, e),
-        Meant::Bad => output::put_bad(out, at),
+    match p {
+        Placed::Position(q) => answers::tell_hub(out, at, q),
+        Placed::Refused(e) => output::put_refusal(out, at, e),
     }
 }
 
-fn successor(p: Position, word: &[u8], out: &mut [u8], at: usize) -> usize
-    ensures { λ r. ⌜ Adds (successorAnswer p (now (word .entry))) (now (out .entry)) at (now (out .exit)) r ⌝ }
+pub(crate) fn bits(p: Placed, out: &mut [u8], at: usize) -> usize
+    ensures { λ r. ⌜ Adds (bitsRequest p) (now (out .entry)) at (now (out .exit)) r ⌝ }
 {
-    match heard::listed_move(p, word) {
-        Meant::Move(m) => answers::tell_after(out, at, movegen::movegen::after(p, m)),
-        Meant::Refused(e) => output::put_refusal(out, at, e),
-        Meant::Bad => output::put_bad(out, at),
+    match p {
+        Placed::Position(q) => answers::tell_bits(out, at, q),
+        Placed::Refused(e) => output::put_refusal(out, at, e),
     }
 }
 
-// A depth of 32 bits.
-fn counted(p: Position, word: &[u8], out: &mut [u8], at: usize) -> usize
-    ensures { λ r. ⌜ Adds (depthAnswer p (now (word .entry))) (now (out .entry)) at (now (out .exit)) r ⌝ }
+// The legal moves, if there are no more than the limit.
+pub(crate) fn moves(p: Placed, limit: usize, out: &mut [u8], at: usize) -> usize
+    ensures { λ r. ⌜ Adds (movesRequest p limit) (now (out .entry)) at (now (out .exit)) r ⌝ }
 {
-    match numbers::unsigned(word) {
-        Parsed::Value(n) => answers::tell_counted(out, at, movegen::perft::perft(p, n as u32)),
-        Parsed::Bad => output::put_bad(out, at),
+    match p {
+        Placed::Position(q) => {
+            answers::tell_list(out, at, movegen::movegen::legal_moves(q, limit))
+        }
+        Placed::Refused(e) => output::put_refusal(out, at, e),
     }
 }
 
-fn split(p: Position, word: &[u8], out: &mut [u8], at: usize) -> usize
-    ensures { λ r. ⌜ Adds (splitAnswer p (now (word .entry))) (now (out .entry)) at (now (out .exit)) r ⌝ }
-{
-    match numbers::unsigned(word) {
-        Parsed::Value(n) => answers::tell_divided(out, at, movegen::perft::divide(p, n as u32)),
-        Parsed::Bad => output::put_bad(out, at),
-    }
-}
-
-fn work(task: Task, p: Position, rest: &[u8], out: &mut [u8], at: usize) -> usize
-    ensures { λ r. ⌜ Adds (workAnswer task p (now (rest .entry))) (now (out .entry)) at (now (out .exit)) r ⌝ }
-{
-    match task {
-        Task::Tell(asked) => answers::tell(asked, p, out, at),
-        Task::Parse => parsed(p, rest, out, at),
-        Task::After => successor(p, rest, out, at),
-        Task::Perft => counted(p, rest, out, at),
-        Task::Divide => split(p, rest, out, at),
-        Task::Limit(limit) => answers::tell_list(out, at, movegen::movegen::legal_moves(p, limit)),
-        Task::Weigh(w) => answers::tell_scored(out, at, w.evaluate(p)),
-        Task::Play => plays::plays(Given::Text, p, rest, out, at),
-        Task::Record => plays::plays(Given::Record, p, rest, out, at),
-        Task::Outcome => plays::fresh(p, out, at),
-    }
-}
-
-// The position is read before the rest of the line.
-pub(crate) fn about(
-    task: Task,
-    form: Form,
-    word: &[u8],
-    rest: &[u8],
-    out: &mut [u8],
-    at: usize,
-) -> usize
-    ensures { λ r. ⌜ Adds (heardAnswer task form (now (word .entry)) (now (rest .entry))) (now (out .entry)) at (now (out .exit)) r ⌝ }
-{
-    match heard::position(form, word) {
-        Heard::Position(p) => work(task, p, rest, out, at),
-        Heard::Refused(e) => output::put_refusal(out, at, e),
-        Heard::Bad => output::put_bad(out, at),
-    }
-}
-
-// A FEN word, then the rest of the line.
-pub(crate) fn with_rest(task: Task, arg: &[u8], out: &mut [u8], at: usize) -> usize
-    ensures { λ r. ⌜ Adds (restAnswer task (now (arg .entry))) (now (out .entry)) at (now (out .exit)) r ⌝ }
-{
-    about(
-        task,
-        Form::Either,
-        words::first(arg),
-        words::rest(arg),
-        out,
-        at,
-    )
-}
-
-// The limit stands before the FEN and is read first.
+// The limit is the first word and is read before the position.
 pub(crate) fn atmost(arg: &[u8], out: &mut [u8], at: usize) -> usize
-    ensures { λ r. ⌜ Adds (atmostAnswer (now (arg .entry))) (now (out .entry)) at (now (out .exit)) r ⌝ }
+    ensures { λ r. ⌜ Adds (atmostRequest (now (arg .entry))) (now (out .entry)) at (now (out .exit)) r ⌝ }
 {
-    let fen = words::rest(arg);
     match numbers::unsigned(words::first(arg)) {
-        Parsed::Value(n) => about(Task::Limit(n as usize), Form::Either, fen, fen, out, at),
-        Parsed::Bad => output::put_bad(out, at),
+        Parsed::Value(n) => moves(
+            reading::position(Form::Either, words::rest(arg)),
+            n as usize,
+            out,
+            at,
+        ),
+        Parsed::Bad => output::put_bad(out, at, Flaw::Number),
     }
 }
 
-// Five weights, or that one of them is no number.
+pub(crate) fn parse(p: Placed, text: &[u8], out: &mut [u8], at: usize) -> usize
+    ensures { λ r. ⌜ Adds (parseRequest p (now (text .entry))) (now (out .entry)) at (now (out .exit)) r ⌝ }
+{
+    match p {
+        Placed::Position(q) => match reading::listed_move(q, text) {
+            Found::Move(m) => answers::tell_move(out, at, m),
+            Found::Refused(e) => output::put_refusal(out, at, e),
+        },
+        Placed::Refused(e) => output::put_refusal(out, at, e),
+    }
+}
+
+pub(crate) fn after(p: Placed, text: &[u8], out: &mut [u8], at: usize) -> usize
+    ensures { λ r. ⌜ Adds (afterRequest p (now (text .entry))) (now (out .entry)) at (now (out .exit)) r ⌝ }
+{
+    match p {
+        Placed::Position(q) => match reading::listed_move(q, text) {
+            Found::Move(m) => answers::tell_after(out, at, movegen::movegen::after(q, m)),
+            Found::Refused(e) => output::put_refusal(out, at, e),
+        },
+        Placed::Refused(e) => output::put_refusal(out, at, e),
+    }
+}
+
+pub(crate) fn perft(p: Placed, depth: &[u8], out: &mut [u8], at: usize) -> usize
+    ensures { λ r. ⌜ Adds (perftRequest p (now (depth .entry))) (now (out .entry)) at (now (out .exit)) r ⌝ }
+{
+    match p {
+        Placed::Position(q) => match numbers::unsigned(depth) {
+            Parsed::Value(n) => {
+                answers::tell_counted(out, at, movegen::perft::perft(q, n as u32))
+            }
+            Parsed::Bad => output::put_bad(out, at, Flaw::Number),
+        },
+        Placed::Refused(e) => output::put_refusal(out, at, e),
+    }
+}
+
+pub(crate) fn divide(p: Placed, depth: &[u8], out: &mut [u8], at: usize) -> usize
+    ensures { λ r. ⌜ Adds (divideRequest p (now (depth .entry))) (now (out .entry)) at (now (out .exit)) r ⌝ }
+{
+    match p {
+        Placed::Position(q) => match numbers::unsigned(depth) {
+            Parsed::Value(n) => {
+                answers::tell_divided(out, at, movegen::perft::divide(q, n as u32))
+            }
+            Parsed::Bad => output::put_bad(out, at, Flaw::Number),
+        },
+        Placed::Refused(e) => output::put_refusal(out, at, e),
+    }
+}
+
+// The score with these weights.
+pub(crate) fn eval(p: Placed, weights: Classical, out: &mut [u8], at: usize) -> usize
+    ensures { λ r. ⌜ Adds (evalRequest p weights) (now (out .entry)) at (now (out .exit)) r ⌝ }
+{
+    match p {
+        Placed::Position(q) => answers::tell_scored(out, at, weights.evaluate(q)),
+        Placed::Refused(e) => output::put_refusal(out, at, e),
+    }
+}
+
+// The five weights, or `Bad` where one of them is not a number.
 pub enum Weights {
     Classical(Classical),
     Bad,
@@ -170,23 +168,63 @@ fn read_weights(arg: &[u8]) -> Weights
     })
 }
 
-// The weights are read before the FEN.
+// The weights come after the position and are read before it.
 pub(crate) fn evalw(arg: &[u8], out: &mut [u8], at: usize) -> usize
-    ensures { λ r. ⌜ Adds (evalwAnswer (now (arg .entry))) (now (out .entry)) at (now (out .exit)) r ⌝ }
+    ensures { λ r. ⌜ Adds (evalwRequest (now (arg .entry))) (now (out .entry)) at (now (out .exit)) r ⌝ }
 {
     if words::blanks(arg) != 5 {
-        return output::put_bad(out, at);
+        return output::put_bad(out, at, Flaw::Words);
     }
-    let fen = words::first(arg);
     match read_weights(arg) {
-        Weights::Classical(w) => about(Task::Weigh(w), Form::Either, fen, fen, out, at),
-        Weights::Bad => output::put_bad(out, at),
+        Weights::Classical(w) => eval(
+            reading::position(Form::Either, words::first(arg)),
+            w,
+            out,
+            at,
+        ),
+        Weights::Bad => output::put_bad(out, at, Flaw::Number),
     }
 }
 
-// A square's number, bit or row.
-fn put_number(out: &mut [u8], at: usize, n: Numbered) -> usize
-    ensures { λ r. ⌜ Adds (numberWord n) (now (out .entry)) at (now (out .exit)) r ⌝ }
+pub(crate) fn hash(p: Placed, out: &mut [u8], at: usize) -> usize
+    ensures { λ r. ⌜ Adds (hashRequest p) (now (out .entry)) at (now (out .exit)) r ⌝ }
+{
+    match p {
+        Placed::Position(q) => answers::tell_hash(out, at, q),
+        Placed::Refused(e) => output::put_refusal(out, at, e),
+    }
+}
+
+pub(crate) fn flip(p: Placed, out: &mut [u8], at: usize) -> usize
+    ensures { λ r. ⌜ Adds (flipRequest p) (now (out .entry)) at (now (out .exit)) r ⌝ }
+{
+    match p {
+        Placed::Position(q) => answers::tell_placed(out, at, q.flipped()),
+        Placed::Refused(e) => output::put_refusal(out, at, e),
+    }
+}
+
+pub(crate) fn caps(p: Placed, out: &mut [u8], at: usize) -> usize
+    ensures { λ r. ⌜ Adds (capsRequest p) (now (out .entry)) at (now (out .exit)) r ⌝ }
+{
+    match p {
+        Placed::Position(q) => answers::tell_tested(out, at, movegen::movegen::has_captures(q)),
+        Placed::Refused(e) => output::put_refusal(out, at, e),
+    }
+}
+
+pub(crate) fn quiet(p: Placed, out: &mut [u8], at: usize) -> usize
+    ensures { λ r. ⌜ Adds (quietRequest p) (now (out .entry)) at (now (out .exit)) r ⌝ }
+{
+    match p {
+        Placed::Position(q) => answers::tell_tested(out, at, movegen::movegen::has_quiet_moves(q)),
+        Placed::Refused(e) => output::put_refusal(out, at, e),
+    }
+}
+
+// A square's bit or row.
+fn put_numbered(out: &mut [u8], at: usize, n: Numbered) -> usize
+    ensures { λ r. ⌜ Adds (numberedWord n) (now (out .entry)) at (now (out .exit)) r ⌝ }
 {
     match n {
         Numbered::Number(k) => output::put_decimal(out, at, k as u64),
@@ -195,24 +233,23 @@ fn put_number(out: &mut [u8], at: usize, n: Numbered) -> usize
 }
 
 // The number, the bit and the row of a square.
-pub(crate) fn square(word: &[u8], out: &mut [u8], at: usize) -> usize
-    ensures { λ r. ⌜ Adds (squareAnswer (now (word .entry))) (now (out .entry)) at (now (out .exit)) r ⌝ }
+pub(crate) fn square(n: Numbered, out: &mut [u8], at: usize) -> usize
+    ensures { λ r. ⌜ Adds (squareRequest n) (now (out .entry)) at (now (out .exit)) r ⌝ }
 {
-    match heard::square(word) {
-        Placing::Square(k) => {
+    match n {
+        Numbered::Number(k) => {
             let mut to = answers::put_ok(out, at);
             to = output::put_decimal(out, to, k as u64);
             to = output::put_byte(out, to, b' ');
-            to = put_number(out, to, squares::square::bit(k));
+            to = put_numbered(out, to, squares::square::bit(k));
             to = output::put_byte(out, to, b' ');
-            put_number(out, to, squares::square::row(k))
+            put_numbered(out, to, squares::square::row(k))
         }
-        Placing::Refused(e) => output::put_refusal(out, at, e),
-        Placing::Bad => output::put_bad(out, at),
+        Numbered::Refused(e) => output::put_refusal(out, at, e),
     }
 }
 
-// The side of a word: W or B alone.
+// The side that a word means: W or B alone.
 fn side(word: &[u8]) -> Sided
     ensures { λ r. ⌜ r ≡ sideOf (now (word .entry)) ⌝ }
 {
@@ -222,32 +259,32 @@ fn side(word: &[u8]) -> Sided
     Sided::Refused(Refusal::NoSide)
 }
 
-// Three sets and a side.
+// The position of three sets and a side.
 fn sets(arg: &[u8], out: &mut [u8], at: usize) -> usize
     ensures { λ r. ⌜ Adds (setsAnswer (now (arg .entry))) (now (out .entry)) at (now (out .exit)) r ⌝ }
 {
     let Parsed::Value(white) = numbers::set(words::word(arg, 0)) else {
-        return output::put_bad(out, at);
+        return output::put_bad(out, at, Flaw::Number);
     };
     let Parsed::Value(black) = numbers::set(words::word(arg, 1)) else {
-        return output::put_bad(out, at);
+        return output::put_bad(out, at, Flaw::Number);
     };
     let Parsed::Value(kings) = numbers::set(words::word(arg, 2)) else {
-        return output::put_bad(out, at);
+        return output::put_bad(out, at, Flaw::Number);
     };
     match side(words::word(arg, 3)) {
         Sided::Side(c) => {
             answers::tell_placed(out, at, position::from_parts(white, black, kings, c))
         }
-        Sided::Refused(_) => output::put_bad(out, at),
+        Sided::Refused(_) => output::put_bad(out, at, Flaw::Side),
     }
 }
 
 pub(crate) fn parts(arg: &[u8], out: &mut [u8], at: usize) -> usize
-    ensures { λ r. ⌜ Adds (partsAnswer (now (arg .entry))) (now (out .entry)) at (now (out .exit)) r ⌝ }
+    ensures { λ r. ⌜ Adds (partsRequest (now (arg .entry))) (now (out .entry)) at (now (out .exit)) r ⌝ }
 {
     if words::blanks(arg) == 3 {
         return sets(arg, out, at);
     }
-    output::put_bad(out, at)
+    output::put_bad(out, at, Flaw::Words)
 }

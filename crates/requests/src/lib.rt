@@ -1,7 +1,14 @@
-// The requests of the program `dame`: one a line, one answer line each, in the form of the Rust's line protocol.
+// The line protocol of `dame` (docs/PROTOCOL.md): what each request reads and what is answered.
+//
+//   requests   the table of the requests; the answer to a line
+//   asked      one function for each request about a position or a square
+//   plays      the requests about games
+//   reading    the texts of a request, their escapes undone, as positions, moves and squares
+//   answers    what is written of a position, a move, a list or a count
+//   states     what is written of a game
 mod answers;
 mod asked;
-mod heard;
 mod plays;
+mod reading;
 pub mod requests;
 mod states;

@@ -1,14 +1,13 @@
-// Games: `play FEN TEXT TEXT ..`, `record FEN F,T,S F,T,S ..` and `outcome FEN`. A record is the numbers of a move's first and
-// last square and its set in hexadecimal. `play` tells ` HUB/OUTCOME/COUNT1/COUNT2/TIMES` of each text, or ` !N` where it is
-// refused; `record` tells ` N` of each record, 0 where it is accepted. Both end with ` | FEN OUTCOME COUNT1 COUNT2 TIMES MOVES`.
-// A word that is no text or no record breaks the whole request.
+// The requests about games: `play FEN TEXT ..`, `record FEN FIRST,LAST,SET ..` and `outcome FEN`.
+//
+// `play` and `record` begin a game from the position and play every word in order. A text is a move text. A record is the numbers of
+// a move's first and last square and its set in hexadecimal. `play` writes ` HUB/OUTCOME/COUNT1/COUNT2/TIMES` for each text, or ` !N`
+// where it is refused; `record` writes ` N` for each record, 0 where it is accepted. Both end with
+// ` | FEN OUTCOME COUNT1 COUNT2 TIMES MOVES`.
 use crate::answers;
-use crate::heard;
-use crate::heard::Meant;
 use crate::states;
-use games::game;
 use games::game::Game;
-use games::game::Played;
+use gametexts::game::PlayedText;
 use positions::moves::Move;
 use positions::position::Placed;
 use positions::position::Position;
@@ -16,16 +15,14 @@ use squares::refusal::Answer;
 use squares::refusal::Refusal;
 use texts::bytes;
 use wording::escapes;
-use wording::escapes::Undone;
 use wording::numbers;
 use wording::numbers::Parsed;
 use wording::output;
+use wording::output::Flaw;
 use wording::words;
 ghost use mathlib.Core.Path.{_≡_};
-ghost use Rattle.squares.specs.declared.refusal.Refusal.the-variants.{BadMoveText};
-ghost use Rattle.games.specs.Play.{refusedPlay};
 ghost use Rattle.texts.specs.Lent.{Adds};
-ghost use Rattle.requests.specs.Plays.{recordOf, isTextOf, isRecordOf, readableOf, allReadable, wordsOf, playTextOf, playRecordOf, playWordOf, meantWord, moveOfWord, textTold, recordTold, wordTold, gameText, playsAnswer, freshAnswer};
+ghost use Rattle.requests.specs.Plays.{recordOf, isRecordOf, allRecords, wordsOf, playTextOf, playRecordOf, playWordOf, textTold, recordTold, wordTold, gameText, gameAnswer, playRequest, recordRequest, outcomeRequest};
 
 // How the plays of a game are given.
 pub enum Given {
@@ -33,7 +30,7 @@ pub enum Given {
     Record,
 }
 
-// The move of a record, or that it is none.
+// The move of a record, or `Bad` where a part of it is not a number.
 pub enum Recorded {
     Move(Move),
     Bad,
@@ -69,33 +66,13 @@ fn is_record(word: &[u8]) -> bool
     }
 }
 
-// Whether every escape of a word is one.
-fn is_text(word: &[u8]) -> bool
-    ensures { λ r. ⌜ r ≡ isTextOf (now (word .entry)) ⌝ }
-{
-    let mut space = [0u8; 1];
-    match escapes::unescape(word, &mut space) {
-        Undone::Length(_) => true,
-        Undone::Bad => false,
-    }
-}
-
-fn is_readable(given: Given, word: &[u8]) -> bool
-    ensures { λ r. ⌜ r ≡ readableOf given (now (word .entry)) ⌝ }
-{
-    match given {
-        Given::Text => is_text(word),
-        Given::Record => is_record(word),
-    }
-}
-
-fn all_readable(given: Given, s: &[u8]) -> bool
-    ensures { λ r. ⌜ r ≡ allReadable given (wordsOf (now (s .entry))) ⌝ }
+fn all_records(s: &[u8]) -> bool
+    ensures { λ r. ⌜ r ≡ allRecords (wordsOf (now (s .entry))) ⌝ }
 {
     let mut i = 0;
     while i < s.len() {
         let left = &s[i..];
-        if is_readable(given, words::first(left)) {
+        if is_record(words::first(left)) {
             i = s.len() - words::rest(left).len();
         } else {
             return false;
@@ -104,33 +81,25 @@ fn all_readable(given: Given, s: &[u8]) -> bool
     true
 }
 
-// A word that is none is not played: such a request is broken.
-fn unread(g: Game) -> Played
-    ensures { λ r. ⌜ r ≡ refusedPlay g BadMoveText ⌝ }
-{
-    game::not_played(g, Refusal::BadMoveText)
-}
-
-fn play_text(g: Game, word: &[u8]) -> Played
+fn play_text(g: Game, word: &[u8]) -> PlayedText
     ensures { λ r. ⌜ r ≡ playTextOf g (now (word .entry)) ⌝ }
 {
     let mut space = [0u8; 4097];
-    match escapes::unescape(word, &mut space) {
-        Undone::Length(n) => gametexts::game::play_str(g, &space[..n]),
-        Undone::Bad => unread(g),
-    }
+    let n = escapes::unescape(word, &mut space);
+    gametexts::game::play_str(g, &space[..n])
 }
 
-fn play_record(g: Game, word: &[u8]) -> Played
+// A word that is no record is not played. `record` answers a line with such a word before it plays any.
+fn play_record(g: Game, word: &[u8]) -> PlayedText
     ensures { λ r. ⌜ r ≡ playRecordOf g (now (word .entry)) ⌝ }
 {
     match read_record(word) {
-        Recorded::Move(m) => g.play(m),
-        Recorded::Bad => unread(g),
+        Recorded::Move(m) => gametexts::game::beside(m, g.play(m)),
+        Recorded::Bad => gametexts::game::refused_text(g, Refusal::BadMoveText),
     }
 }
 
-fn play_word(given: Given, g: Game, word: &[u8]) -> Played
+fn play_word(given: Given, g: Game, word: &[u8]) -> PlayedText
     ensures { λ r. ⌜ r ≡ playWordOf given g (now (word .entry)) ⌝ }
 {
     match given {
@@ -139,44 +108,25 @@ fn play_word(given: Given, g: Game, word: &[u8]) -> Played
     }
 }
 
-fn put_meant(out: &mut [u8], at: usize, m: Meant) -> usize
-    ensures { λ r. ⌜ Adds (meantWord m) (now (out .entry)) at (now (out .exit)) r ⌝ }
-{
-    match m {
-        Meant::Move(mv) => answers::put_move(out, at, mv),
-        Meant::Refused(_) => at,
-        Meant::Bad => at,
-    }
-}
-
-// The move that a text means on the position standing.
-fn put_move_of(out: &mut [u8], at: usize, g: Game, word: &[u8]) -> usize
-    ensures { λ r. ⌜ Adds (moveOfWord g (now (word .entry))) (now (out .entry)) at (now (out .exit)) r ⌝ }
-{
-    match g.position() {
-        Placed::Position(p) => put_meant(out, at, heard::listed_move(p, word)),
-        Placed::Refused(_) => at,
-    }
-}
-
-// What is told of a text played on g.
-fn tell_text(out: &mut [u8], at: usize, g: Game, word: &[u8], r: Played) -> usize
-    ensures { λ e. ⌜ Adds (textTold g (now (word .entry)) r) (now (out .entry)) at (now (out .exit)) e ⌝ }
+// What is written of a text: the move and the game after it, or `!` and the refusal's number.
+fn tell_text(out: &mut [u8], at: usize, r: PlayedText) -> usize
+    ensures { λ e. ⌜ Adds (textTold r) (now (out .entry)) at (now (out .exit)) e ⌝ }
 {
     let answer = r.answer;
     let after = r.game;
+    let mv = r.mv;
     let k = output::put_byte(out, at, b' ');
     match answer {
         Answer::Done => {
-            let m = put_move_of(out, k, g, word);
+            let m = answers::put_move(out, k, mv);
             states::put_state(out, m, after, b'/')
         }
-        Answer::Refused(e) => states::put_number(out, k, e),
+        Answer::Refused(e) => output::put_number(out, k, e),
     }
 }
 
-// What is told of a record: the answer's number.
-fn tell_record(out: &mut [u8], at: usize, r: Played) -> usize
+// What is written of a record: the answer's number.
+fn tell_record(out: &mut [u8], at: usize, r: PlayedText) -> usize
     ensures { λ e. ⌜ Adds (recordTold r) (now (out .entry)) at (now (out .exit)) e ⌝ }
 {
     let answer = r.answer;
@@ -184,11 +134,11 @@ fn tell_record(out: &mut [u8], at: usize, r: Played) -> usize
     output::put_decimal(out, k, answer.number() as u64)
 }
 
-fn tell_word(given: Given, g: Game, word: &[u8], r: Played, out: &mut [u8], at: usize) -> usize
-    ensures { λ e. ⌜ Adds (wordTold given g (now (word .entry)) r) (now (out .entry)) at (now (out .exit)) e ⌝ }
+fn tell_word(given: Given, r: PlayedText, out: &mut [u8], at: usize) -> usize
+    ensures { λ e. ⌜ Adds (wordTold given r) (now (out .entry)) at (now (out .exit)) e ⌝ }
 {
     match given {
-        Given::Text => tell_text(out, at, g, word, r),
+        Given::Text => tell_text(out, at, r),
         Given::Record => tell_record(out, at, r),
     }
 }
@@ -204,32 +154,58 @@ fn play_words(given: Given, start: Game, s: &[u8], out: &mut [u8], at: usize) ->
         let left = &s[i..];
         let word = words::first(left);
         let r = play_word(given, g, word);
-        k = tell_word(given, g, word, r, out, k);
+        k = tell_word(given, r, out, k);
         g = r.game;
         i = s.len() - words::rest(left).len();
     }
     states::put_end(out, k, g)
 }
 
-// The plays on a new game.
-pub(crate) fn plays(given: Given, p: Position, s: &[u8], out: &mut [u8], at: usize) -> usize
-    ensures { λ r. ⌜ Adds (playsAnswer given p (now (s .entry))) (now (out .entry)) at (now (out .exit)) r ⌝ }
-{
-    if all_readable(given, s) {
-        let begun = Game::from_position(p);
-        let game = begun.game;
-        let k = output::put(out, at, b"ok");
-        return play_words(given, game, s, out, k);
-    }
-    output::put_bad(out, at)
-}
-
-// The outcome of a new game.
-pub(crate) fn fresh(p: Position, out: &mut [u8], at: usize) -> usize
-    ensures { λ r. ⌜ Adds (freshAnswer p) (now (out .entry)) at (now (out .exit)) r ⌝ }
+// Begins a game and plays the words.
+fn play_game(given: Given, p: Position, s: &[u8], out: &mut [u8], at: usize) -> usize
+    ensures { λ r. ⌜ Adds (gameAnswer given p (now (s .entry))) (now (out .entry)) at (now (out .exit)) r ⌝ }
 {
     let begun = Game::from_position(p);
     let game = begun.game;
-    let k = answers::put_ok(out, at);
-    states::put_judged(out, k, game.outcome())
+    let k = output::put(out, at, b"ok");
+    play_words(given, game, s, out, k)
+}
+
+pub(crate) fn play(p: Placed, texts: &[u8], out: &mut [u8], at: usize) -> usize
+    ensures { λ r. ⌜ Adds (playRequest p (now (texts .entry))) (now (out .entry)) at (now (out .exit)) r ⌝ }
+{
+    match p {
+        Placed::Position(q) => play_game(Given::Text, q, texts, out, at),
+        Placed::Refused(e) => output::put_refusal(out, at, e),
+    }
+}
+
+// Every record must be readable before one is played.
+pub(crate) fn record(p: Placed, records: &[u8], out: &mut [u8], at: usize) -> usize
+    ensures { λ r. ⌜ Adds (recordRequest p (now (records .entry))) (now (out .entry)) at (now (out .exit)) r ⌝ }
+{
+    match p {
+        Placed::Position(q) => {
+            if all_records(records) {
+                return play_game(Given::Record, q, records, out, at);
+            }
+            output::put_bad(out, at, Flaw::Number)
+        }
+        Placed::Refused(e) => output::put_refusal(out, at, e),
+    }
+}
+
+// The outcome of a new game.
+pub(crate) fn outcome(p: Placed, out: &mut [u8], at: usize) -> usize
+    ensures { λ r. ⌜ Adds (outcomeRequest p) (now (out .entry)) at (now (out .exit)) r ⌝ }
+{
+    match p {
+        Placed::Position(q) => {
+            let begun = Game::from_position(q);
+            let game = begun.game;
+            let k = answers::put_ok(out, at);
+            states::put_judged(out, k, game.outcome())
+        }
+        Placed::Refused(e) => output::put_refusal(out, at, e),
+    }
 }

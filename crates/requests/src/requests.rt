@@ -1,91 +1,169 @@
-// A request line and its answer: by the request's name, which is the line's first word.
-use crate::answers::Asked;
+// A request line and its answer. The table holds the requests; the first word of a line picks its row.
 use crate::asked;
-use crate::asked::Task;
-use crate::heard::Form;
+use crate::plays;
+use crate::reading;
+use crate::reading::Form;
+use captures::moves::MAX_MOVES;
+use positions::position::Placed;
+use scores::eval::Classical;
+use texts::bytes;
+use wording::escapes;
 use wording::output;
+use wording::output::Flaw;
 use wording::words;
 ghost use mathlib.Core.Path.{_≡_};
 ghost use Prim.Native.Nat.{_<_, min};
 ghost use lib.ListN.{length};
 ghost use Rattle.texts.specs.Lent.{Adds, written};
-ghost use Rattle.requests.specs.Requests.{kindAt, kindOf, kindAnswer, answerOf};
+ghost use Rattle.requests.specs.Requests.{rows, helpText, requestAt, requestOf, wholePosition, firstPosition, requestAnswer, answerOf};
 
 // The longest line that is looked at.
 pub const LONGEST: usize = 65536;
 
-// What a request's name asks for.
-pub(crate) enum Kind {
-    About(Form, Asked),
-    Rest(Task),
-    Atmost,
-    Evalw,
+// The requests with their arguments, one a line: what `dame --help` prints. FEN is one word, TEXT the rest of the line.
+const TABLE: [u8; 328] = *b"fen TEXT\n\
+hub TEXT\n\
+fen2hub TEXT\n\
+hub2fen TEXT\n\
+square TEXT\n\
+parts WHITE BLACK KINGS SIDE\n\
+bits FEN\n\
+moves FEN\n\
+atmost LIMIT FEN\n\
+parse FEN TEXT\n\
+after FEN TEXT\n\
+perft FEN DEPTH\n\
+divide FEN DEPTH\n\
+eval FEN\n\
+evalw FEN MAN KING ADVANCE CENTER GUARD\n\
+hash FEN\n\
+flip FEN\n\
+caps FEN\n\
+quiet FEN\n\
+play FEN TEXT ..\n\
+outcome FEN\n\
+record FEN FIRST,LAST,SET ..\n";
+
+// How many requests there are.
+const ROWS: usize = 22;
+
+// The requests in the order of the table, and a name that is in none of its rows.
+pub enum Request {
+    Fen,
+    Hub,
+    Fen2hub,
+    Hub2fen,
     Square,
     Parts,
+    Bits,
+    Moves,
+    Atmost,
+    Parse,
+    After,
+    Perft,
+    Divide,
+    Eval,
+    Evalw,
+    Hash,
+    Flip,
+    Caps,
+    Quiet,
+    Play,
     Outcome,
+    Record,
     Unknown,
 }
 
-// What the request of this row asks for; the names of the rows are in `kind_of`.
-fn kind_at(row: usize) -> Kind
-    requires { ⌜ row < 22 ⌝ }
-    ensures { λ r. ⌜ r ≡ kindAt row ⌝ }
+// The request of this row.
+fn request_at(row: usize) -> Request
+    requires { ⌜ row < rows ⌝ }
+    ensures { λ r. ⌜ r ≡ requestAt row ⌝ }
 {
-    let kinds = [
-        Kind::About(Form::Fen, Asked::Fen),
-        Kind::About(Form::Hub, Asked::Hub),
-        Kind::About(Form::Fen, Asked::Hub),
-        Kind::About(Form::Hub, Asked::Fen),
-        Kind::Square,
-        Kind::Parts,
-        Kind::About(Form::Either, Asked::Bits),
-        Kind::About(Form::Either, Asked::Moves),
-        Kind::Atmost,
-        Kind::Rest(Task::Parse),
-        Kind::Rest(Task::After),
-        Kind::Rest(Task::Perft),
-        Kind::Rest(Task::Divide),
-        Kind::About(Form::Either, Asked::Eval),
-        Kind::Evalw,
-        Kind::About(Form::Either, Asked::Hash),
-        Kind::About(Form::Either, Asked::Flip),
-        Kind::About(Form::Either, Asked::Caps),
-        Kind::About(Form::Either, Asked::Quiet),
-        Kind::Rest(Task::Play),
-        Kind::Outcome,
-        Kind::Rest(Task::Record),
+    let requests = [
+        Request::Fen,
+        Request::Hub,
+        Request::Fen2hub,
+        Request::Hub2fen,
+        Request::Square,
+        Request::Parts,
+        Request::Bits,
+        Request::Moves,
+        Request::Atmost,
+        Request::Parse,
+        Request::After,
+        Request::Perft,
+        Request::Divide,
+        Request::Eval,
+        Request::Evalw,
+        Request::Hash,
+        Request::Flip,
+        Request::Caps,
+        Request::Quiet,
+        Request::Play,
+        Request::Outcome,
+        Request::Record,
     ];
-    kinds[row]
+    requests[row]
 }
 
-// The requests by name, in the protocol's order.
-fn kind_of(name: &[u8]) -> Kind
-    ensures { λ r. ⌜ r ≡ kindOf (now (name .entry)) ⌝ }
+// The request with this name.
+fn request_of(name: &[u8]) -> Request
+    ensures { λ r. ⌜ r ≡ requestOf (now (name .entry)) ⌝ }
 {
+    let table = TABLE;
     let mut row = 0;
-    while row < 22 {
-        let rows =
-            b"fen hub fen2hub hub2fen square parts bits moves atmost parse after perft divide eval evalw hash flip caps quiet play outcome record";
-        if words::same(name, words::word(rows, row)) {
-            return kind_at(row);
+    let mut at = 0;
+    while row < ROWS {
+        let left = &table[at..];
+        if words::same(name, words::first(left)) {
+            return request_at(row);
         }
+        at = table.len() - bytes::after_first(left, b'\n').len();
         row += 1;
     }
-    Kind::Unknown
+    Request::Unknown
 }
 
-fn answer_kind(kind: Kind, arg: &[u8], out: &mut [u8], at: usize) -> usize
-    ensures { λ r. ⌜ Adds (kindAnswer kind (now (arg .entry))) (now (out .entry)) at (now (out .exit)) r ⌝ }
+// The position that the whole argument means, or its first word alone.
+fn whole(arg: &[u8]) -> Placed
+    ensures { λ r. ⌜ r ≡ wholePosition (now (arg .entry)) ⌝ }
 {
-    match kind {
-        Kind::About(form, asked) => asked::about(Task::Tell(asked), form, arg, arg, out, at),
-        Kind::Rest(task) => asked::with_rest(task, arg, out, at),
-        Kind::Atmost => asked::atmost(arg, out, at),
-        Kind::Evalw => asked::evalw(arg, out, at),
-        Kind::Square => asked::square(arg, out, at),
-        Kind::Parts => asked::parts(arg, out, at),
-        Kind::Outcome => asked::about(Task::Outcome, Form::Either, arg, arg, out, at),
-        Kind::Unknown => output::put_bad(out, at),
+    reading::position(Form::Either, arg)
+}
+
+fn first(arg: &[u8]) -> Placed
+    ensures { λ r. ⌜ r ≡ firstPosition (now (arg .entry)) ⌝ }
+{
+    reading::position(Form::Either, words::first(arg))
+}
+
+fn answer_request(request: Request, arg: &[u8], out: &mut [u8], at: usize) -> usize
+    ensures { λ r. ⌜ Adds (requestAnswer request (now (arg .entry))) (now (out .entry)) at (now (out .exit)) r ⌝ }
+{
+    match request {
+        Request::Fen => asked::fen(reading::position(Form::Fen, arg), out, at),
+        Request::Hub => asked::hub(reading::position(Form::Hub, arg), out, at),
+        Request::Fen2hub => asked::hub(reading::position(Form::Fen, arg), out, at),
+        Request::Hub2fen => asked::fen(reading::position(Form::Hub, arg), out, at),
+        Request::Square => asked::square(reading::square(arg), out, at),
+        Request::Parts => asked::parts(arg, out, at),
+        Request::Bits => asked::bits(whole(arg), out, at),
+        Request::Moves => asked::moves(whole(arg), MAX_MOVES, out, at),
+        Request::Atmost => asked::atmost(arg, out, at),
+        Request::Parse => asked::parse(first(arg), words::rest(arg), out, at),
+        Request::After => asked::after(first(arg), words::rest(arg), out, at),
+        Request::Perft => asked::perft(first(arg), words::rest(arg), out, at),
+        Request::Divide => asked::divide(first(arg), words::rest(arg), out, at),
+        Request::Eval => asked::eval(whole(arg), Classical::new(), out, at),
+        Request::Evalw => asked::evalw(arg, out, at),
+        Request::Hash => asked::hash(whole(arg), out, at),
+        Request::Flip => asked::flip(whole(arg), out, at),
+        Request::Caps => asked::caps(whole(arg), out, at),
+        Request::Quiet => asked::quiet(whole(arg), out, at),
+        Request::Play => plays::play(first(arg), words::rest(arg), out, at),
+        Request::Outcome => plays::outcome(whole(arg), out, at),
+        Request::Record => plays::record(first(arg), words::rest(arg), out, at),
+        Request::Unknown => output::put_bad(out, at, Flaw::Name),
     }
 }
 
@@ -96,7 +174,19 @@ pub fn answer(line: &[u8], out: &mut [u8]) -> usize
     ensures { λ r. ⌜ now (out .exit) ≡ written (answerOf (now (line .entry))) (now (out .entry)) ⌝ }
 {
     if LONGEST < line.len() {
-        return output::put_bad(out, 0);
+        return output::put_bad(out, 0, Flaw::Length);
     }
-    answer_kind(kind_of(words::first(line)), words::rest(line), out, 0)
+    if escapes::is_plain(line) {
+        return answer_request(request_of(words::first(line)), words::rest(line), out, 0);
+    }
+    output::put_bad(out, 0, Flaw::Escape)
+}
+
+// The requests with their arguments, one a line, at the start of the lent bytes; what has no room is left out.
+pub fn help(out: &mut [u8]) -> usize
+    ensures { λ r. ⌜ r ≡ min (length helpText) (length (now (out .entry))) ⌝ }
+    ensures { λ r. ⌜ now (out .exit) ≡ written helpText (now (out .entry)) ⌝ }
+{
+    let table = TABLE;
+    output::put(out, 0, &table)
 }

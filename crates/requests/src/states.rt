@@ -12,10 +12,9 @@ use movegen::perft::Counted;
 use positions::position::Placed;
 use squares::piece::Color;
 use squares::refusal::Answer;
-use squares::refusal::Refusal;
 use wording::output;
 ghost use Rattle.texts.specs.Lent.{Adds};
-ghost use Rattle.requests.specs.States.{winnerWord, outcomeWord, judgedWord, countWord, pliesText, stateText, standWord, numberWord, movesWord, endText};
+ghost use Rattle.requests.specs.States.{winnerWord, outcomeWord, judgedWord, countWord, pliesText, stateText, standWord, movesWord, endText};
 
 fn put_winner(out: &mut [u8], at: usize, w: Winner) -> usize
     ensures { λ r. ⌜ Adds (winnerWord w) (now (out .entry)) at (now (out .exit)) r ⌝ }
@@ -92,14 +91,6 @@ fn put_stand(out: &mut [u8], at: usize, p: Placed) -> usize
     }
 }
 
-// A refusal inside a game: `!` and its number.
-pub(crate) fn put_number(out: &mut [u8], at: usize, e: Refusal) -> usize
-    ensures { λ r. ⌜ Adds (numberWord e) (now (out .entry)) at (now (out .exit)) r ⌝ }
-{
-    let k = output::put_byte(out, at, b'!');
-    output::put_decimal(out, k, e.number() as u64)
-}
-
 // How many moves there are, or the refusal: more than 256 are not counted.
 fn put_listed(out: &mut [u8], at: usize, l: Listed) -> usize
     ensures { λ r. ⌜ Adds (movesWord l) (now (out .entry)) at (now (out .exit)) r ⌝ }
@@ -108,7 +99,7 @@ fn put_listed(out: &mut [u8], at: usize, l: Listed) -> usize
     let list = l.list;
     match answer {
         Answer::Done => output::put_decimal(out, at, list.len as u64),
-        Answer::Refused(e) => put_number(out, at, e),
+        Answer::Refused(e) => output::put_number(out, at, e),
     }
 }
 

@@ -1,6 +1,6 @@
 -- Five numbers, one after the other.
 use borrow.Author.Needs.{needs}
-use Rattle.requests.specs.Requests as asked
+use Rattle.requests.specs.Asked as asked
 use mir.Syntax.{w32}
 use mir.Val.{SFits}
 use mir.Facts.{toZ-ofZ}

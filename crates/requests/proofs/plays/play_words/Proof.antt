@@ -1,4 +1,4 @@
--- Word by word: what is told of the words that are left ends what is told of all.
+-- Word by word: what is written of the words that are left ends what is written of all.
 use mathlib.Core.Path.{_≡_, refl}
 use Prim.Native.Nat.{ℕ, _≤_, _-_}
 use mathlib.Core.List.{List}

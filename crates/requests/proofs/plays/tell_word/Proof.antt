@@ -1,6 +1,5 @@
 -- By how plays are given.
 use mathlib.Core.Path.{ap, sym}
-use denote.Ref.{now}
 use Rattle.texts.proofs.Pieces as pieces
 use Rattle.requests.specs.Plays.{wordTold}
 use Rattle.requests.specs.declared.plays.Given.{Given}
@@ -9,10 +8,10 @@ use Rattle.requests.proofs.plays.tell_word.Statement.{statement}
 use Rattle.requests.proofs.plays.tell_word.Tie as tie
 
 returns : tie.Need-returns
-returns c = pieces.adds-as (sym (ap (λ (x : Given). wordTold x (c .before .before .before .before .before .before .before .before .args .g) (now (c .before .before .before .before .before .before .before .before .args .word)) (c .before .before .before .before .before .before .before .before .args .r)) (c .before .before .before .before .enum-told .given .1))) (c .before .before .tell-text .ensures)
+returns c = pieces.adds-as (sym (ap (λ (x : Given). wordTold x (c .before .before .before .before .before .before .before .args .r)) (c .before .before .before .before .enum-told .given .1))) (c .before .before .tell-text .ensures)
 
 returns-2 : tie.Need-returns-2
-returns-2 c = pieces.adds-as (sym (ap (λ (x : Given). wordTold x (c .before .before .before .before .before .before .before .before .args .g) (now (c .before .before .before .before .before .before .before .before .args .word)) (c .before .before .before .before .before .before .before .before .args .r)) (c .before .before .before .before .enum-told2 .given .1))) (c .before .before .tell-record .ensures)
+returns-2 c = pieces.adds-as (sym (ap (λ (x : Given). wordTold x (c .before .before .before .before .before .before .before .args .r)) (c .before .before .before .before .enum-told2 .given .1))) (c .before .before .tell-record .ensures)
 
 pub tell-word-spec : {M : Type 1} → statement M
 tell-word-spec =

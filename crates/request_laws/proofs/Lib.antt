@@ -1,0 +1,4 @@
+pub mod Lengths
+pub mod Falling
+pub mod Room
+pub mod PlayedGames
