@@ -14,7 +14,7 @@ use Rattle.texts.proofs.Cuts.{rest}
 use Rattle.texts.specs.Lent.{written}
 use Rattle.texts.proofs.Pieces.{written-length}
 use Rattle.requests.specs.Requests.{longest, answerOf}
-use Rattle.lines.specs.Lines.{wholeOf, openLine, carriedOf, lastAnswer}
+use Rattle.line_laws.specs.Lines.{wholeOf, openLine, carriedOf, lastAnswer}
 
 -- ---- a text t and a line feed at the place at of out, in the part of it that was lent
 module _ (out t part : List ℕ) (at n : ℕ) (fits : at + suc (length t) ≤ length out) (e : n ≡ min (length t) (length (take (length out - at) (drop at out))))
@@ -54,12 +54,12 @@ module _ (out t part : List ℕ) (at n : ℕ) (fits : at + suc (length t) ≤ le
       ∙ append-assoc (take at out) t (10 ∷ [])
 
 -- ---- the last line
-pub last-none : (l : List ℕ) → length l ≡ 0 → [] ≡ lastAnswer l
+pub last-none : (l : List ℕ) → length l ≡ 0 → [] ≡ lastAnswer answerOf l
 unfolding lastAnswer
 last-none [] e = refl
 last-none (b ∷ l) e = absurd (omega arith)
 
-pub last-some : (l : List ℕ) → (length l ≡ 0 → ⊥) → answerOf l ++ (10 ∷ []) ≡ lastAnswer l
+pub last-some : (l : List ℕ) → (length l ≡ 0 → ⊥) → answerOf l ++ (10 ∷ []) ≡ lastAnswer answerOf l
 unfolding lastAnswer
 last-some [] e = absurd (e refl)
 last-some (b ∷ l) e = refl
@@ -83,7 +83,7 @@ module _ (buf new : List ℕ) (used full r : ℕ) (in-buf : full ≤ length buf)
       ap (drop used) (sym (take-append-drop full buf))
       ∙ drop-append-le used (take full buf) (drop full buf) (omega (arith, length-take-le full buf in-buf))
 
-  pub carried : take (used + r - used) new ≡ take (used + r - used) (drop used buf) → take r new ≡ carriedOf (take full buf)
+  pub carried : take (used + r - used) new ≡ take (used + r - used) (drop used buf) → take r new ≡ carriedOf longest (take full buf)
   unfolding carriedOf openLine
   carried m =
       let z : used + r - used ≡ r = omega arith in

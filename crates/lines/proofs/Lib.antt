@@ -1,5 +1,3 @@
 pub mod Moved
-pub mod LineLaws
-pub mod StepLaws
 pub mod RunLaws
 pub mod Buffers

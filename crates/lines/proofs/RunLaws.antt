@@ -1,218 +1,60 @@
--- Whatever pieces the input comes in, and wherever a step stops for want of room, what is written is the output for the whole.
--- What a run has written that stops, since a read or a write failed, is a beginning of it.
-use Prim.Native.Nat.{ℕ, _+_, _-_}
-use mathlib.Core.Path.{_≡_, refl, ap, sym, _∙_}
-use mathlib.Core.List.{List, [], _∷_, _++_, append-assoc, append-nil}
+-- The laws on lines, of the program dame: `answerOf` is its answer to a line, `longest` the longest line that it looks at.
+use Prim.Native.Nat.{ℕ, _+_, _<_}
+use mathlib.Core.Path.{_≡_, refl, ap}
+use mathlib.Core.List.{List, [], _∷_, _++_}
+use mathlib.Core.Bool.{Bool, true, false}
 use native.Mathlib.Omega.{arith}
-use lib.ListN.{length, take, drop, take-append-drop, length-drop}
-use lib.Seq.{drop-drop, length-take-le, take-length, take-append-add}
-use Rattle.requests.specs.Requests.{longest}
-use Rattle.lines.specs.Lines.{outputOf, wholeOf, wholeLines, openLine, carriedOf, lastAnswer, turnsOutput, together}
-use Rattle.lines.specs.Steps.{between, Answered}
-use Rattle.lines.specs.Runs as runs
-use Rattle.lines.specs.Runs.{Writes, Run, Fault, CutWrites, Stopped, Follows, Begins}
-use Rattle.lines.proofs.LineLaws.{whole-le, whole-append, whole-part, open-part, none-whole, output-nil, output-append, open-take, open-output, kept-output, kept-whole}
+use lib.ListN.{length, take}
+use lib.Seq.{take-all, length-take-le}
+use lib.Dec.{leb}
+use borrow.Author.Tests.{lt-ltb, leb-true, leb-false}
+use Rattle.requests.specs.Requests.{longest, answerOf}
+use Rattle.line_laws.specs.Lines.{outputOf, wholeLines, turnsOutput, together, Cut}
+use Rattle.line_laws.specs.Runs.{Run, Fault, Stopped, Follows, Begins}
+use Rattle.line_laws.specs.Runs as runs
+use Rattle.line_laws.proofs.RunLaws as laws
 
--- ---- whole lines, then the rest
-whole-length : (s : List ℕ) → wholeOf (wholeLines s) ≡ length (wholeLines s)
-unfolding wholeLines
-whole-length s = whole-part s ∙ sym (length-take-le (wholeOf s) s (whole-le s))
+-- all lines that are too long have one answer
+pub long-same : (l m : List ℕ) → longest < length l → longest < length m → answerOf l ≡ answerOf m
+unfolding answerOf
+long-same l m g h = rw (lt-ltb longest (length l) g, lt-ltb longest (length m) h)
 
-carried-open : (s : List ℕ) → wholeOf (carriedOf s) ≡ 0
-unfolding carriedOf openLine
-carried-open s = open-take (longest + 1) (drop (wholeOf s) s) (open-part s)
-
-carried-output : (s x : List ℕ) → outputOf (carriedOf s ++ x) ≡ outputOf (openLine s ++ x)
-unfolding carriedOf openLine
-carried-output s x = kept-output (drop (wholeOf s) s) x (open-part s)
-
--- a turn leaves out nothing, and says nothing twice
-turn-output : (s x : List ℕ) → outputOf (wholeLines s) ++ outputOf (carriedOf s ++ x) ≡ outputOf (s ++ x)
-unfolding wholeLines openLine
-turn-output s x =
-    ap (λ (o : List ℕ). outputOf (wholeLines s) ++ o) (carried-output s x)
-    ∙ sym (output-append (wholeLines s) (openLine s ++ x) (whole-length s))
-    ∙ ap outputOf (sym (append-assoc (wholeLines s) (openLine s) x) ∙ ap (λ (o : List ℕ). o ++ x) (take-append-drop (wholeOf s) s))
-
-last-output : (c : List ℕ) → wholeOf c ≡ 0 → lastAnswer c ≡ outputOf (c ++ [])
-unfolding lastAnswer
-last-output [] e = sym output-nil
-last-output (b ∷ c) e = sym (open-output (b ∷ c) e (omega arith))
-
-turns-from : (carried : List ℕ) (pieces : List (List ℕ)) → wholeOf carried ≡ 0 → turnsOutput carried pieces ≡ outputOf (carried ++ together pieces)
-unfolding turnsOutput together
-turns-from carried [] e = last-output carried e
-turns-from carried (piece ∷ pieces) e =
-    let s = carried ++ piece in
-    ap (λ (o : List ℕ). outputOf (wholeLines s) ++ o) (turns-from (carriedOf s) pieces (carried-open s))
-    ∙ turn-output s (together pieces)
-    ∙ ap outputOf (append-assoc carried piece (together pieces))
+-- so the first longest + 1 bytes of such a line answer for all of it
+pub answer-cut : Cut answerOf longest
+answer-cut l = go (leb (length l) (longest + 1)) refl
+  where
+    go : (q : Bool) → leb (length l) (longest + 1) ≡ q → answerOf (take (longest + 1) l) ≡ answerOf l
+    go true q = ap answerOf (take-all (longest + 1) l (leb-true (length l) (longest + 1) q))
+    go false q =
+        let h = leb-false (length l) (longest + 1) q in
+        let k : length (take (longest + 1) l) ≡ longest + 1 = length-take-le (longest + 1) l (omega arith) in
+        long-same (take (longest + 1) l) l (omega (arith, k)) (omega arith)
 
 -- what the turns write, one after the other, is the output for the whole input
-pub turns-law : (pieces : List (List ℕ)) → turnsOutput [] pieces ≡ outputOf (together pieces)
-unfolding wholeOf
-turns-law pieces = turns-from [] pieces refl
-
--- ---- the steps of a turn
-module _ (s : List ℕ) where
-  cut : {from to put : ℕ} {out : List ℕ} → Answered s from out to put → drop from s ≡ between from to s ++ drop to s
-  cut {from} {to} a =
-      let k : from + (to - from) ≡ to = omega (arith, a .onward) in
-      sym (take-append-drop (to - from) (drop from s)) ∙ ap (λ (r : List ℕ). between from to s ++ r) (drop-drop (to - from) from s ∙ ap (λ (n : ℕ). drop n s) k)
-
-  part-length : {from to put : ℕ} {out : List ℕ} → Answered s from out to put → length (between from to s) ≡ to - from
-  part-length {from} {to} a = length-take-le (to - from) (drop from s) (omega (arith, a .inside, length-drop from s))
-
-  step-lines : {from to put : ℕ} {out : List ℕ} → Answered s from out to put → wholeLines (drop from s) ≡ between from to s ++ wholeLines (drop to s)
-  unfolding wholeLines
-  step-lines {from} {to} a =
-      let p = between from to s in
-      let r = drop to s in
-      ap (λ (x : List ℕ). take (wholeOf x) x) (cut a)
-      ∙ ap (λ (n : ℕ). take n (p ++ r)) (whole-append p r (a .whole ∙ sym (part-length a)))
-      ∙ take-append-add p r (wholeOf r)
-
-  -- what a step puts first, and what is left
-  step-output : {from to put : ℕ} {out : List ℕ} → Answered s from out to put → outputOf (wholeLines (drop from s)) ≡ take put out ++ outputOf (wholeLines (drop to s))
-  step-output {from} {to} {put} {out} a =
-      ap outputOf (step-lines a)
-      ∙ output-append (between from to s) (wholeLines (drop to s)) (a .whole ∙ sym (part-length a))
-      ∙ ap (λ (x : List ℕ). x ++ outputOf (wholeLines (drop to s))) (sym (a .answers))
-
-  pub writes-law : {from : ℕ} {written : List ℕ} → Writes s from written → written ≡ outputOf (wholeLines (drop from s))
-  writes-law {from} (runs.none e) = sym (ap outputOf (none-whole (drop from s) e) ∙ output-nil)
-  writes-law (runs.Writes.more put out a w) = ap (λ (x : List ℕ). take put out ++ x) (writes-law w) ∙ sym (step-output a)
-
--- ---- the whole run
-run-turns : {carried : List ℕ} {pieces : List (List ℕ)} {written : List ℕ} → Run carried pieces written → written ≡ turnsOutput carried pieces
-unfolding turnsOutput
-run-turns (runs.end put out e) = e
-run-turns (runs.Run.turn {carried} {piece} {written} {rest} {pieces} kept buffer w e r) =
-    let s = carried ++ piece in
-    ap (λ (x : List ℕ). x ++ rest) (writes-law s w)
-    ∙ ap (λ (x : List ℕ). outputOf (wholeLines s) ++ x) (run-turns r ∙ ap (λ (x : List ℕ). turnsOutput x pieces) e)
+pub turns-law : (pieces : List (List ℕ)) → turnsOutput answerOf longest [] pieces ≡ outputOf answerOf (together pieces)
+turns-law pieces = laws.turns-law answerOf longest answer-cut pieces
 
 -- for every list of pieces: each line of the input is answered once and in order, however the input is cut
-pub run-law : {pieces : List (List ℕ)} {written : List ℕ} → Run [] pieces written → written ≡ outputOf (together pieces)
-run-law {pieces} r = run-turns r ∙ turns-law pieces
+pub run-law : {pieces : List (List ℕ)} {written : List ℕ} → Run answerOf longest [] pieces written → written ≡ outputOf answerOf (together pieces)
+run-law r = laws.run-law answerOf longest answer-cut r
 
 -- there is a run for every list of pieces
-step-all : (s : List ℕ) → Answered s 0 (outputOf (wholeLines s)) (wholeOf s) (length (outputOf (wholeLines s)))
-unfolding wholeLines
-step-all s =
-    let z : wholeOf s - 0 ≡ wholeOf s = omega arith in
-    record {
-      onward = omega arith;
-      inside = whole-le s;
-      whole = ap (λ (n : ℕ). wholeOf (take n s)) z ∙ whole-part s ∙ sym z;
-      fits = omega arith;
-      answers = take-length (outputOf (wholeLines s)) ∙ ap (λ (n : ℕ). outputOf (take n s)) (sym z);
-      goesOn = λ e. e;
-    }
+pub run-some : (carried : List ℕ) (pieces : List (List ℕ)) → (written : List ℕ) × Run answerOf longest carried pieces written
+run-some carried pieces = laws.run-some answerOf longest carried pieces
 
-writes-all : (s : List ℕ) → Writes s 0 (take (length (outputOf (wholeLines s))) (outputOf (wholeLines s)) ++ [])
-writes-all s = let a = outputOf (wholeLines s) in runs.Writes.more (length a) a (step-all s) (runs.none (open-part s))
-
-pub run-some : (carried : List ℕ) (pieces : List (List ℕ)) → (written : List ℕ) × Run carried pieces written
-run-some carried [] = let a = lastAnswer carried in (take (length a) a, runs.end (length a) a (take-length a))
-run-some carried (piece ∷ pieces) =
-    let s = carried ++ piece in
-    let c = carriedOf s in
-    let a = outputOf (wholeLines s) in
-    let r = run-some (take (length c) c) pieces in
-    ((take (length a) a ++ []) ++ r .0, runs.Run.turn (length c) c (writes-all s) (take-length c) (r .1))
-
--- ---- a run that stops
-begins-take : (n : ℕ) (l : List ℕ) → Begins (take n l) l
-begins-take n l = record { later = drop n l; joined = sym (take-append-drop n l) }
-
-begins-onto : {s t : List ℕ} (p : List ℕ) → Begins s t → Begins (p ++ s) (p ++ t)
-begins-onto {s} {t} p b = record { later = b .later; joined = ap (λ (x : List ℕ). p ++ x) (b .joined) ∙ sym (append-assoc p s (b .later)) }
-
-begins-more : {s t : List ℕ} (x : List ℕ) → Begins s t → Begins s (t ++ x)
-begins-more {s} {t} x b = record { later = b .later ++ x; joined = ap (λ (y : List ℕ). y ++ x) (b .joined) ∙ append-assoc s (b .later) x }
-
-begins-as : {s t u : List ℕ} → t ≡ u → Begins s t → Begins s u
-begins-as e b = record { later = b .later; joined = sym e ∙ b .joined }
-
-cut-law : (s : List ℕ) {from : ℕ} {written : List ℕ} → CutWrites s from written → Begins written (outputOf (wholeLines (drop from s)))
-cut-law s (runs.fails {to = to} n put out a) = begins-as (sym (step-output s a)) (begins-more (outputOf (wholeLines (drop to s))) (begins-take n (take put out)))
-cut-law s (runs.CutWrites.more put out a w) = begins-as (sym (step-output s a)) (begins-onto (take put out) (cut-law s w))
-
--- a piece before what follows
-joined-turn : (carried piece rest x : List ℕ) → (carried ++ piece) ++ (rest ++ x) ≡ carried ++ ((piece ++ rest) ++ x)
-joined-turn carried piece rest x = append-assoc carried piece (rest ++ x) ∙ ap (λ (y : List ℕ). carried ++ y) (sym (append-assoc piece rest x))
-
-stop-from : {f : Fault} {carried : List ℕ} {pieces : List (List ℕ)} {written : List ℕ} → Stopped f carried pieces written → wholeOf carried ≡ 0
-    → (x : List ℕ) → Follows f x → Begins written (outputOf (carried ++ (together pieces ++ x)))
-unfolding together
-stop-from {carried = carried} runs.atRead e x h = record { later = outputOf (carried ++ x); joined = refl }
-stop-from (runs.atWrite {carried} {piece} w) e x h =
-    let s = carried ++ piece in
-    begins-as (turn-output s x ∙ ap outputOf (joined-turn carried piece [] x)) (begins-more (outputOf (carriedOf s ++ x)) (cut-law s w))
-stop-from {carried = carried} (runs.atLast n put out a) e x h =
-    begins-as (a ∙ last-output carried e ∙ ap (λ (y : List ℕ). outputOf (carried ++ y)) (sym h)) (begins-take n (take put out))
-stop-from (runs.Stopped.turn {carried = carried} {piece = piece} {written = written} {rest = rest} {pieces = pieces} kept buffer w a r) e x h =
-    let s = carried ++ piece in
-    let y = together pieces ++ x in
-    begins-as
-    (ap (λ (o : List ℕ). o ++ outputOf (take kept buffer ++ y)) (writes-law s w)
-    ∙ ap (λ (c : List ℕ). outputOf (wholeLines s) ++ outputOf (c ++ y)) a
-    ∙ turn-output s y ∙ ap outputOf (joined-turn carried piece (together pieces) x))
-    (begins-onto written (stop-from r (ap wholeOf a ∙ carried-open s) x h))
-
--- however the input goes on that was read, what was written is a beginning of the output for all of it
-pub stop-law : {f : Fault} {pieces : List (List ℕ)} {written : List ℕ} → Stopped f [] pieces written
-    → (x : List ℕ) → Follows f x → Begins written (outputOf (together pieces ++ x))
-unfolding wholeOf
-stop-law r x h = stop-from r refl x h
-
--- a turn before whole lines
-turn-whole : (s x : List ℕ) → outputOf (wholeLines s) ++ outputOf (wholeLines (carriedOf s ++ x)) ≡ outputOf (wholeLines (s ++ x))
-unfolding wholeLines openLine carriedOf
-turn-whole s x =
-    let w = wholeLines s in
-    let z = openLine s ++ x in
-    ap (λ (o : List ℕ). outputOf w ++ o) (kept-whole (openLine s) x (open-part s))
-    ∙ sym (output-append w (wholeLines z) (whole-length s))
-    ∙ ap outputOf
-    (sym (ap (λ (n : ℕ). take n (w ++ z)) (whole-append w z (whole-length s)) ∙ take-append-add w z (wholeOf z))
-    ∙ ap wholeLines (sym (append-assoc w (openLine s) x) ∙ ap (λ (o : List ℕ). o ++ x) (take-append-drop (wholeOf s) s)))
-
-read-from : {carried : List ℕ} {pieces : List (List ℕ)} {written : List ℕ} → Stopped runs.read carried pieces written → wholeOf carried ≡ 0
-    → written ≡ outputOf (wholeLines (carried ++ together pieces))
-unfolding together
-read-from {carried} runs.atRead e = sym (ap outputOf (none-whole (carried ++ []) (ap wholeOf (append-nil carried) ∙ e)) ∙ output-nil)
-read-from (runs.Stopped.turn {carried = carried} {piece = piece} {written = written} {rest = rest} {pieces = pieces} kept buffer w a r) e =
-    let s = carried ++ piece in
-    ap (λ (o : List ℕ). o ++ rest) (writes-law s w)
-    ∙ ap (λ (o : List ℕ). outputOf (wholeLines s) ++ o) (read-from r (ap wholeOf a ∙ carried-open s) ∙ ap (λ (c : List ℕ). outputOf (wholeLines (c ++ together pieces))) a)
-    ∙ turn-whole s (together pieces)
-    ∙ ap (λ (o : List ℕ). outputOf (wholeLines o)) (append-assoc carried piece (together pieces))
+-- however the input goes on that was read, what a run that stops has written is a beginning of the output for all of it
+pub stop-law : {f : Fault} {pieces : List (List ℕ)} {written : List ℕ} → Stopped answerOf longest f [] pieces written
+    → (x : List ℕ) → Follows f x → Begins written (outputOf answerOf (together pieces ++ x))
+stop-law r x h = laws.stop-law answerOf longest answer-cut r x h
 
 -- where a read fails, each whole line that was read has its answer, and the line that was cut has none
-pub read-stop-law : {pieces : List (List ℕ)} {written : List ℕ} → Stopped runs.read [] pieces written → written ≡ outputOf (wholeLines (together pieces))
-unfolding wholeOf
-read-stop-law r = read-from r refl
+pub read-stop-law : {pieces : List (List ℕ)} {written : List ℕ} → Stopped answerOf longest runs.read [] pieces written
+    → written ≡ outputOf answerOf (wholeLines (together pieces))
+read-stop-law r = laws.read-stop-law answerOf longest answer-cut r
 
 -- a read can fail after any pieces, and a write at any of its bytes
-pub read-stops : (carried : List ℕ) (pieces : List (List ℕ)) → (written : List ℕ) × Stopped runs.read carried pieces written
-read-stops carried [] = ([], runs.atRead)
-read-stops carried (piece ∷ pieces) =
-    let s = carried ++ piece in
-    let c = carriedOf s in
-    let a = outputOf (wholeLines s) in
-    let r = read-stops (take (length c) c) pieces in
-    ((take (length a) a ++ []) ++ r .0, runs.Stopped.turn (length c) c (writes-all s) (take-length c) (r .1))
+pub read-stops : (carried : List ℕ) (pieces : List (List ℕ)) → (written : List ℕ) × Stopped answerOf longest runs.read carried pieces written
+read-stops carried pieces = laws.read-stops answerOf longest carried pieces
 
-pub write-stops : (n : ℕ) (carried piece : List ℕ) (pieces : List (List ℕ)) → (written : List ℕ) × Stopped runs.write carried (piece ∷ pieces) written
-write-stops n carried piece [] =
-    let s = carried ++ piece in
-    let a = outputOf (wholeLines s) in
-    (take n (take (length a) a), runs.atWrite (runs.fails n (length a) a (step-all s)))
-write-stops n carried piece (next ∷ pieces) =
-    let s = carried ++ piece in
-    let c = carriedOf s in
-    let a = outputOf (wholeLines s) in
-    let r = write-stops n (take (length c) c) next pieces in
-    ((take (length a) a ++ []) ++ r .0, runs.Stopped.turn (length c) c (writes-all s) (take-length c) (r .1))
+pub write-stops : (n : ℕ) (carried piece : List ℕ) (pieces : List (List ℕ)) → (written : List ℕ) × Stopped answerOf longest runs.write carried (piece ∷ pieces) written
+write-stops n carried piece pieces = laws.write-stops answerOf longest n carried piece pieces

@@ -19,8 +19,9 @@ ghost use mathlib.Core.List.{[], _∷_, _++_};
 ghost use Prim.Native.Nat.{_≤_, _<_, _-_, _+_, min};
 ghost use lib.ListN.{length, take, drop};
 ghost use Rattle.requests.specs.Requests.{longest, answerRoom, answerOf};
-ghost use Rattle.lines.specs.Lines.{wholeOf, carriedOf, lastAnswer};
-ghost use Rattle.lines.specs.Steps.{Answered, cameOf, CameIn, SentOf};
+ghost use Rattle.line_laws.specs.Lines.{wholeOf, carriedOf, lastAnswer};
+ghost use Rattle.line_laws.specs.Steps.{Answered};
+ghost use Rattle.lines.specs.Steps.{cameOf, CameIn, SentOf};
 
 // The room that is kept for an answer and its line feed: no answer is longer (law `answer-short`).
 const ROOM: usize = 23 * asked::LONGEST;
@@ -65,7 +66,7 @@ fn answer_at(line: &[u8], out: &mut [u8], at: usize) -> usize
 // Answers whole lines from a place on, as long as there is room for any answer.
 fn answer_lines(s: &[u8], from: usize, out: &mut [u8]) -> Step
     requires { ⌜ (from ≤ length (now s)) × (answerRoom ≤ length (now out)) ⌝ }
-    ensures { λ r. ⌜ Answered (now (s .entry)) from (now (out .exit)) (r .at) (r .put) ⌝ }
+    ensures { λ r. ⌜ Answered answerOf (now (s .entry)) from (now (out .exit)) (r .at) (r .put) ⌝ }
 {
     let mut at = from;
     let mut put = 0;
@@ -85,7 +86,7 @@ fn answer_lines(s: &[u8], from: usize, out: &mut [u8]) -> Step
 fn last_answer(line: &[u8], out: &mut [u8]) -> usize
     requires { ⌜ answerRoom ≤ length (now out) ⌝ }
     ensures { λ r. ⌜ r ≤ length (now (out .exit)) ⌝ }
-    ensures { λ r. ⌜ take r (now (out .exit)) ≡ lastAnswer (now (line .entry)) ⌝ }
+    ensures { λ r. ⌜ take r (now (out .exit)) ≡ lastAnswer answerOf (now (line .entry)) ⌝ }
 {
     if line.len() == 0 {
         return 0;
@@ -120,7 +121,7 @@ fn carry(buf: &mut [u8], used: usize, full: usize) -> usize
     requires { ⌜ full ≤ length (now buf) ⌝ }
     requires { ⌜ used ≡ wholeOf (take full (now buf)) ⌝ }
     ensures { λ r. ⌜ r ≤ longest + 1 ⌝ }
-    ensures { λ r. ⌜ take r (now (buf .exit)) ≡ carriedOf (take full (now (buf .entry))) ⌝ }
+    ensures { λ r. ⌜ take r (now (buf .exit)) ≡ carriedOf longest (take full (now (buf .entry))) ⌝ }
 {
     let n = kept(full - used);
     shift(buf, used, used + n);

@@ -5,21 +5,21 @@ use native.Mathlib.Omega.{arith}
 use lib.ListN.{length}
 use lib.Seq.{length-take-le}
 use denote.Ref.{now}
-use Rattle.requests.specs.Requests.{answerRoom}
+use Rattle.requests.specs.Requests.{answerRoom, answerOf}
 use borrow.Author.Needs.{needs}
 use Rattle.texts.proofs.Cuts.{rest}
-use Rattle.lines.proofs.StepLaws as laws
+use Rattle.line_laws.proofs.StepLaws as laws
 use Rattle.lines.proofs.answer_lines.Statement.{statement}
 use Rattle.lines.proofs.answer_lines.Tie as tie
 
 abbrev Inv-loop : tie.InvT-loop
-Inv-loop s from out₀ at₀ put₀ out at put = (length out ≡ length out₀) × laws.Answering s from out at put
+Inv-loop s from out₀ at₀ put₀ out at put = (length out ≡ length out₀) × laws.Answering answerOf s from out at put
 
 abbrev μ-loop : tie.MeasureT-loop
 μ-loop s from out₀ at₀ put₀ out at put = length s - at
 
 loop-holds : tie.Need-loop-holds Inv-loop μ-loop
-loop-holds c = let a = c .before .before .args in (refl, laws.start (now (a .s)) (a .from) (now (a .out)) (search needs))
+loop-holds c = let a = c .before .before .args in (refl, laws.start answerOf (now (a .s)) (a .from) (now (a .out)) (search needs))
 
 sub-loop : tie.Need-sub-loop Inv-loop μ-loop
 sub-loop c = search needs
@@ -44,7 +44,7 @@ returns c =
     let a = c .before .before .before .before .before .before .before .args in
     let l = c .before .before .before .before .loop in
     let f = c .before .find in
-    laws.finished (now (a .s)) (a .from) (l .out) (l .at) (l .put) (l .inv .1) _ (rest (now (a .s)) (l .at)) (f .result) (f .ensures .0) (c .if1 .taken)
+    laws.finished answerOf (now (a .s)) (a .from) (l .out) (l .at) (l .put) (l .inv .1) _ (rest (now (a .s)) (l .at)) (f .result) (f .ensures .0) (c .if1 .taken)
 
 slice-aggregate-answer-at : tie.Need-slice-aggregate-answer-at Inv-loop μ-loop
 slice-aggregate-answer-at c = sym (length-take-le _ _ (omega arith))
@@ -68,7 +68,7 @@ loop-again c =
     let f = c .before .before .before .before .before .before .find in
     let g = c .before .before .answer-at in (
       search needs,
-      laws.answered (now (a .s)) (a .from) (l .out) (l .at) (l .put) (l .inv .1) _ (rest (now (a .s)) (l .at)) (f .result) (f .ensures .0) (g .last .1 .0) (g .result) (omega arith) (g .ensures .0) (g .ensures .1),
+      laws.answered answerOf (now (a .s)) (a .from) (l .out) (l .at) (l .put) (l .inv .1) _ (rest (now (a .s)) (l .at)) (f .result) (f .ensures .0) (g .last .1 .0) (g .result) (omega arith) (g .ensures .0) (g .ensures .1),
     )
 
 same-length-2 : tie.Need-same-length-2 Inv-loop μ-loop
@@ -78,7 +78,7 @@ returns-2 : tie.Need-returns-2 Inv-loop μ-loop
 returns-2 c =
     let a = c .before .before .before .before .args in
     let l = c .before .loop in
-    laws.full (now (a .s)) (a .from) (l .out) (l .at) (l .put) (l .inv .1) answerRoom (omega arith) (omega arith)
+    laws.full answerOf (now (a .s)) (a .from) (l .out) (l .at) (l .put) (l .inv .1) answerRoom (omega arith) (omega arith)
 
 pub answer-lines-spec : {M : Type 1} → statement M
 answer-lines-spec =

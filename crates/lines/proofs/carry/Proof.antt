@@ -2,7 +2,7 @@
 use Prim.Native.Nat.{_≤_}
 use denote.Ref.{now}
 use lib.ListN.{take, length-take}
-use Rattle.lines.proofs.LineLaws.{whole-le}
+use Rattle.line_laws.proofs.LineLaws.{whole-le}
 use Rattle.lines.proofs.Buffers as laws
 use borrow.Author.Needs.{needs}
 use native.Mathlib.Omega.{arith}

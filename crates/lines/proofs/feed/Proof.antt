@@ -5,7 +5,7 @@ use Prim.Native.Nat.{ℕ, _+_, _≤_, _<_}
 use lib.ListN.{length}
 use lib.Seq.{length-take-le}
 use Rattle.requests.specs.Requests.{longest, answerRoom}
-use Rattle.lines.specs.Lines.{wholeOf}
+use Rattle.line_laws.specs.Lines.{wholeOf}
 use Rattle.lines.specs.Steps.{CameIn, SentOf}
 use Rattle.lines.specs.declared.Came.{Came}
 use Rattle.lines.specs.declared.Came.the-variants as came

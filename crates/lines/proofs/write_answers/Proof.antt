@@ -3,17 +3,18 @@ use mathlib.Core.Path.{_≡_, sym}
 use Prim.Native.Nat.{_-_}
 use lib.ListN.{length, take}
 use lib.Seq.{length-take-le}
+use Rattle.requests.specs.Requests.{answerOf}
 use borrow.Author.Needs.{needs}
-use Rattle.lines.specs.Lines.{wholeOf}
-use Rattle.lines.specs.Steps.{Answered}
-use Rattle.lines.proofs.LineLaws.{whole-nil}
-use Rattle.lines.proofs.StepLaws as laws
+use Rattle.line_laws.specs.Lines.{wholeOf}
+use Rattle.line_laws.specs.Steps.{Answered}
+use Rattle.line_laws.proofs.LineLaws.{whole-nil}
+use Rattle.line_laws.proofs.StepLaws as laws
 use native.Mathlib.Omega.{arith}
 use Rattle.lines.proofs.write_answers.Statement.{statement}
 use Rattle.lines.proofs.write_answers.Tie as tie
 
 abbrev Inv-loop : tie.InvT-loop
-Inv-loop s out₀ at₀ t₀ out at t = (length out ≡ length out₀) × (wholeOf (take at s) ≡ at) × Answered s at out (t .at) (t .put)
+Inv-loop s out₀ at₀ t₀ out at t = (length out ≡ length out₀) × (wholeOf (take at s) ≡ at) × Answered answerOf s at out (t .at) (t .put)
 
 abbrev μ-loop : tie.MeasureT-loop
 μ-loop s out₀ at₀ t₀ out at t = length s - at
@@ -40,7 +41,7 @@ loop-less : tie.Need-loop-less Inv-loop μ-loop
 loop-less c = search needs
 
 loop-again : tie.Need-loop-again Inv-loop μ-loop
-loop-again c = let l = c .before .before .before .before .before .before .before .before .before .loop in (search needs, laws.onward-whole (l .inv .1) (l .inv .2), c .before .before .answer-lines2 .ensures)
+loop-again c = let l = c .before .before .before .before .before .before .before .before .before .loop in (search needs, laws.onward-whole answerOf (l .inv .1) (l .inv .2), c .before .before .answer-lines2 .ensures)
 
 same-length : tie.Need-same-length Inv-loop μ-loop
 same-length c = search needs
@@ -52,7 +53,7 @@ same-length-2 : tie.Need-same-length-2 Inv-loop μ-loop
 same-length-2 c = search needs
 
 returns-2 : tie.Need-returns-2 Inv-loop μ-loop
-returns-2 c = let l = c .before .before .loop in (omega arith, laws.all-whole (l .inv .1) (l .inv .2) (omega arith))
+returns-2 c = let l = c .before .before .loop in (omega arith, laws.all-whole answerOf (l .inv .1) (l .inv .2) (omega arith))
 
 pub write-answers-spec : {M : Type 1} → statement M
 write-answers-spec =

@@ -1,4 +1,4 @@
--- Whole lines and the line after them, one after the other; what their answers are.
+-- Whole lines and the line after them, one after the other.
 use Prim.Native.Nat.{ℕ, zero, suc, _+_, _≤_, _<_}
 use mathlib.Core.Path.{_≡_, refl, ap, sym, _∙_}
 use mathlib.Core.List.{List, [], _∷_, _++_, append-assoc}
@@ -9,9 +9,7 @@ use lib.Seq.{take-all, take-append-add, length-take-le}
 use lib.Dec.{eqb, ltb, leb}
 use borrow.Author.Tests.{lt-ltb, leb-true, leb-false}
 use Rattle.texts.specs.Bytes.{is, indexOf, consHead, partsAt}
-use Rattle.wording.specs.Output.{bad}
-use Rattle.requests.specs.Requests.{longest, answerOf}
-use Rattle.lines.specs.Lines.{linesOf, answersTo, outputOf, wholeOf, wholeLines}
+use Rattle.line_laws.specs.Lines.{linesOf, wholeOf, wholeLines}
 
 -- ---- how many bytes whole lines take
 pub whole-cons : (b : ℕ) (s : List ℕ) → 0 < wholeOf s → wholeOf (b ∷ s) ≡ suc (wholeOf s)
@@ -31,11 +29,11 @@ unfolding wholeOf
 alone-whole b e = rw e
 
 -- none, or some
-data Split (n : ℕ) : Type 0 where
+pub data Split (n : ℕ) : Type 0 where
   none : n ≡ 0 → Split n
   some : 0 < n → Split n
 
-split : (n : ℕ) → Split n
+pub split : (n : ℕ) → Split n
 split zero = none refl
 split (suc n) = some (omega arith)
 
@@ -149,7 +147,7 @@ onto-line : (b : ℕ) (l : List ℕ) → consHead b (l ∷ []) ≡ (b ∷ l) ∷
 unfolding consHead
 onto-line b l = refl
 
-first-line : (s : List ℕ) → indexOf (is 10) s < length s → linesOf (take (suc (indexOf (is 10) s)) s) ≡ take (indexOf (is 10) s) s ∷ []
+pub first-line : (s : List ℕ) → indexOf (is 10) s < length s → linesOf (take (suc (indexOf (is 10) s)) s) ≡ take (indexOf (is 10) s) s ∷ []
 unfolding indexOf is
 first-line [] h = absurd (omega arith)
 first-line (b ∷ s) h = go (eqb b 10) refl h (first-line s)
@@ -169,12 +167,6 @@ module _ (t : List ℕ) (n : ℕ) (e : n ≡ indexOf (is 10) t) (h : n < length 
       let k : n + 1 ≡ suc (indexOf (is 10) t) = omega (arith, e) in
       ap (λ (m : ℕ). wholeOf (take m t)) k ∙ first-whole t (omega (arith, e)) ∙ sym k
 
-  pub line-output : outputOf (take (n + 1) t) ≡ answerOf (take n t) ++ (10 ∷ [])
-  unfolding outputOf answersTo
-  line-output =
-      let k : n + 1 ≡ suc (indexOf (is 10) t) = omega (arith, e) in
-      ap (λ (m : ℕ). answersTo (linesOf (take m t))) k ∙ ap answersTo (first-line t (omega (arith, e))) ∙ ap (λ (m : ℕ). answerOf (take m t) ++ (10 ∷ [])) (sym e)
-
 -- ---- lines after whole lines
 some-line : (c : ℕ) (t : List ℕ) → 0 < length (linesOf (c ∷ t))
 unfolding partsAt consHead
@@ -191,27 +183,13 @@ front q b [] m h = absurd (omega arith)
 front true b (f ∷ l) m h = refl
 front false b (f ∷ l) m h = refl
 
-lines-append : (t x : List ℕ) → wholeOf t ≡ length t → linesOf (t ++ x) ≡ linesOf t ++ linesOf x
+pub lines-append : (t x : List ℕ) → wholeOf t ≡ length t → linesOf (t ++ x) ≡ linesOf t ++ linesOf x
 unfolding partsAt
 lines-append [] x e = refl
 lines-append (b ∷ []) x e = rw (feed-alone b e)
 lines-append (b ∷ (c ∷ t)) x e =
     ap (λ (l : List (List ℕ)). cond (eqb b 10) ([] ∷ l) (consHead b l)) (lines-append (c ∷ t) x (tail-whole b c t e))
     ∙ front (eqb b 10) b (linesOf (c ∷ t)) (linesOf x) (some-line c t)
-
-answers-append : (l m : List (List ℕ)) → answersTo (l ++ m) ≡ answersTo l ++ answersTo m
-unfolding answersTo
-answers-append [] m = refl
-answers-append (a ∷ l) m =
-    ap (λ (z : List ℕ). answerOf a ++ (10 ∷ z)) (answers-append l m) ∙ sym (append-assoc (answerOf a) (10 ∷ answersTo l) (answersTo m))
-
-pub output-nil : outputOf [] ≡ []
-unfolding outputOf answersTo partsAt
-output-nil = refl
-
-pub output-append : (t x : List ℕ) → wholeOf t ≡ length t → outputOf (t ++ x) ≡ outputOf t ++ outputOf x
-unfolding outputOf
-output-append t x e = ap answersTo (lines-append t x e) ∙ answers-append (linesOf t) (linesOf x)
 
 -- ---- a line that is not whole yet
 open-byte : (b : ℕ) (t : List ℕ) → wholeOf (b ∷ t) ≡ 0 → (wholeOf t ≡ 0) × (eqb b 10 ≡ false)
@@ -233,7 +211,7 @@ open-take (suc n) (b ∷ t) e =
     whole-byte b (take n t) (open-take n t (o .0)) ∙ ap (λ (q : Bool). cond q 1 0) (o .1)
 
 -- the line t before the first of some lines
-unfoldable ontoHead : List ℕ → List (List ℕ) → List (List ℕ)
+unfoldable pub ontoHead : List ℕ → List (List ℕ) → List (List ℕ)
 ontoHead t [] = t ∷ []
 ontoHead t (l ∷ ls) = (t ++ l) ∷ ls
 
@@ -247,7 +225,7 @@ unfolding consHead ontoHead
 head-more b t [] = refl
 head-more b t (f ∷ l) = refl
 
-lines-open : (t x : List ℕ) → wholeOf t ≡ 0 → 0 < length t → linesOf (t ++ x) ≡ ontoHead t (linesOf x)
+pub lines-open : (t x : List ℕ) → wholeOf t ≡ 0 → 0 < length t → linesOf (t ++ x) ≡ ontoHead t (linesOf x)
 lines-open [] x e h = absurd (omega arith)
 lines-open (b ∷ []) x e h =
     lines-cons b x ∙ ap (λ (q : Bool). cond q ([] ∷ linesOf x) (consHead b (linesOf x))) (open-byte b [] e .1) ∙ head-byte b (linesOf x)
@@ -257,37 +235,7 @@ lines-open (b ∷ (c ∷ t)) x e h =
     lines-cons b ((c ∷ t) ++ x) ∙ ap (λ (q : Bool). cond q ([] ∷ r) (consHead b r)) (o .1)
     ∙ ap (consHead b) (lines-open (c ∷ t) x (o .0) (omega arith)) ∙ head-more b (c ∷ t) (linesOf x)
 
-pub open-output : (t : List ℕ) → wholeOf t ≡ 0 → 0 < length t → outputOf (t ++ []) ≡ answerOf t ++ (10 ∷ [])
-unfolding outputOf answersTo partsAt ontoHead
-open-output t e h = ap answersTo (lines-open t [] e h)
-
--- of a line that is too long, one byte too many is as good as all
-long-bad : (l : List ℕ) → longest < length l → answerOf l ≡ bad
-unfolding answerOf
-long-bad l h = rw (lt-ltb longest (length l) h)
-
-both-bad : (t u : List ℕ) (l : List (List ℕ)) → longest < length t → longest < length u → answersTo (ontoHead t l) ≡ answersTo (ontoHead u l)
-unfolding answersTo ontoHead
-both-bad t u [] g h = ap (λ (a : List ℕ). a ++ (10 ∷ [])) (long-bad t g ∙ sym (long-bad u h))
-both-bad t u (f ∷ l) g h =
-    ap (λ (a : List ℕ). a ++ (10 ∷ answersTo l))
-    (long-bad (t ++ f) (omega (arith, length-append t f)) ∙ sym (long-bad (u ++ f) (omega (arith, length-append u f))))
-
-pub kept-output : (t x : List ℕ) → wholeOf t ≡ 0 → outputOf (take (longest + 1) t ++ x) ≡ outputOf (t ++ x)
-unfolding outputOf
-kept-output t x e = go (leb (length t) (longest + 1)) refl
-  where
-    go : (q : Bool) → leb (length t) (longest + 1) ≡ q → outputOf (take (longest + 1) t ++ x) ≡ outputOf (t ++ x)
-    go true q = ap (λ (u : List ℕ). outputOf (u ++ x)) (take-all (longest + 1) t (leb-true (length t) (longest + 1) q))
-    go false q =
-        let h = leb-false (length t) (longest + 1) q in
-        let k : length (take (longest + 1) t) ≡ longest + 1 = length-take-le (longest + 1) t (omega arith) in
-        ap answersTo (lines-open (take (longest + 1) t) x (open-take (longest + 1) t e) (omega (arith, k)))
-        ∙ both-bad (take (longest + 1) t) t (linesOf x) (omega (arith, k)) (omega arith)
-        ∙ ap answersTo (sym (lines-open t x e (omega arith)))
-
--- that holds of whole lines alone, too
-open-append : (t x : List ℕ) → wholeOf t ≡ 0 → wholeOf x ≡ 0 → wholeOf (t ++ x) ≡ 0
+pub open-append : (t x : List ℕ) → wholeOf t ≡ 0 → wholeOf x ≡ 0 → wholeOf (t ++ x) ≡ 0
 open-append [] x e z = z
 open-append (b ∷ t) x e z =
     let o = open-byte b t e in
@@ -297,15 +245,6 @@ before-whole : (t x : List ℕ) → 0 < wholeOf x → wholeOf (t ++ x) ≡ lengt
 before-whole [] x h = omega arith
 before-whole (b ∷ t) x h = let i = before-whole t x h in whole-cons b (t ++ x) (omega (arith, i)) ∙ omega (arith, i)
 
-before-lines : (t x : List ℕ) → 0 < wholeOf x → wholeLines (t ++ x) ≡ t ++ wholeLines x
+pub before-lines : (t x : List ℕ) → 0 < wholeOf x → wholeLines (t ++ x) ≡ t ++ wholeLines x
 unfolding wholeLines
 before-lines t x h = ap (λ (n : ℕ). take n (t ++ x)) (before-whole t x h) ∙ take-append-add t x (wholeOf x)
-
-pub kept-whole : (t x : List ℕ) → wholeOf t ≡ 0 → outputOf (wholeLines (take (longest + 1) t ++ x)) ≡ outputOf (wholeLines (t ++ x))
-kept-whole t x e = go (split (wholeOf x))
-  where
-    go : Split (wholeOf x) → outputOf (wholeLines (take (longest + 1) t ++ x)) ≡ outputOf (wholeLines (t ++ x))
-    go (none z) =
-        ap outputOf
-        (none-whole (take (longest + 1) t ++ x) (open-append (take (longest + 1) t) x (open-take (longest + 1) t e) z) ∙ sym (none-whole (t ++ x) (open-append t x e z)))
-    go (some p) = ap outputOf (before-lines (take (longest + 1) t) x p) ∙ kept-output t (wholeLines x) e ∙ ap outputOf (sym (before-lines t x p))

@@ -1,0 +1,4 @@
+pub mod LineLaws
+pub mod OutputLaws
+pub mod StepLaws
+pub mod RunLaws
