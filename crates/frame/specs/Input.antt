@@ -1,0 +1,39 @@
+-- What the answer of a read means, and what the contracts say of the buffer after reads.
+use Prim.Native.Nat.{ℕ, zero, suc, _≤_, _<_, min}
+use mathlib.Core.Path.{_≡_}
+use mathlib.Core.List.{List}
+use mathlib.Core.Bool.{false}
+use lib.ListN.{length, take, drop}
+use lib.IntN.{ℤ, pos, negsuc}
+use Rattle.texts.specs.Bytes.{holds}
+use Rattle.frame.specs.declared.input.Came.{Came}
+use Rattle.frame.specs.declared.input.Came.the-variants as came
+use Rattle.frame.specs.declared.input.Taken.{Taken}
+use Rattle.frame.specs.declared.input.Taken.the-variants as taken
+
+-- what came of a read, by its answer, for a space of so many bytes: a number below 0 is a failure and no end of the input
+unfoldable pub cameOf : ℤ → ℕ → Came
+cameOf (pos zero) space = came.End
+cameOf (pos (suc k)) space = came.Bytes (min (suc k) space)
+cameOf (negsuc k) space = came.Failed
+
+-- what came has room; where there is some, it is a byte at least
+abbrev pub CameIn : ℕ → Came → Type 0
+CameIn space (came.Bytes n) = (n ≤ space) × (0 < space → 0 < n)
+CameIn space came.End = Unit
+CameIn space came.Failed = Unit
+
+-- what was read has room
+abbrev pub TakenIn : ℕ → Taken → Type 0
+TakenIn space (taken.Bytes n) = n ≤ space
+TakenIn space taken.Failed = Unit
+
+-- the first n bytes of the new buffer have no line feed (10), and those after them are the old ones
+pub record LineIn (old new : List ℕ) (n : ℕ) : Type 0 where
+  pub fits : n ≤ length new
+  pub line : holds 10 (take n new) ≡ false
+  pub after : drop n new ≡ drop n old
+
+abbrev pub TakenLine : List ℕ → List ℕ → Taken → Type 0
+TakenLine old new (taken.Bytes n) = LineIn old new n
+TakenLine old new taken.Failed = Unit
