@@ -11,7 +11,9 @@ use borrow.Author.Tests.{ne-eqb}
 use Rattle.texts.specs.Bytes.{joined}
 use Rattle.texts.specs.Lent.{written, Holds, Adds}
 use Rattle.texts.proofs.Pieces.{start, holds-length}
-use Rattle.frame.specs.Arguments.{nextWord, WordIn, Joined}
+use Rattle.frame.specs.Arguments.{nextWord, WordIn, Joined, GivenIn}
+use Rattle.frame.specs.declared.arguments.Given.{Given}
+use Rattle.frame.specs.declared.arguments.Given.the-variants as given
 use Rattle.frame.specs.declared.arguments.Word.{Word}
 use Rattle.frame.specs.declared.arguments.Word.the-variants as word
 
@@ -75,3 +77,6 @@ all-given {old} {new} {at} {i} j some room =
           j .held .bytes ∙ ap (λ (x : List ℕ). x ++ drop (length t) old) (take-all (length old) t (omega (arith, free, p)))
           ∙ ap (λ (k : ℕ). t ++ drop k old) (sym p);
     }
+
+pub given-line : (old new : List ℕ) (r : Given) (n : ℕ) → GivenIn old new r → r ≡ given.Line n → Joined old new n
+given-line old new r n h e = subst (λ (x : Given). GivenIn old new x) e h

@@ -11,10 +11,13 @@ use lib.Seq.{take-all, take-at, take-suc-set, take-append-le, drop-append-le, le
 use borrow.Author.Tests.{leb-true, leb-false}
 use borrow.Rule.Slice.PartMut.{putMid, postOf, same-len-mid}
 use Rattle.texts.proofs.Cuts.{rest}
+use Rattle.texts.specs.Bytes.{bytes}
 use Rattle.texts.specs.Lent.{written}
+use Rattle.wording.specs.Words.{sameText}
 use Rattle.texts.proofs.Pieces.{written-length}
-use Rattle.requests.specs.Requests.{longest, answerOf}
+use Rattle.requests.specs.Requests.{longest, answerRoom, answerOf}
 use Rattle.line_laws.specs.Lines.{wholeOf, openLine, carriedOf, lastAnswer}
+use Rattle.lines.specs.Given.{helpText, givenOutput}
 
 -- ---- a text t and a line feed at the place at of out, in the part of it that was lent
 module _ (out t part : List ℕ) (at n : ℕ) (fits : at + suc (length t) ≤ length out) (e : n ≡ min (length t) (length (take (length out - at) (drop at out))))
@@ -63,6 +66,19 @@ pub last-some : (l : List ℕ) → (length l ≡ 0 → ⊥) → answerOf l ++ (1
 unfolding lastAnswer
 last-some [] e = absurd (e refl)
 last-some (b ∷ l) e = refl
+
+-- ---- the line of arguments
+pub help-short : length helpText ≤ answerRoom
+unfolding helpText
+help-short = leb-true (length helpText) answerRoom refl
+
+pub given-help : (l : List ℕ) → sameText l (bytes "--help") ≡ true → helpText ≡ givenOutput l
+unfolding givenOutput
+given-help l e = rw e
+
+pub given-line : (l : List ℕ) → sameText l (bytes "--help") ≡ false → answerOf l ++ (10 ∷ []) ≡ givenOutput l
+unfolding givenOutput
+given-line l e = rw e
 
 -- ---- the line that is carried over
 take-min : (n : ℕ) (l : List ℕ) → take (min n (length l)) l ≡ take n l

@@ -1,27 +1,36 @@
-// Requests are read from standard input, line by line, and their answers written to standard output, through two buffers.
+// The program dame: its arguments, or standard input line by line, answered on standard output.
+//
+// Without arguments, requests are read from standard input and their answers written to standard output, through two buffers. With
+// arguments, these are one line, joined by single spaces: its answer is written, and standard input is not read. `--help` alone
+// writes the help.
 //
 // What the outside gets is in no contract, since those of read and write do not speak of it. So all but a few lines is pure:
 // `answer_lines` puts answers into the output buffer, `carry` keeps the line that is not whole yet, `last_answer` answers it at
-// the end of the input, `what_came` tells the end of the input from a read that failed; their contracts say what bytes the
-// buffers contain then. What is written so, turn by turn, is the output for the whole input, however it is cut into reads (law
-// `run-law`); and what a run has written that stops is a beginning of it (`stop-law`, `read-stop-law`). `read_more`,
-// `write_answers`, `write_last`, `feed` and `serve` only read, call these and write what they put into the buffer.
-//
-// A read or write fails where the C library answers -1, or a write takes nothing. Why is not asked: a call that a signal
-// interrupts, or one that would have to wait on a descriptor that must not, counts as one that failed.
-use libc::STDERR_FILENO;
-use libc::STDIN_FILENO;
-use libc::STDOUT_FILENO;
+// the end of the input, `given_answer` answers the arguments; their contracts say what bytes the buffers contain then. What is
+// written so, turn by turn, is the output for the whole input, however it is cut into reads (law `run-law`); and what a run that
+// stops has written is a beginning of it (`stop-law`, `read-stop-law`). `read_more`, `write_answers`, `write_last`, `feed`,
+// `answer_given`, `run` and `serve` only read, call these and write what they put into the buffer.
+use frame::arguments;
+use frame::arguments::Given;
+use frame::input;
+use frame::input::Came;
+use frame::output;
+use frame::output::Ended;
 use requests::requests as asked;
 use texts::bytes;
+use wording::output as wording_output;
+use wording::words;
 ghost use mathlib.Core.Path.{_≡_};
 ghost use mathlib.Core.List.{[], _∷_, _++_};
 ghost use Prim.Native.Nat.{_≤_, _<_, _-_, _+_, min};
 ghost use lib.ListN.{length, take, drop};
+ghost use Rattle.texts.specs.Lent.{Adds};
 ghost use Rattle.requests.specs.Requests.{longest, answerRoom, answerOf};
+ghost use Rattle.frame.specs.Input.{CameIn};
 ghost use Rattle.line_laws.specs.Lines.{wholeOf, carriedOf, lastAnswer};
 ghost use Rattle.line_laws.specs.Steps.{Answered};
-ghost use Rattle.lines.specs.Steps.{cameOf, CameIn, SentOf};
+ghost use Rattle.lines.specs.Steps.{SentOf};
+ghost use Rattle.lines.specs.Given.{helpText, givenOutput};
 
 // The room that is kept for an answer and its line feed: no answer is longer (law `answer-short`).
 const ROOM: usize = 23 * asked::LONGEST;
@@ -32,24 +41,10 @@ struct Step {
     put: usize,
 }
 
-// What came of a read: so many bytes, the end of the input, or nothing, since it failed.
-enum Came {
-    Bytes(usize),
-    End,
-    Failed,
-}
-
 // What became of the answers to whole lines: all were written, and how many bytes the lines take; or a write failed.
 enum Sent {
     Whole(usize),
     Failed,
-}
-
-// How a run ends: the whole input was answered, a read failed, or a write failed.
-enum Ended {
-    Whole,
-    Read,
-    Write,
 }
 
 // The answer to a line at a place of out, with its line feed; the place after it.
@@ -128,27 +123,13 @@ fn carry(buf: &mut [u8], used: usize, full: usize) -> usize
     n
 }
 
-// What the answer of a read says, for a space of so many bytes: negative, the read failed.
-fn what_came(got: isize, space: &[u8]) -> Came
-    ensures { λ r. ⌜ r ≡ cameOf got (length (now (space .entry))) ⌝ }
-{
-    if got < 0 {
-        return Came::Failed;
-    }
-    if got == 0 {
-        return Came::End;
-    }
-    Came::Bytes(io::count(got, space))
-}
-
 // Reads once, after the bytes that were carried over, which stay; how many came.
 fn read_more(buf: &mut [u8], have: usize) -> Came
     requires { ⌜ have < length (now buf) ⌝ }
     ensures { λ r. ⌜ CameIn (length (now (buf .exit)) - have) r ⌝ }
     ensures { λ r. ⌜ take have (now (buf .exit)) ≡ take have (now (buf .entry)) ⌝ }
 {
-    let got = libc::read(STDIN_FILENO, &mut buf[have..]);
-    what_came(got, &buf[have..])
+    input::read_once(&mut buf[have..])
 }
 
 // Writes the answers to the whole lines; how many bytes those lines take. At the first write that fails it stops.
@@ -160,7 +141,7 @@ fn write_answers(s: &[u8], out: &mut [u8]) -> Sent
     let mut t = answer_lines(s, 0, out);
     while at < t.at {
         let put = t.put;
-        if io::write_all(STDOUT_FILENO, &out[..put]) {
+        if output::write(&out[..put]) {
             at = t.at;
             t = answer_lines(s, at, out);
         } else {
@@ -175,10 +156,7 @@ fn write_last(line: &[u8], out: &mut [u8]) -> Ended
     requires { ⌜ answerRoom ≤ length (now out) ⌝ }
 {
     let put = last_answer(line, out);
-    if io::write_all(STDOUT_FILENO, &out[..put]) {
-        return Ended::Whole;
-    }
-    Ended::Write
+    output::finish(&out[..put])
 }
 
 // Each turn reads once and answers what lines are whole then. The first read or write that fails is the last: nothing more
@@ -213,22 +191,49 @@ fn feed(buf: &mut [u8], out: &mut [u8]) -> Ended
     Ended::Read
 }
 
-// A program has no exit status of its own: that it stopped is said by a line on standard error.
-fn report(end: Ended) {
-    match end {
-        Ended::Whole => {}
-        Ended::Read => {
-            io::write_all(STDERR_FILENO, b"a read failed\n");
-        }
-        Ended::Write => {
-            io::write_all(STDERR_FILENO, b"a write failed\n");
-        }
+// Stands in for the help of `requests`.
+fn help(out: &mut [u8]) -> usize
+    ensures { λ r. ⌜ Adds helpText (now (out .entry)) 0 (now (out .exit)) r ⌝ }
+{
+    wording_output::put(out, 0, b"docs/PROTOCOL.md has the requests\n")
+}
+
+// What is written for the line of arguments: the help where it is `--help`, else the answer to it and a line feed.
+fn given_answer(line: &[u8], out: &mut [u8]) -> usize
+    requires { ⌜ answerRoom ≤ length (now out) ⌝ }
+    ensures { λ r. ⌜ r ≤ length (now (out .exit)) ⌝ }
+    ensures { λ r. ⌜ take r (now (out .exit)) ≡ givenOutput (now (line .entry)) ⌝ }
+{
+    if words::same(line, b"--help") {
+        return help(out);
+    }
+    answer_at(line, out, 0)
+}
+
+// Answers the line of arguments. Standard input is not read.
+fn answer_given(line: &[u8], out: &mut [u8]) -> Ended
+    requires { ⌜ answerRoom ≤ length (now out) ⌝ }
+{
+    let put = given_answer(line, out);
+    output::finish(&out[..put])
+}
+
+// Answers the arguments, or standard input where there are none. The line has one byte more than the longest: arguments that leave
+// none of it free are a line that is too long, and so is the whole buffer. All such lines have one answer (law `long-same`).
+fn run(line: &mut [u8], buf: &mut [u8], out: &mut [u8]) -> Ended
+    requires { ⌜ (longest + 1 < length (now buf)) × (answerRoom ≤ length (now out)) ⌝ }
+{
+    match arguments::arguments(line) {
+        Given::Line(n) => answer_given(&line[..n], out),
+        Given::Nothing => feed(buf, out),
+        Given::Long => answer_given(line, out),
     }
 }
 
-// Answers standard input, line by line, to its end, or up to the first read or write that fails.
+// The whole program: answers its arguments, or standard input to its end, or up to the first read or write that fails.
 pub fn serve() {
+    let mut line = [0u8; 65537];
     let mut buf = [0u8; 131072];
     let mut out = [0u8; 1572864];
-    report(feed(&mut buf, &mut out));
+    output::report(run(&mut line, &mut buf, &mut out));
 }

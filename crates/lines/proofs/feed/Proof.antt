@@ -6,18 +6,20 @@ use lib.ListN.{length}
 use lib.Seq.{length-take-le}
 use Rattle.requests.specs.Requests.{longest, answerRoom}
 use Rattle.line_laws.specs.Lines.{wholeOf}
-use Rattle.lines.specs.Steps.{CameIn, SentOf}
-use Rattle.lines.specs.declared.Came.{Came}
-use Rattle.lines.specs.declared.Came.the-variants as came
+use Rattle.frame.specs.Input.{CameIn}
+use Rattle.lines.specs.Steps.{SentOf}
+use Rattle.frame.specs.declared.input.Came.{Came}
+use Rattle.frame.specs.declared.input.Came.the-variants as came
 use Rattle.lines.specs.declared.Sent.{Sent}
 use Rattle.lines.specs.declared.Sent.the-variants as sent
+use Rattle.frame.proofs.Taking.{came-bytes}
 use borrow.Author.Needs.{needs}
 use native.Mathlib.Omega.{arith}
 use Rattle.lines.proofs.feed.Statement.{statement}
 use Rattle.lines.proofs.feed.Tie as tie
 
 came-fits : (room : ℕ) (r : Came) (n : ℕ) → CameIn room r → r ≡ came.Bytes n → n ≤ room
-came-fits room r n h e = subst (λ (x : Came). CameIn room x) e h
+came-fits room r n h e = came-bytes room r n h e .0
 
 sent-fits : (s : List ℕ) (r : Sent) (n : ℕ) → SentOf s r → r ≡ sent.Whole n → (n ≤ length s) × (n ≡ wholeOf s)
 sent-fits s r n h e = subst (λ (x : Sent). SentOf s x) e h

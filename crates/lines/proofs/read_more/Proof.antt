@@ -1,73 +1,39 @@
 -- What is read goes after the bytes that were carried over.
-use Prim.Native.Nat.{ℕ, zero, suc, _-_}
-use mathlib.Core.Path.{_≡_, ap, sym, _∙_, subst}
-use lib.IntN.{ℤ, pos, negsuc}
-use lib.ListN.{length, length-drop}
+use Prim.Native.Nat.{ℕ, _-_}
+use mathlib.Core.Path.{ap, sym, _∙_, subst}
+use lib.ListN.{length}
 use denote.Ref.{now}
-use borrow.Rule.Slice.PartMut.{putMid, take-put}
-use Rattle.texts.proofs.Cuts.{rest}
-use Rattle.lines.specs.Steps.{cameOf, CameIn}
-use Rattle.lines.specs.declared.Came.{Came}
+use borrow.Rule.Slice.PartMut.{take-put}
+use Rattle.frame.specs.Input.{CameIn}
+use Rattle.frame.proofs.Taking as laws
 use borrow.Author.Needs.{needs}
 use native.Mathlib.Omega.{arith}
 use Rattle.lines.proofs.read_more.Statement.{statement}
 use Rattle.lines.proofs.read_more.Tie as tie
 
-came-in : (z : ℤ) (space : ℕ) → CameIn space (cameOf z space)
-unfolding cameOf
-came-in (pos zero) space = tt
-came-in (pos (suc k)) space = omega arith
-came-in (negsuc k) space = tt
+sub-read-once : tie.Need-sub-read-once
+sub-read-once c = search needs
 
-fits : (z : ℤ) (space room : ℕ) (r : Came) → space ≡ room → r ≡ cameOf z space → CameIn room r
-fits z space room r e q = subst (λ (n : ℕ). CameIn n r) e (subst (λ (x : Came). CameIn space x) (sym q) (came-in z space))
+part-read-once-start : tie.Need-part-read-once-start
+part-read-once-start c = search needs
 
-sub-read : tie.Need-sub-read
-sub-read c = search needs
+part-read-once-end : tie.Need-part-read-once-end
+part-read-once-end c = search needs
 
-part-read-start : tie.Need-part-read-start
-part-read-start c = search needs
-
-part-read-end : tie.Need-part-read-end
-part-read-end c = search needs
-
-read-requires : tie.Need-read-requires
-read-requires c κs = search needs
-
-sub-what-came : tie.Need-sub-what-came
-sub-what-came c = search needs
-
-part-what-came-start : tie.Need-part-what-came-start
-part-what-came-start c = search needs
-
-part-what-came-end : tie.Need-part-what-came-end
-part-what-came-end c = search needs
-
-what-came-requires : tie.Need-what-came-requires
-what-came-requires c κs = search needs
+read-once-requires : tie.Need-read-once-requires
+read-once-requires c κs = search needs
 
 same-length : tie.Need-same-length
 same-length c = search needs
 
 returns : tie.Need-returns
 returns c =
-    let a = c .before .before .before .before .before .before .before .before .args in
-    let n = length (now (a .buf)) - a .have in
-    let read = c .before .before .before .before .before .read .last .1 .0 in
-    let new = putMid (a .have) n (now (a .buf)) read in
-    (fits _ _ _ _ (ap length (rest new (a .have)) ∙ length-drop (a .have) new) (c .what-came .ensures), take-put (a .have) n (now (a .buf)) read (omega arith))
+    let a = c .before .before .before .before .before .args in
+    let f = c .before .before .read-once in
+    let buf = now (a .buf) in
+    let s = laws.same-buffer buf (f .last .0) (a .have) (omega arith) (f .kept .0) in
+    let l = laws.part-length buf (f .last .0) (a .have) (omega arith) (f .kept .0) in
+    (subst (λ (n : ℕ). CameIn n (f .result)) (l ∙ ap (λ (n : ℕ). n - a .have) (sym s)) (f .ensures), take-put (a .have) (length buf - a .have) buf (f .last .0) (omega arith))
 
 pub read-more-spec : {M : Type 1} → statement M
-read-more-spec =
-    tie.close
-    (tie.spec
-    sub-read
-    part-read-start
-    part-read-end
-    read-requires
-    sub-what-came
-    part-what-came-start
-    part-what-came-end
-    what-came-requires
-    same-length
-    returns)
+read-more-spec = tie.close (tie.spec sub-read-once part-read-once-start part-read-once-end read-once-requires same-length returns)
