@@ -15,9 +15,9 @@ use Rattle.texts.specs.Bytes.{bytes}
 use Rattle.texts.specs.Lent.{written}
 use Rattle.wording.specs.Words.{sameText}
 use Rattle.texts.proofs.Pieces.{written-length}
-use Rattle.requests.specs.Requests.{longest, answerRoom, answerOf}
+use Rattle.requests.specs.Requests.{helpText, longest, answerRoom, answerOf}
 use Rattle.line_laws.specs.Lines.{wholeOf, openLine, carriedOf, lastAnswer}
-use Rattle.lines.specs.Given.{helpText, givenOutput}
+use Rattle.lines.specs.Given.{givenOutput}
 
 -- ---- a text t and a line feed at the place at of out, in the part of it that was lent
 module _ (out t part : List ℕ) (at n : ℕ) (fits : at + suc (length t) ≤ length out) (e : n ≡ min (length t) (length (take (length out - at) (drop at out))))

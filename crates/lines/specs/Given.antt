@@ -4,10 +4,7 @@ use mathlib.Core.List.{List, [], _∷_, _++_}
 use mathlib.Core.Bool.{cond}
 use Rattle.texts.specs.Bytes.{bytes}
 use Rattle.wording.specs.Words.{sameText}
-use Rattle.requests.specs.Requests.{answerOf}
-
-unfoldable pub helpText : List ℕ
-helpText = bytes "docs/PROTOCOL.md has the requests" ++ (10 ∷ [])
+use Rattle.requests.specs.Requests.{helpText, answerOf}
 
 -- for the arguments as one line: the help for `--help`, else the answer and a line feed
 unfoldable pub givenOutput : List ℕ → List ℕ

@@ -18,19 +18,17 @@ use frame::output;
 use frame::output::Ended;
 use requests::requests as asked;
 use texts::bytes;
-use wording::output as wording_output;
 use wording::words;
 ghost use mathlib.Core.Path.{_≡_};
 ghost use mathlib.Core.List.{[], _∷_, _++_};
 ghost use Prim.Native.Nat.{_≤_, _<_, _-_, _+_, min};
 ghost use lib.ListN.{length, take, drop};
-ghost use Rattle.texts.specs.Lent.{Adds};
 ghost use Rattle.requests.specs.Requests.{longest, answerRoom, answerOf};
 ghost use Rattle.frame.specs.Input.{CameIn};
 ghost use Rattle.line_laws.specs.Lines.{wholeOf, carriedOf, lastAnswer};
 ghost use Rattle.line_laws.specs.Steps.{Answered};
 ghost use Rattle.lines.specs.Steps.{SentOf};
-ghost use Rattle.lines.specs.Given.{helpText, givenOutput};
+ghost use Rattle.lines.specs.Given.{givenOutput};
 
 // The room that is kept for an answer and its line feed: no answer is longer (law `answer-short`).
 const ROOM: usize = 23 * asked::LONGEST;
@@ -191,13 +189,6 @@ fn feed(buf: &mut [u8], out: &mut [u8]) -> Ended
     Ended::Read
 }
 
-// Stands in for the help of `requests`.
-fn help(out: &mut [u8]) -> usize
-    ensures { λ r. ⌜ Adds helpText (now (out .entry)) 0 (now (out .exit)) r ⌝ }
-{
-    wording_output::put(out, 0, b"docs/PROTOCOL.md has the requests\n")
-}
-
 // What is written for the line of arguments: the help where it is `--help`, else the answer to it and a line feed.
 fn given_answer(line: &[u8], out: &mut [u8]) -> usize
     requires { ⌜ answerRoom ≤ length (now out) ⌝ }
@@ -205,7 +196,7 @@ fn given_answer(line: &[u8], out: &mut [u8]) -> usize
     ensures { λ r. ⌜ take r (now (out .exit)) ≡ givenOutput (now (line .entry)) ⌝ }
 {
     if words::same(line, b"--help") {
-        return help(out);
+        return asked::help(out);
     }
     answer_at(line, out, 0)
 }

@@ -184,8 +184,7 @@ pub fn answer(line: &[u8], out: &mut [u8]) -> usize
 
 // The requests with their arguments, one a line, at the start of the lent bytes; what has no room is left out.
 pub fn help(out: &mut [u8]) -> usize
-    ensures { λ r. ⌜ r ≡ min (length helpText) (length (now (out .entry))) ⌝ }
-    ensures { λ r. ⌜ now (out .exit) ≡ written helpText (now (out .entry)) ⌝ }
+    ensures { λ r. ⌜ Adds helpText (now (out .entry)) 0 (now (out .exit)) r ⌝ }
 {
     let table = TABLE;
     output::put(out, 0, &table)

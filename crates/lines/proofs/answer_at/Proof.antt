@@ -4,7 +4,7 @@ use lib.ListN.{length, length-set}
 use denote.Ref.{now}
 use Rattle.requests.specs.Requests.{answerOf}
 use Rattle.lines.proofs.Buffers as laws
-use Rattle.requests.proofs.Room.{answer-short}
+use Rattle.request_laws.proofs.Room.{answer-short}
 use borrow.Author.Needs.{needs}
 use native.Mathlib.Omega.{arith}
 use Rattle.lines.proofs.answer_at.Statement.{statement}

@@ -8,7 +8,7 @@ use Rattle.requests.proofs.requests.help.Tie as tie
 
 returns : tie.Need-returns
 unfolding helpText
-returns c = pieces.whole (pieces.adds-as refl (c .before .before .put .ensures))
+returns c = pieces.adds-as refl (c .before .before .put .ensures)
 
 pub help-spec : {M : Type 1} → statement M
 help-spec =
