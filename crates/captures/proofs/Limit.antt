@@ -1,4 +1,4 @@
--- What a search has found, on the moves alone, for a list of any limit (document 01: only the final list counts).
+-- What a search has found, on the moves alone, for a list of any limit (docs/RULES.md, "Limits and lent space": only the final list counts).
 use Prim.Native.Nat.{ℕ}
 use mathlib.Core.Bool.{Bool, false, cond, _||_}
 use mathlib.Core.List.{List, [], _∷_, _++_}

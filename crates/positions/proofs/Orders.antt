@@ -1,4 +1,4 @@
--- What the entries answer, in the paper's numbers and order: parts 11, 7, 8; the piece on a square 11; flip 12.
+-- What the entries answer, in the numbers and order of docs/REFUSALS.md: parts 11, 7, 8; the piece on a square 11; flip 12.
 use mathlib.Core.Path.{_≡_, refl}
 use mathlib.Core.Bool.{not, cond, _&&_}
 use mathlib.Core.List.{[], _∷_}

@@ -1,5 +1,5 @@
 -- The pieces of each colour that stand after a move, as sums: what stood before it, the colour's promotion, its men and kings
--- taken (document 01, "The book of demand 3").
+-- taken (docs/RULES.md, "The book").
 use mathlib.Core.Path.{_≡_, ap}
 use Prim.Native.Nat.{ℕ, _+_}
 use native.Mathlib.Omega.{arith}

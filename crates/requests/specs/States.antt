@@ -1,5 +1,5 @@
--- What is told of a game. Every game that a request plays was begun from a position that was accepted: refusal 13 and a side
--- that lost to nobody, of which nothing is told, do not occur.
+-- What is written of a game. Every game that a request plays began from an accepted position. So refusal 13, and a game lost to nobody,
+-- do not occur; nothing is written for them.
 use Prim.Native.Nat.{ℕ}
 use Prim.Native.Char.{code}
 use mathlib.Core.List.{List, [], _∷_, _++_}

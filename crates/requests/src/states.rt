@@ -1,5 +1,5 @@
-// What is told of a game: the outcome, both counts, how often the position has stood; at the end also the position and how many
-// moves there are.
+// What is written of a game: the outcome, both counts, how often the position has occurred; at the end also the position and the
+// number of its legal moves.
 use crate::answers;
 use captures::moves::MAX_MOVES;
 use games::game::Game;
@@ -103,7 +103,7 @@ fn put_listed(out: &mut [u8], at: usize, l: Listed) -> usize
     }
 }
 
-// What is told of the game after the last play.
+// What is written of the game after the last play.
 pub(crate) fn put_end(out: &mut [u8], at: usize, g: Game) -> usize
     ensures { λ r. ⌜ Adds (endText g) (now (out .entry)) at (now (out .exit)) r ⌝ }
 {

@@ -1,4 +1,4 @@
--- P9 of document 01 by the rules alone: one move, 28x28, four taken, found on two routes. The mover's first square counts as
+-- P9 of docs/RULES.md by the rules alone: one move, 28x28, four taken, found on two routes. The mover's first square counts as
 -- empty, and must-fail/origin_blocks.edit is refused here. The table of rows has P9 from its text on.
 use Prim.Native.Nat.{_+_}
 use mathlib.Core.Path.{_≡_, refl}

@@ -1,4 +1,4 @@
--- The rows that men have advanced: row by row with the code's table, and square by square as the paper says.
+-- The rows that men have advanced: row by row with the code's table, and square by square as the rule says.
 use mathlib.Core.Path.{_≡_, refl, sym, ap, ap₂, _∙_}
 use Prim.Native.Nat.{ℕ, zero, suc, _+_, _*_, _≤_, _<_}
 use native.Mathlib.Nat.{mul-le-mul, not-suc-le-zero, le-of-suc-le-suc}

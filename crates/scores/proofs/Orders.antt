@@ -1,4 +1,4 @@
--- What the entries answer, in the paper's numbers and order: scores 12, 10.
+-- What the entries answer, in the numbers and order of docs/REFUSALS.md: scores 12, 10.
 use mathlib.Core.Path.{_≡_, refl}
 use mathlib.Core.Bool.{not}
 use mathlib.Core.List.{[], _∷_}

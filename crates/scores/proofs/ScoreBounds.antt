@@ -1,5 +1,5 @@
 -- With the default weights the score of an accepted board lies from -15,000 to 15,000: a side has at most 50 pieces, none
--- worth more than a king. So it lies within the paper's 15,100.
+-- worth more than a king. So it lies within 15,100.
 use mathlib.Core.Path.{_≡_, refl}
 use Prim.Native.Nat.{ℕ, zero, suc, _+_, _-_, _*_, _≤_, zero-le}
 use native.Mathlib.Nat.{le-trans}
@@ -91,7 +91,7 @@ pub score-le : (b : Board) → Accepted b → natAbs (score default b) ≤ 15000
 unfolding score
 score-le b a = signed-le (b .side) (whiteScore default b) 15000 (white-le b a)
 
--- every score with the default weights lies within the paper's limit
+-- every score with the default weights lies within the limit of docs/RULES.md, "Score"
 pub score-bound : (b : Board) → Accepted b → within defaultLimit (score default b) ≡ true
 score-bound b a = le-within defaultLimit (score default b) (le-trans (score-le b a) (omega arith))
 

@@ -1,4 +1,4 @@
--- The code's constants are the paper's squares; the rows that men have advanced, by row and by square; and the score's bound.
+-- The code's constants are the squares of docs/RULES.md, "Score"; the rows that men have advanced, by row and by square; and the score's bound.
 use mathlib.Core.Path.{_≡_, refl, sym, ap, ap₂, _∙_}
 use Prim.Native.Nat.{ℕ, _*_, _≤_, _<_, _^_}
 use native.Mathlib.Omega.{arith}

@@ -1,4 +1,4 @@
--- An order of refusals, test by test; and what the entries of this crate answer, in the paper's numbers and order.
+-- An order of refusals, test by test; and what the entries of this crate answer, in the numbers and order of docs/REFUSALS.md.
 use mathlib.Core.Path.{_≡_, refl}
 use mathlib.Core.Bool.{Bool, true, false, not, cond, _||_}
 use mathlib.Core.List.{List, [], _∷_}

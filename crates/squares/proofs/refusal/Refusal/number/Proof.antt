@@ -1,4 +1,4 @@
--- Each variant's arm gives the number that document 01 gives it.
+-- Each variant's arm gives the number that docs/REFUSALS.md gives it.
 use borrow.Author.Needs.{needs}
 use Rattle.squares.proofs.refusal.Refusal.number.Statement.{statement}
 use Rattle.squares.proofs.refusal.Refusal.number.Tie as tie
