@@ -4,11 +4,7 @@
 //   asked      one function for each request about a position or a square
 //   plays      the requests about games
 //   reading    the texts of a request, their escapes undone, as positions, moves and squares
-//   answers    what is written of a position, a move, a list or a count
-//   states     what is written of a game
-mod answers;
 mod asked;
 mod plays;
 mod reading;
 pub mod requests;
-mod states;

@@ -4,8 +4,8 @@
 // a move's first and last square and its set in hexadecimal. `play` writes ` HUB/OUTCOME/COUNT1/COUNT2/TIMES` for each text, or ` !N`
 // where it is refused; `record` writes ` N` for each record, 0 where it is accepted. Both end with
 // ` | FEN OUTCOME COUNT1 COUNT2 TIMES MOVES`.
-use crate::answers;
-use crate::states;
+use answers::answers;
+use answers::states;
 use games::game::Game;
 use gametexts::game::PlayedText;
 use positions::moves::Move;
