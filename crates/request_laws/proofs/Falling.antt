@@ -62,8 +62,8 @@ use Rattle.gametexts.specs.declared.game.PlayedText.{PlayedText}
 use Rattle.wording.specs.Escapes.{undone}
 use Rattle.wording.specs.Output.{decimal, numberWord}
 use Rattle.texts.specs.Bytes.{consHead, partsAt}
-use Rattle.answers.specs.Answers.{moveWord}
-use Rattle.answers.specs.States.{winnerWord, endingWord, judgedWord, countWord, pliesText, stateText, standWord, lengthWord, movesWord, endText}
+use Rattle.replies.specs.Answers.{moveWord}
+use Rattle.replies.specs.States.{winnerWord, endingWord, judgedWord, countWord, pliesText, stateText, standWord, lengthWord, movesWord, endText}
 use Rattle.requests.specs.Plays.{wordsOf, recordOf, playTextOf, playMove, playRecordOf, playWordOf, textTold, recordTold, wordTold, gameText}
 use Rattle.requests.specs.declared.plays.Given.{Given}
 use Rattle.requests.specs.declared.plays.Given.the-variants as given

@@ -37,7 +37,7 @@ use Rattle.movegen.specs.declared.perft.Divided.{Divided}
 use Rattle.wording.specs.Output.{places, decimal, hex, hash, signed, refusalText, flawWord, bad}
 use Rattle.wording.specs.declared.output.Flaw.{Flaw}
 use Rattle.wording.specs.declared.output.Flaw.the-variants as flaw
-use Rattle.answers.specs.Answers.{fenWord, hubWord, moveWord, movesText, countsText, answering, listAnswer, dividedAnswer}
+use Rattle.replies.specs.Answers.{fenWord, hubWord, moveWord, movesText, countsText, answering, listAnswer, dividedAnswer}
 
 -- ---- numbers
 digits-long : (b k n : ℕ) → length (io.digits b k n) ≡ k

@@ -26,7 +26,7 @@ use Rattle.gametexts.specs.declared.game.PlayedText.{PlayedText}
 use Rattle.wording.specs.Escapes.{undone}
 use Rattle.wording.specs.Output.{decimal}
 use Rattle.requests.specs.Plays.{recordOf, playTextOf, playRecordOf, textTold, recordTold, gameText}
-use Rattle.answers.specs.States.{endText}
+use Rattle.replies.specs.States.{endText}
 use Rattle.requests.specs.declared.plays.Given.the-variants as given
 use Rattle.requests.specs.declared.plays.Recorded.the-variants as recorded
 

@@ -43,12 +43,12 @@ use Rattle.wording.specs.Output.{decimal, hex, hash, bad}
 use Rattle.wording.specs.Words.{firstWord, afterWord, wordAt, blanksIn}
 use Rattle.wording.specs.declared.output.Flaw.{Flaw}
 use Rattle.wording.specs.declared.output.Flaw.the-variants as flaw
-use Rattle.answers.specs.Answers.{ok, fenAnswer, hubAnswer, hashAnswer, setWord, bitsAnswer, placedAnswer, scoredAnswer, testedAnswer, countedAnswer, moveWord, recordWord, moveAnswer, afterAnswer, listAnswer, dividedAnswer}
+use Rattle.replies.specs.Answers.{ok, fenAnswer, hubAnswer, hashAnswer, setWord, bitsAnswer, placedAnswer, scoredAnswer, testedAnswer, countedAnswer, moveWord, recordWord, moveAnswer, afterAnswer, listAnswer, dividedAnswer}
 use Rattle.requests.specs.Asked.{onPlaced, onFound, onParsed, onSided, onWeights, movesRequest, atmostRequest, parseRequest, afterRequest, perftRequest, divideRequest, evalRequest, weightsOf, evalwRequest, numberedWord, squareRequest, sideOf, setsAnswer, partsRequest}
 use Rattle.requests.specs.Plays.{wordsOf, allRecords, gameAnswer, playRequest, recordRequest, outcomeRequest}
 use Rattle.requests.specs.Reading.{positionIn, moveIn, squareIn}
 use Rattle.requests.specs.Requests.{wholePosition, firstPosition, requestOf, requestAnswer, longest, answerRoom, answerOf}
-use Rattle.answers.specs.States.{judgedWord}
+use Rattle.replies.specs.States.{judgedWord}
 use Rattle.requests.specs.declared.asked.Weights.{Weights}
 use Rattle.requests.specs.declared.asked.Weights.the-variants as weights
 use Rattle.requests.specs.declared.plays.Given.{Given}

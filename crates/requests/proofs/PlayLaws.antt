@@ -22,7 +22,7 @@ use Rattle.wording.specs.Numbers.{unsignedOf, setOf}
 use Rattle.wording.specs.Words.{firstWord, afterWord}
 use Rattle.wording.specs.declared.numbers.Parsed.the-variants as parsed
 use Rattle.requests.specs.Plays.{wordsOf, recordOf, isRecordOf, allRecords, playTextOf, playWordOf, wordTold, gameText, gameAnswer}
-use Rattle.answers.specs.States.{endText}
+use Rattle.replies.specs.States.{endText}
 use Rattle.requests.specs.declared.plays.Given.{Given}
 use Rattle.requests.specs.declared.plays.Recorded.the-variants as recorded
 use Rattle.requests.proofs.Readings.{cut, cut-part}

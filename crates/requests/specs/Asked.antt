@@ -34,7 +34,7 @@ use Rattle.wording.specs.declared.numbers.Signed.{Signed}
 use Rattle.wording.specs.declared.numbers.Signed.the-variants as signed
 use Rattle.wording.specs.declared.output.Flaw.the-variants as flaw
 use Rattle.requests.specs.Reading.{positionIn, moveIn}
-use Rattle.answers.specs.Answers.{ok, hubAnswer, bitsAnswer, hashAnswer, placedAnswer, scoredAnswer, testedAnswer, countedAnswer, listAnswer, dividedAnswer, moveAnswer, afterAnswer}
+use Rattle.replies.specs.Answers.{ok, hubAnswer, bitsAnswer, hashAnswer, placedAnswer, scoredAnswer, testedAnswer, countedAnswer, listAnswer, dividedAnswer, moveAnswer, afterAnswer}
 use Rattle.requests.specs.declared.asked.Weights.{Weights}
 use Rattle.requests.specs.declared.asked.Weights.the-variants as weights
 use Rattle.requests.specs.declared.reading.Form.the-variants as form

@@ -20,9 +20,9 @@ use Rattle.wording.specs.Escapes.{undone}
 use Rattle.wording.specs.declared.numbers.Parsed.{Parsed}
 use Rattle.wording.specs.declared.numbers.Parsed.the-variants as parsed
 use Rattle.wording.specs.declared.output.Flaw.the-variants as flaw
-use Rattle.answers.specs.Answers.{ok, moveWord}
+use Rattle.replies.specs.Answers.{ok, moveWord}
 use Rattle.requests.specs.Asked.{onPlaced}
-use Rattle.answers.specs.States.{judgedWord, stateText, endText}
+use Rattle.replies.specs.States.{judgedWord, stateText, endText}
 use Rattle.requests.specs.declared.plays.Given.{Given}
 use Rattle.requests.specs.declared.plays.Given.the-variants as given
 use Rattle.requests.specs.declared.plays.Recorded.{Recorded}

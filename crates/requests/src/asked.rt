@@ -1,12 +1,12 @@
 // The requests about a position or a square, one function each.
 //
 // The position that a request is about comes as what was read of its text. If that is a refusal, the refusal is the answer.
-use answers::answers;
 use crate::reading;
 use crate::reading::Form;
 use notation::notation::Found;
 use positions::position;
 use positions::position::Placed;
+use replies::answers;
 use scores::eval::Classical;
 use squares::piece::Color;
 use squares::piece::Sided;

@@ -4,13 +4,13 @@
 // a move's first and last square and its set in hexadecimal. `play` writes ` HUB/OUTCOME/COUNT1/COUNT2/TIMES` for each text, or ` !N`
 // where it is refused; `record` writes ` N` for each record, 0 where it is accepted. Both end with
 // ` | FEN OUTCOME COUNT1 COUNT2 TIMES MOVES`.
-use answers::answers;
-use answers::states;
 use games::game::Game;
 use gametexts::game::PlayedText;
 use positions::moves::Move;
 use positions::position::Placed;
 use positions::position::Position;
+use replies::answers;
+use replies::states;
 use squares::refusal::Answer;
 use squares::refusal::Refusal;
 use texts::bytes;

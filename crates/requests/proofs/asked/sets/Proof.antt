@@ -2,7 +2,7 @@
 use mathlib.Core.Path.{ap}
 use borrow.Author.Needs.{needs}
 use Rattle.texts.proofs.Pieces as laws
-use Rattle.answers.specs.Answers as told
+use Rattle.replies.specs.Answers as told
 use Rattle.requests.specs.Asked as asked
 use Rattle.requests.proofs.asked.sets.Statement.{statement}
 use Rattle.requests.proofs.asked.sets.Tie as tie

@@ -3,7 +3,7 @@ use mathlib.Core.Path.{ap, _∙_}
 use Rattle.games.specs.Play.{outcomeOf}
 use Rattle.games.specs.declared.game.Begun.{Begun}
 use Rattle.texts.proofs.Pieces as pieces
-use Rattle.answers.specs.States.{judgedWord}
+use Rattle.replies.specs.States.{judgedWord}
 use borrow.Author.Needs.{needs}
 use Rattle.requests.proofs.plays.outcome.Statement.{statement}
 use Rattle.requests.proofs.plays.outcome.Tie as tie

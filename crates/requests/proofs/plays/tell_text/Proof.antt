@@ -3,9 +3,9 @@ use mathlib.Core.Path.{ap, sym}
 use mathlib.Core.List.{_++_}
 use Rattle.squares.specs.declared.refusal.Answer.{Answer}
 use Rattle.texts.proofs.Pieces as pieces
-use Rattle.answers.specs.Answers.{moveWord}
+use Rattle.replies.specs.Answers.{moveWord}
 use Rattle.requests.specs.Plays.{textAnswer, textTold}
-use Rattle.answers.specs.States.{stateText}
+use Rattle.replies.specs.States.{stateText}
 use borrow.Author.Needs.{needs}
 use Rattle.requests.proofs.plays.tell_text.Statement.{statement}
 use Rattle.requests.proofs.plays.tell_text.Tie as tie
