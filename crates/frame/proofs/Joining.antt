@@ -20,7 +20,7 @@ use Rattle.frame.specs.declared.arguments.Word.the-variants as word
 pub word-bytes : (s : List ℕ) (r : Word) (n : ℕ) → WordIn s r → r ≡ word.Bytes n → n ≤ length s
 word-bytes s r n h e = subst (λ (x : Word). WordIn s x) e h
 
--- the words before number i were joined over the lent bytes, up to the place
+-- the words before number i were joined over the old buffer, up to the place
 pub record Joining (old new : List ℕ) (at i : ℕ) : Type 0 where
   pub words : List (List ℕ)
   pub count : i ≡ length words + 1

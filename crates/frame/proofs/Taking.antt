@@ -1,4 +1,4 @@
--- What one read more says of the bytes that were read so far.
+-- One more read, or one more byte of a line.
 use Prim.Native.Nat.{ℕ, zero, suc, _+_, _-_, _≤_, _<_}
 use mathlib.Core.Path.{_≡_, refl, ap, sym, _∙_, subst}
 use mathlib.Core.List.{List, [], _∷_, _++_}

@@ -11,18 +11,18 @@ use Rattle.frame.specs.declared.arguments.Given.the-variants as given
 use Rattle.frame.specs.declared.arguments.Word.{Word}
 use Rattle.frame.specs.declared.arguments.Word.the-variants as word
 
--- what a word adds to the line: a space before it, unless it is the first
+-- what a word adds to the line: a space, unless it is the first word, and its bytes
 abbrev pub nextWord : Bool → List ℕ → List ℕ
 nextWord true w = w
 nextWord false w = code " " ∷ w
 
--- the word has room
+-- the bytes have room
 abbrev pub WordIn : List ℕ → Word → Type 0
 WordIn s (word.Bytes n) = n ≤ length s
 WordIn s word.Long = Unit
 
--- the start of the new buffer is some words joined by single spaces, one word at least; the bytes after them are the old ones,
--- and there is one at least
+-- the new buffer starts with one or more words joined by single spaces; the bytes after them are those of the old
+-- buffer, and there is at least one
 pub record Joined (old new : List ℕ) (n : ℕ) : Type 0 where
   pub words : List (List ℕ)
   pub some : 0 < length words

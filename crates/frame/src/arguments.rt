@@ -1,27 +1,29 @@
 // The program's arguments, without its name, as one line: joined by single spaces.
 //
-// What the outside hands in is in no contract, since that of the library's `arg` does not speak of it. `join` is pure, and its
-// contract says what it puts after the words before. Seen by reading the code only: the words are the arguments, in order.
+// No contract says which arguments there are, since that of the library's `arg` does not. `join` only fills a buffer,
+// and its contract says which bytes it adds. Only the code shows that the words joined are the arguments, in order.
 use wording::output;
 ghost use mathlib.Core.Path.{_≡_};
 ghost use lib.ListN.{length};
 ghost use Rattle.texts.specs.Lent.{Adds};
 ghost use Rattle.frame.specs.Arguments.{nextWord, WordIn, GivenIn};
 
-// The arguments: a line of so many bytes at the start of the buffer, none, or too many bytes: they leave no byte of it free.
+// The arguments: a line of so many bytes, at the start of the buffer; none; or too long, so that no byte of the
+// buffer would be free.
 pub enum Given {
     Line(usize),
     Nothing,
     Long,
 }
 
-// One argument: so many bytes, or more than the longest that the system hands in.
+// One argument: so many bytes, or too long.
 enum Word {
     Bytes(usize),
     Long,
 }
 
-// Puts a word after those before it, with a space before it unless it is the first; what has no room is left out.
+// Puts a word at a place of the buffer, after a space unless it is the first word. What has no room is left out.
+// Returns the place after the word.
 fn join(buf: &mut [u8], at: usize, first: bool, word: &[u8]) -> usize
     ensures { λ r. ⌜ Adds (nextWord first (now (word .entry))) (now (buf .entry)) at (now (buf .exit)) r ⌝ }
 {
@@ -32,7 +34,7 @@ fn join(buf: &mut [u8], at: usize, first: bool, word: &[u8]) -> usize
     output::put(buf, k, word)
 }
 
-// The argument of this number, at the start of the word.
+// Puts the argument of this number at the start of the word.
 fn read_word(i: usize, word: &mut [u8]) -> Word
     ensures { λ r. ⌜ WordIn (now (word .exit)) r ⌝ }
 {
@@ -43,12 +45,12 @@ fn read_word(i: usize, word: &mut [u8]) -> Word
     Word::Bytes(n)
 }
 
-// Puts the arguments to the start of the buffer, joined by single spaces; the bytes after them stay.
+// Puts the arguments, joined by single spaces, at the start of the buffer. The bytes after them stay.
 pub fn arguments(buf: &mut [u8]) -> Given
     ensures { λ r. ⌜ GivenIn (now (buf .entry)) (now (buf .exit)) r ⌝ }
 {
     let count = os::arg_count();
-    // the system hands in no longer argument
+    // Linux passes no argument of more bytes.
     let mut word = [0u8; 131072];
     let mut at = 0;
     let mut i = 1;

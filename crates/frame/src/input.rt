@@ -1,37 +1,38 @@
 // Standard input: one read, a line byte by byte, or all of it up to the end of a buffer.
 //
-// What the outside delivers is in no contract, since that of read does not speak of it. The contracts say what the answer of a read
-// means, how many bytes were read at most, which bytes of the buffer stay, and that a line has no line feed in it. Seen by reading
-// the code only: the bytes in the buffer are those that were read, in order, and `read_line` reads nothing after the line feed.
+// No contract says what the outside delivers, since that of read does not. The contracts say what the answer of a
+// read means, how many bytes were read at most, that a line has no line feed in it, and which bytes of the buffer
+// stay. Only the code shows the rest: the bytes in the buffer are those that were read, in order, and `read_line`
+// reads nothing after the line feed.
 //
-// A read fails where the C library answers -1. Why is not asked: a call that a signal interrupts, or one that would have to wait
-// on a descriptor that must not, counts as one that failed.
+// A read fails where the C library answers -1. The reason is not asked: a call that a signal interrupts, or that
+// would have to wait on a descriptor that must not wait, counts as one that failed.
 use libc::STDIN_FILENO;
 ghost use mathlib.Core.Path.{_≡_};
 ghost use lib.ListN.{length};
 ghost use Rattle.frame.specs.Input.{cameOf, CameIn, TakenIn, TakenLine};
 
-// What came of one read: so many bytes, the end of the input, or nothing, since it failed.
+// What one read brought: so many bytes, or the end of the input; or it failed.
 pub enum Came {
     Bytes(usize),
     End,
     Failed,
 }
 
-// What came of one byte.
+// What the read of one byte brought.
 enum Single {
     Byte(u8),
     End,
     Failed,
 }
 
-// What was read, at the start of the buffer: so many bytes; or a read failed.
+// What was read: so many bytes, at the start of the buffer; or a read failed.
 pub enum Taken {
     Bytes(usize),
     Failed,
 }
 
-// What the answer of a read says, for a space of so many bytes: negative, the read failed.
+// What the answer of a read means: below 0, the read failed.
 fn what_came(got: isize, space: &[u8]) -> Came
     ensures { λ r. ⌜ r ≡ cameOf got (length (now (space .entry))) ⌝ }
 {
@@ -44,7 +45,7 @@ fn what_came(got: isize, space: &[u8]) -> Came
     Came::Bytes(io::count(got, space))
 }
 
-// Reads once, to the start of the space, which has a byte at least: for none, the answer is the end of the input.
+// Reads once, into the start of the space. A space without bytes gives the end of the input.
 pub fn read_once(space: &mut [u8]) -> Came
     ensures { λ r. ⌜ CameIn (length (now (space .exit))) r ⌝ }
 {
@@ -61,8 +62,8 @@ fn read_byte() -> Single {
     }
 }
 
-// Reads up to a line feed, the end of the input or the end of the buffer, byte by byte; how many bytes there are before it.
-// A full buffer may be the start of a longer line. The bytes of the buffer after those that were read stay.
+// Reads byte by byte up to a line feed, the end of the input or the end of the buffer. The line feed is not put into
+// the buffer. A full buffer may be the start of a longer line. The bytes of the buffer after the line stay.
 pub fn read_line(buf: &mut [u8]) -> Taken
     ensures { λ r. ⌜ TakenLine (now (buf .entry)) (now (buf .exit)) r ⌝ }
 {
@@ -87,8 +88,8 @@ pub fn read_line(buf: &mut [u8]) -> Taken
     Taken::Bytes(n)
 }
 
-// Reads up to the end of the input or the end of the buffer; how many bytes. A full buffer may be the start of a longer input:
-// it has one byte more than the longest that is taken.
+// Reads up to the end of the input or the end of the buffer. A full buffer may be the start of a longer input, so it
+// has one byte more than the longest input that the program takes.
 pub fn read_all(buf: &mut [u8]) -> Taken
     ensures { λ r. ⌜ TakenIn (length (now (buf .exit))) r ⌝ }
 {

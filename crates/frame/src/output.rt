@@ -1,7 +1,7 @@
 // Standard output, and the line on standard error that says that a run stopped.
 //
-// What the outside gets is in no contract, since that of write does not speak of it. A write fails where the C library answers -1 or
-// takes nothing; some of the bytes may be written then. Why is not asked, as with a read.
+// No contract says what the outside gets, since that of write does not. A write fails where the C library answers -1
+// or takes no byte; some of the bytes may be written then. The reason is not asked.
 use libc::STDERR_FILENO;
 use libc::STDOUT_FILENO;
 ghost use mathlib.Core.Path.{_≡_};
@@ -14,12 +14,12 @@ pub enum Ended {
     Write,
 }
 
-// Writes the bytes; whether all of them were written.
+// Writes the bytes. Returns whether all of them were written.
 pub fn write(out: &[u8]) -> bool {
     io::write_all(STDOUT_FILENO, out)
 }
 
-// How a run ends whose last bytes were all written, or not.
+// How a run ends, by whether its last bytes were all written.
 pub fn how_ended(written: bool) -> Ended
     ensures { λ r. ⌜ r ≡ endedOf written ⌝ }
 {
@@ -29,12 +29,12 @@ pub fn how_ended(written: bool) -> Ended
     Ended::Write
 }
 
-// Writes the last bytes of a run; how it ends.
+// Writes the last bytes of a run. Returns how the run ends.
 pub fn finish(out: &[u8]) -> Ended {
     how_ended(write(out))
 }
 
-// A program has no exit status of its own: that it stopped is said by a line on standard error.
+// A program has no exit status of its own, so a line on standard error reports that a read or a write failed.
 pub fn report(end: Ended) {
     match end {
         Ended::Whole => {}

@@ -1,4 +1,5 @@
--- What the answers to lines are, one after the other; and that of a line that is too long one byte too many is as good as all.
+-- The output for lines after whole lines, and for a line that is too long: its first most + 1 bytes answer for all of
+-- it.
 use Prim.Native.Nat.{ℕ, suc, _+_, _≤_, _<_}
 use mathlib.Core.Path.{_≡_, refl, ap, sym, _∙_}
 use mathlib.Core.List.{List, [], _∷_, _++_, append-assoc, append-nil}

@@ -1,5 +1,5 @@
--- Whatever pieces the input comes in, and wherever a step stops for want of room, what is written is the output for the whole.
--- What a run has written that stops, since a read or a write failed, is a beginning of it.
+-- However the input is cut into pieces, and wherever a step ends for lack of room, the output for the whole input is
+-- written. What a run has written when a read or a write fails is a beginning of that output.
 use Prim.Native.Nat.{ℕ, _+_, _-_}
 use mathlib.Core.Path.{_≡_, refl, ap, sym, _∙_}
 use mathlib.Core.List.{List, [], _∷_, _++_, append-assoc, append-nil}
@@ -143,7 +143,7 @@ module _ (step : List ℕ → List ℕ) where
       unfolding carriedOf openLine
       carried-output s x = kept-output step most cut (drop (wholeOf s) s) x (open-part s)
 
-      -- a turn leaves out nothing, and says nothing twice
+      -- a turn leaves out no answer, and gives none twice
       turn-output : (s x : List ℕ) → outputOf step (wholeLines s) ++ outputOf step (carriedOf most s ++ x) ≡ outputOf step (s ++ x)
       unfolding wholeLines openLine
       turn-output s x =
@@ -187,7 +187,7 @@ module _ (step : List ℕ → List ℕ) where
           ∙ turn-output s y ∙ ap (outputOf step) (joined-turn carried piece (together pieces) x))
           (begins-onto written (stop-from r (ap wholeOf a ∙ carried-open s) x h))
 
-      -- however the input goes on that was read, what was written is a beginning of the output for all of it
+      -- what was written is a beginning of the output for the input that was read, however that input goes on
       pub stop-law : {f : Fault} {pieces : List (List ℕ)} {written : List ℕ} → Stopped step most f [] pieces written
           → (x : List ℕ) → Follows f x → Begins written (outputOf step (together pieces ++ x))
       unfolding wholeOf

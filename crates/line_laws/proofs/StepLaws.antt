@@ -43,7 +43,7 @@ module _ (step : List ℕ → List ℕ) where
     ends : (at ≡ from → wholeOf (drop from s) ≡ 0) → Answered step s from out at put
     ends o = record { onward = g .onward; inside = g .inside; whole = g .whole; fits = g .fits; answers = g .answers; goesOn = o }
 
-    -- no place for the next answer: something was answered
+    -- there is no room for the next answer: so a line was answered
     pub full : (room : ℕ) → room ≤ length out → length out - put < room → Answered step s from out at put
     full room h l = ends (λ e. absurd (none e))
       where
@@ -88,7 +88,7 @@ module _ (step : List ℕ → List ℕ) where
       ap (λ (n : ℕ). wholeOf (take n s)) k ∙ ap wholeOf (take-add from (to - from) s)
       ∙ whole-append (take from s) (between from to s) (w ∙ sym l) ∙ omega (arith, l, a .whole, a .onward)
 
-  -- no step gets on: all whole lines were answered
+  -- a step that answers no line: all whole lines were answered before it
   pub all-whole : {s out : List ℕ} {from to put : ℕ} → wholeOf (take from s) ≡ from → Answered step s from out to put → to ≤ from → from ≡ wholeOf s
   all-whole {s} {out} {from} {to} {put} w a h =
       let l : length (take from s) ≡ from = length-take-le from s (omega (arith, a .onward, a .inside)) in

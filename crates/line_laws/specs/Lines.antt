@@ -1,4 +1,5 @@
--- Lines of the input, and what standard output is for them, where `step` is the answer to a line.
+-- The lines of an input, and what standard output is for it. `step` gives the answer to a line; `most` is the most
+-- bytes that a line may have.
 use Prim.Native.Nat.{ℕ, suc, _+_}
 use mathlib.Core.Path.{_≡_}
 use mathlib.Core.List.{List, [], _∷_, _++_}
@@ -25,7 +26,7 @@ wholeLines s = take (wholeOf s) s
 unfoldable pub openLine : List ℕ → List ℕ
 openLine s = drop (wholeOf s) s
 
--- what is carried over to the next turn, where `most` bytes of a line are looked at: of a longer line, one byte more
+-- what is carried over to the next turn: the line that is not whole yet, up to one byte more than the longest line has
 unfoldable pub carriedOf : ℕ → List ℕ → List ℕ
 carriedOf most s = take (most + 1) (openLine s)
 
@@ -51,7 +52,7 @@ module _ (step : List ℕ → List ℕ) where
   lastAnswer (b ∷ s) = step (b ∷ s) ++ (10 ∷ [])
 
   module _ (most : ℕ) where
-    -- what is written for some pieces, read one after the other: each turn writes the answers to the lines that are whole then
+    -- what is written for pieces that are read one after the other: each turn answers the lines that are whole then
     unfoldable pub turnsOutput : List ℕ → List (List ℕ) → List ℕ
     turnsOutput carried [] = lastAnswer carried
     turnsOutput carried (piece ∷ pieces) = let s = carried ++ piece in outputOf (wholeLines s) ++ turnsOutput (carriedOf most s) pieces

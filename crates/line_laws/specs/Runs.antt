@@ -1,5 +1,5 @@
--- A run of a program: pieces are read one after the other, and each write is the start of the output buffer after a step.
--- A run that stops, since a read or a write failed, does nothing more after that.
+-- A run of a program: it reads pieces one after the other, and each write is the start of its output buffer after a
+-- step. A run stops where a read or a write fails: it does nothing more after that.
 use Prim.Native.Nat.{ℕ}
 use mathlib.Core.Path.{_≡_}
 use mathlib.Core.List.{List, [], _∷_, _++_}
@@ -13,7 +13,7 @@ pub data Fault : Type 0 where
   write : Fault
   last : Fault
 
--- what may follow of the input that was read: anything, but nothing after its end
+-- how the input that was read may go on: in any way, but not after its end
 abbrev pub Follows : Fault → List ℕ → Type 0
 Follows read x = Unit
 Follows write x = Unit
@@ -32,7 +32,7 @@ module _ (step : List ℕ → List ℕ) where
     none : {from : ℕ} → wholeOf (drop from s) ≡ 0 → Writes s from []
     more : {from to : ℕ} {rest : List ℕ} (put : ℕ) (out : List ℕ) → Answered step s from out to put → Writes s to rest → Writes s from (take put out ++ rest)
 
-  -- the same, where one write fails: it writes a beginning of its bytes, at most n, and is the last
+  -- the same, where one write fails: it writes at most the first n of its bytes, and nothing is written after it
   pub data CutWrites (s : List ℕ) : ℕ → List ℕ → Type 0 where
     fails : {from to : ℕ} (n put : ℕ) (out : List ℕ) → Answered step s from out to put → CutWrites s from (take n (take put out))
     more : {from to : ℕ} {rest : List ℕ} (put : ℕ) (out : List ℕ) → Answered step s from out to put → CutWrites s to rest → CutWrites s from (take put out ++ rest)

@@ -9,7 +9,7 @@ use Rattle.line_laws.specs.Lines.{outputOf, wholeOf}
 abbrev pub between : ℕ → ℕ → List ℕ → List ℕ
 between from to s = take (to - from) (drop from s)
 
--- the lines of s between two places were answered: the first put bytes of out are their answers, each once and in order
+-- the lines of s between two places were answered: the first `put` bytes of out are their answers, in order
 pub record Answered (step : List ℕ → List ℕ) (s : List ℕ) (from : ℕ) (out : List ℕ) (to put : ℕ) : Type 0 where
   pub onward : from ≤ to
   pub inside : to ≤ length s

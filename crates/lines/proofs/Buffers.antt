@@ -1,4 +1,4 @@
--- What the two buffers contain: an answer after those before it, and the start of a line that was carried over.
+-- What the buffers contain: an answer after those before it, the help, and the start of a line that was carried over.
 use Prim.Native.Nat.{ℕ, suc, _+_, _-_, _≤_, min}
 use mathlib.Core.Path.{_≡_, refl, ap, sym, _∙_}
 use mathlib.Core.List.{List, [], _∷_, _++_, append-assoc}
@@ -19,7 +19,7 @@ use Rattle.requests.specs.Requests.{helpText, longest, answerRoom, answerOf}
 use Rattle.line_laws.specs.Lines.{wholeOf, openLine, carriedOf, lastAnswer}
 use Rattle.lines.specs.Given.{givenOutput}
 
--- ---- a text t and a line feed at the place at of out, in the part of it that was lent
+-- ---- a text t and a line feed, put at the place at of out
 module _ (out t part : List ℕ) (at n : ℕ) (fits : at + suc (length t) ≤ length out) (e : n ≡ min (length t) (length (take (length out - at) (drop at out))))
     (p : part ≡ written t (take (length out - at) (drop at out))) where
   lent : length (take (length out - at) (drop at out)) ≡ length out - at

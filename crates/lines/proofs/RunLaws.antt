@@ -1,4 +1,4 @@
--- The laws on lines, of the program dame: `answerOf` is its answer to a line, `longest` the longest line that it looks at.
+-- The laws on lines for the program dame: `answerOf` is its answer to a line, `longest` the most bytes of a line.
 use Prim.Native.Nat.{ℕ, _+_, _<_}
 use mathlib.Core.Path.{_≡_, refl, ap}
 use mathlib.Core.List.{List, [], _∷_, _++_}
@@ -42,7 +42,7 @@ run-law r = laws.run-law answerOf longest answer-cut r
 pub run-some : (carried : List ℕ) (pieces : List (List ℕ)) → (written : List ℕ) × Run answerOf longest carried pieces written
 run-some carried pieces = laws.run-some answerOf longest carried pieces
 
--- however the input goes on that was read, what a run that stops has written is a beginning of the output for all of it
+-- what a run that stops has written is a beginning of the output for the input that it read, however that input goes on
 pub stop-law : {f : Fault} {pieces : List (List ℕ)} {written : List ℕ} → Stopped answerOf longest f [] pieces written
     → (x : List ℕ) → Follows f x → Begins written (outputOf answerOf (together pieces ++ x))
 stop-law r x h = laws.stop-law answerOf longest answer-cut r x h

@@ -1,15 +1,18 @@
-// The program dame: its arguments, or standard input line by line, answered on standard output.
+// The program dame: it answers its arguments, or standard input line by line, on standard output.
 //
-// Without arguments, requests are read from standard input and their answers written to standard output, through two buffers. With
-// arguments, these are one line, joined by single spaces: its answer is written, and standard input is not read. `--help` alone
-// writes the help.
+// Without arguments, each line of standard input is a request, and its answer is one line of standard output. With
+// arguments, these are one request, joined by single spaces: its answer is written, and standard input is not read. The
+// argument `--help` alone writes the help.
 //
-// What the outside gets is in no contract, since those of read and write do not speak of it. So all but a few lines is pure:
-// `answer_lines` puts answers into the output buffer, `carry` keeps the line that is not whole yet, `last_answer` answers it at
-// the end of the input, `given_answer` answers the arguments; their contracts say what bytes the buffers contain then. What is
-// written so, turn by turn, is the output for the whole input, however it is cut into reads (law `run-law`); and what a run that
-// stops has written is a beginning of it (`stop-law`, `read-stop-law`). `read_more`, `write_answers`, `write_last`, `feed`,
-// `answer_given`, `run` and `serve` only read, call these and write what they put into the buffer.
+// No contract says what the outside gets, since those of read and write do not. So nearly all of the work is in
+// functions that only fill buffers, and their contracts say which bytes the buffers contain then: `answer_lines` puts
+// answers into the output buffer, `carry` keeps the line that is not whole yet, `last_answer` answers it at the end
+// of the input, and `given_answer` answers the arguments. The other functions read, call these, and write what these
+// put into the buffer.
+//
+// What is written in this way, turn by turn, is the output for the whole input, however the input is cut into reads
+// (law `run-law`). What a run has written when a read or a write fails is a beginning of that output (`stop-law`,
+// `read-stop-law`). The laws are those of the crate line_laws, with `answerOf` for the answer to a line.
 use frame::arguments;
 use frame::arguments::Given;
 use frame::input;
@@ -30,22 +33,22 @@ ghost use Rattle.line_laws.specs.Steps.{Answered};
 ghost use Rattle.lines.specs.Steps.{SentOf};
 ghost use Rattle.lines.specs.Given.{givenOutput};
 
-// The room that is kept for an answer and its line feed: no answer is longer (law `answer-short`).
+// The room for an answer and its line feed: no answer is longer (law `answer-short`).
 const ROOM: usize = 23 * asked::LONGEST;
 
-// How far some lines were answered, and how many bytes the answers take.
+// How far lines were answered: up to the place `at` of the input, with answers of `put` bytes.
 struct Step {
     at: usize,
     put: usize,
 }
 
-// What became of the answers to whole lines: all were written, and how many bytes the lines take; or a write failed.
+// What became of the answers to the whole lines: all were written, to lines of so many bytes; or a write failed.
 enum Sent {
     Whole(usize),
     Failed,
 }
 
-// The answer to a line at a place of out, with its line feed; the place after it.
+// Puts the answer to a line and its line feed at a place of out. Returns the place after them.
 fn answer_at(line: &[u8], out: &mut [u8], at: usize) -> usize
     requires { ⌜ at + answerRoom ≤ length (now out) ⌝ }
     ensures { λ r. ⌜ r ≤ length (now (out .exit)) ⌝ }
@@ -56,7 +59,7 @@ fn answer_at(line: &[u8], out: &mut [u8], at: usize) -> usize
     at + n + 1
 }
 
-// Answers whole lines from a place on, as long as there is room for any answer.
+// Answers whole lines from a place on, as long as there is room for the longest answer.
 fn answer_lines(s: &[u8], from: usize, out: &mut [u8]) -> Step
     requires { ⌜ (from ≤ length (now s)) × (answerRoom ≤ length (now out)) ⌝ }
     ensures { λ r. ⌜ Answered answerOf (now (s .entry)) from (now (out .exit)) (r .at) (r .put) ⌝ }
@@ -75,7 +78,8 @@ fn answer_lines(s: &[u8], from: usize, out: &mut [u8]) -> Step
     Step { at: at, put: put }
 }
 
-// At the end of the input: the answer to the last line, which has no line feed, if there is one.
+// At the end of the input: puts the answer to the last line, which has no line feed, if there is such a line. Returns
+// how many bytes that is.
 fn last_answer(line: &[u8], out: &mut [u8]) -> usize
     requires { ⌜ answerRoom ≤ length (now out) ⌝ }
     ensures { λ r. ⌜ r ≤ length (now (out .exit)) ⌝ }
@@ -87,7 +91,7 @@ fn last_answer(line: &[u8], out: &mut [u8]) -> usize
     answer_at(line, out, 0)
 }
 
-// Moves the bytes from used to full to the start.
+// Moves the bytes from `used` up to `full` to the start of the buffer.
 fn shift(buf: &mut [u8], used: usize, full: usize)
     requires { ⌜ (used ≤ full) × (full ≤ length (now buf)) ⌝ }
     ensures { λ _. ⌜ take (full - used) (now (buf .exit)) ≡ take (full - used) (drop used (now (buf .entry))) ⌝ }
@@ -99,7 +103,8 @@ fn shift(buf: &mut [u8], used: usize, full: usize)
     }
 }
 
-// How much is kept of a line that is not whole yet: of one that is too long, enough to say so.
+// How many bytes are kept of a line that is not whole yet: all, or one more than the longest line has. That is enough
+// to show that the line is too long.
 fn kept(n: usize) -> usize
     ensures { λ r. ⌜ r ≡ min (longest + 1) n ⌝ }
 {
@@ -109,7 +114,7 @@ fn kept(n: usize) -> usize
     n
 }
 
-// Keeps the line that is not whole yet, at the start of the buffer; how many bytes.
+// Moves the line that is not whole yet to the start of the buffer. Returns how many bytes of it are kept.
 fn carry(buf: &mut [u8], used: usize, full: usize) -> usize
     requires { ⌜ full ≤ length (now buf) ⌝ }
     requires { ⌜ used ≡ wholeOf (take full (now buf)) ⌝ }
@@ -121,7 +126,7 @@ fn carry(buf: &mut [u8], used: usize, full: usize) -> usize
     n
 }
 
-// Reads once, after the bytes that were carried over, which stay; how many came.
+// Reads once, into the buffer after the bytes that were carried over. Those stay.
 fn read_more(buf: &mut [u8], have: usize) -> Came
     requires { ⌜ have < length (now buf) ⌝ }
     ensures { λ r. ⌜ CameIn (length (now (buf .exit)) - have) r ⌝ }
@@ -130,7 +135,7 @@ fn read_more(buf: &mut [u8], have: usize) -> Came
     input::read_once(&mut buf[have..])
 }
 
-// Writes the answers to the whole lines; how many bytes those lines take. At the first write that fails it stops.
+// Writes the answers to the whole lines of s. It stops at the first write that fails.
 fn write_answers(s: &[u8], out: &mut [u8]) -> Sent
     requires { ⌜ answerRoom ≤ length (now out) ⌝ }
     ensures { λ r. ⌜ SentOf (now (s .entry)) r ⌝ }
@@ -149,7 +154,7 @@ fn write_answers(s: &[u8], out: &mut [u8]) -> Sent
     Sent::Whole(at)
 }
 
-// At the end of the input: writes the answer to the last line, which has no line feed, if there is one.
+// At the end of the input: writes the answer to the last line, which has no line feed, if there is such a line.
 fn write_last(line: &[u8], out: &mut [u8]) -> Ended
     requires { ⌜ answerRoom ≤ length (now out) ⌝ }
 {
@@ -157,8 +162,8 @@ fn write_last(line: &[u8], out: &mut [u8]) -> Ended
     output::finish(&out[..put])
 }
 
-// Each turn reads once and answers what lines are whole then. The first read or write that fails is the last: nothing more
-// is answered or written. After u64::MAX turns, which no run takes, it ends as if a read had failed.
+// Each turn reads once and answers the lines that are whole then. After a read or a write that fails, nothing more is
+// answered or written. After u64::MAX turns, which no run reaches, it ends as if a read had failed.
 fn feed(buf: &mut [u8], out: &mut [u8]) -> Ended
     requires { ⌜ (longest + 1 < length (now buf)) × (answerRoom ≤ length (now out)) ⌝ }
 {
@@ -189,7 +194,8 @@ fn feed(buf: &mut [u8], out: &mut [u8]) -> Ended
     Ended::Read
 }
 
-// What is written for the line of arguments: the help where it is `--help`, else the answer to it and a line feed.
+// Puts what is written for the arguments, given as one line: the help for `--help`, else the answer and a line feed.
+// Returns how many bytes that is.
 fn given_answer(line: &[u8], out: &mut [u8]) -> usize
     requires { ⌜ answerRoom ≤ length (now out) ⌝ }
     ensures { λ r. ⌜ r ≤ length (now (out .exit)) ⌝ }
@@ -201,7 +207,7 @@ fn given_answer(line: &[u8], out: &mut [u8]) -> usize
     answer_at(line, out, 0)
 }
 
-// Answers the line of arguments. Standard input is not read.
+// Writes the answer to the arguments, given as one line. Standard input is not read.
 fn answer_given(line: &[u8], out: &mut [u8]) -> Ended
     requires { ⌜ answerRoom ≤ length (now out) ⌝ }
 {
@@ -209,8 +215,9 @@ fn answer_given(line: &[u8], out: &mut [u8]) -> Ended
     output::finish(&out[..put])
 }
 
-// Answers the arguments, or standard input where there are none. The line has one byte more than the longest: arguments that leave
-// none of it free are a line that is too long, and so is the whole buffer. All such lines have one answer (law `long-same`).
+// Answers the arguments, or standard input where there are none. The buffer `line` has one byte more than the longest
+// line. So arguments that leave no byte of it free are a line that is too long, and so is the whole buffer: all lines
+// that are too long have one answer (law `long-same`).
 fn run(line: &mut [u8], buf: &mut [u8], out: &mut [u8]) -> Ended
     requires { ⌜ (longest + 1 < length (now buf)) × (answerRoom ≤ length (now out)) ⌝ }
 {
@@ -221,7 +228,8 @@ fn run(line: &mut [u8], buf: &mut [u8], out: &mut [u8]) -> Ended
     }
 }
 
-// The whole program: answers its arguments, or standard input to its end, or up to the first read or write that fails.
+// The whole program. It ends with the input, or at the first read or write that fails, and reports that on standard
+// error.
 pub fn serve() {
     let mut line = [0u8; 65537];
     let mut buf = [0u8; 131072];

@@ -1,4 +1,4 @@
--- The answer goes into the part of out from the place on, and has room there with its line feed.
+-- The answer and its line feed have room in the part of out after the place.
 use Prim.Native.Nat.{suc, _+_, _≤_}
 use lib.ListN.{length, length-set}
 use denote.Ref.{now}

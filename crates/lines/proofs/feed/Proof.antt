@@ -1,4 +1,4 @@
--- The turns are counted down. Each read has room, and what is carried over leaves some.
+-- The turns are counted down. What is carried over leaves room for a read.
 use mathlib.Core.Path.{_≡_, sym, subst}
 use mathlib.Core.List.{List}
 use Prim.Native.Nat.{ℕ, _+_, _≤_, _<_}

@@ -1,4 +1,4 @@
--- A line of no bytes is none.
+-- Without bytes there is no last line.
 use mathlib.Core.Path.{_∙_}
 use denote.Ref.{now}
 use Rattle.lines.proofs.Buffers as laws

@@ -1,4 +1,4 @@
--- The arguments lie in the buffer.
+-- The arguments are inside the buffer.
 use mathlib.Core.Path.{sym}
 use lib.Seq.{length-take-le}
 use Rattle.frame.proofs.Joining as laws
