@@ -3,13 +3,13 @@
 use Prim.Native.Nat.{ℕ, suc, _+_, _≤_, _<_}
 use mathlib.Core.Path.{_≡_, refl, ap, sym, _∙_}
 use mathlib.Core.List.{List, [], _∷_, _++_, append-assoc, append-nil}
-use mathlib.Core.Bool.{Bool, true, false}
+use mathlib.Core.Bool.{Bool, true, false, cond, _||_, true≢false}
 use native.Mathlib.Omega.{arith}
-use lib.ListN.{length, take}
+use lib.ListN.{length, take, length-append}
 use lib.Seq.{take-all, take-at, take-append-le, length-take-le}
-use lib.Dec.{leb}
+use lib.Dec.{eqb, leb}
 use borrow.Author.Tests.{leb-true, leb-false}
-use Rattle.texts.specs.Bytes.{is, indexOf, partsAt}
+use Rattle.texts.specs.Bytes.{is, holds, indexOf, partsAt}
 use Rattle.line_laws.specs.Lines.{linesOf, answersTo, outputOf, wholeOf, wholeLines, Cut}
 use Rattle.line_laws.proofs.LineLaws as lines
 use Rattle.line_laws.proofs.LineLaws.{Split, split, none-whole, first-line, lines-append, ontoHead, lines-open, open-take, open-append, before-lines}
@@ -77,3 +77,23 @@ module _ (step : List ℕ → List ℕ) where
             ap (outputOf step)
             (none-whole (take (most + 1) t ++ x) (open-append (take (most + 1) t) x (open-take (most + 1) t e) z) ∙ sym (none-whole (t ++ x) (open-append t x e z)))
         go (lines.some p) = ap (outputOf step) (before-lines (take (most + 1) t) x p) ∙ kept-output t (wholeLines x) e ∙ ap (outputOf step) (sym (before-lines t x p))
+
+-- ---- one line
+feed-after : (l : List ℕ) → holds 10 l ≡ false → indexOf (is 10) (l ++ (10 ∷ [])) ≡ length l
+unfolding holds indexOf is
+feed-after [] h = refl
+feed-after (b ∷ l) h = go (eqb b 10) h (λ (g : holds 10 l ≡ false). feed-after l g)
+  where
+    go : (q : Bool) → (q || holds 10 l) ≡ false → (holds 10 l ≡ false → indexOf (is 10) (l ++ (10 ∷ [])) ≡ length l)
+        → cond q 0 (suc (indexOf (is 10) (l ++ (10 ∷ [])))) ≡ suc (length l)
+    go true g i = absurd (true≢false g)
+    go false g i = ap suc (i g)
+
+-- an input of one line: its answer and a line feed
+pub one-line : (step : List ℕ → List ℕ) (l : List ℕ) → holds 10 l ≡ false → outputOf step (l ++ (10 ∷ [])) ≡ step l ++ (10 ∷ [])
+one-line step l h =
+    let t = l ++ (10 ∷ []) in
+    let n : length t ≡ length l + 1 = length-append l (10 ∷ []) in
+    ap (outputOf step) (sym (take-all (length l + 1) t (omega (arith, n))))
+    ∙ line-output step t (length l) (sym (feed-after l h)) (omega (arith, n))
+    ∙ ap (λ (x : List ℕ). step x ++ (10 ∷ [])) (take-at l (10 ∷ []) (length l) refl)

@@ -1,18 +1,23 @@
 -- The laws on lines for the program dame: `answerOf` is its answer to a line, `longest` the most bytes of a line.
-use Prim.Native.Nat.{ℕ, _+_, _<_}
-use mathlib.Core.Path.{_≡_, refl, ap}
+use Prim.Native.Nat.{ℕ, suc, _+_, _<_}
+use mathlib.Core.Path.{_≡_, refl, ap, sym, _∙_}
 use mathlib.Core.List.{List, [], _∷_, _++_}
-use mathlib.Core.Bool.{Bool, true, false}
+use mathlib.Core.Bool.{Bool, true, false, _&&_, true≢false}
 use native.Mathlib.Omega.{arith}
 use lib.ListN.{length, take}
 use lib.Seq.{take-all, length-take-le}
-use lib.Dec.{leb}
+use lib.Dec.{eqb, leb}
 use borrow.Author.Tests.{lt-ltb, leb-true, leb-false}
+use Rattle.texts.specs.Bytes.{bytes, holds}
+use Rattle.wording.specs.Words.{sameText}
 use Rattle.requests.specs.Requests.{longest, answerOf}
 use Rattle.line_laws.specs.Lines.{outputOf, wholeLines, turnsOutput, together, Cut}
 use Rattle.line_laws.specs.Runs.{Run, Fault, Stopped, Follows, Begins}
 use Rattle.line_laws.specs.Runs as runs
+use Rattle.line_laws.proofs.OutputLaws.{one-line}
 use Rattle.line_laws.proofs.RunLaws as laws
+use Rattle.lines.specs.Given.{givenOutput}
+use Rattle.lines.proofs.Buffers.{given-line}
 
 -- all lines that are too long have one answer
 pub long-same : (l m : List ℕ) → longest < length l → longest < length m → answerOf l ≡ answerOf m
@@ -58,3 +63,31 @@ read-stops carried pieces = laws.read-stops answerOf longest carried pieces
 
 pub write-stops : (n : ℕ) (carried piece : List ℕ) (pieces : List (List ℕ)) → (written : List ℕ) × Stopped answerOf longest runs.write carried (piece ∷ pieces) written
 write-stops n carried piece pieces = laws.write-stops answerOf longest n carried piece pieces
+
+-- ---- the arguments, given as one line
+
+-- what is written for them is what is written for an input of that line alone
+pub given-law : (line : List ℕ) → holds 10 line ≡ false → sameText line (bytes "--help") ≡ false → givenOutput line ≡ outputOf answerOf (line ++ (10 ∷ []))
+given-law line h e = sym (given-line line e) ∙ sym (one-line answerOf line h)
+
+-- for all lines that are too long the same is written
+same-length : (s t : List ℕ) → sameText s t ≡ true → length s ≡ length t
+unfolding sameText
+same-length [] [] e = refl
+same-length [] (b ∷ t) e = absurd (true≢false (sym e))
+same-length (a ∷ s) [] e = absurd (true≢false (sym e))
+same-length (a ∷ s) (b ∷ t) e = go (eqb a b) e (λ (g : sameText s t ≡ true). same-length s t g)
+  where
+    go : (q : Bool) → (q && sameText s t) ≡ true → (sameText s t ≡ true → length s ≡ length t) → suc (length s) ≡ suc (length t)
+    go true g i = ap suc (i g)
+    go false g i = absurd (true≢false (sym g))
+
+long-given : (l : List ℕ) → longest < length l → givenOutput l ≡ answerOf l ++ (10 ∷ [])
+long-given l h = go (sameText l (bytes "--help")) refl
+  where
+    go : (q : Bool) → sameText l (bytes "--help") ≡ q → givenOutput l ≡ answerOf l ++ (10 ∷ [])
+    go true e = let n : length l ≡ 6 = same-length l (bytes "--help") e in absurd (omega (arith, n))
+    go false e = sym (given-line l e)
+
+pub given-long : (l m : List ℕ) → longest < length l → longest < length m → givenOutput l ≡ givenOutput m
+given-long l m g h = long-given l g ∙ ap (λ (x : List ℕ). x ++ (10 ∷ [])) (long-same l m g h) ∙ sym (long-given m h)

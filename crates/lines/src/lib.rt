@@ -13,6 +13,7 @@
 // What is written in this way, turn by turn, is the output for the whole input, however the input is cut into reads
 // (law `run-law`). What a run has written when a read or a write fails is a beginning of that output (`stop-law`,
 // `read-stop-law`). The laws are those of the crate line_laws, with `answerOf` for the answer to a line.
+// What is written for arguments is what is written for an input of that line alone (`given-law`).
 use frame::arguments;
 use frame::arguments::Given;
 use frame::input;
@@ -217,7 +218,7 @@ fn answer_given(line: &[u8], out: &mut [u8]) -> Ended
 
 // Answers the arguments, or standard input where there are none. The buffer `line` has one byte more than the longest
 // line. So arguments that leave no byte of it free are a line that is too long, and so is the whole buffer: all lines
-// that are too long have one answer (law `long-same`).
+// that are too long have one answer (law `given-long`).
 fn run(line: &mut [u8], buf: &mut [u8], out: &mut [u8]) -> Ended
     requires { ⌜ (longest + 1 < length (now buf)) × (answerRoom ≤ length (now out)) ⌝ }
 {
