@@ -5,7 +5,7 @@
 use libc::STDERR_FILENO;
 use libc::STDOUT_FILENO;
 ghost use mathlib.Core.Path.{_≡_};
-ghost use Rattle.frame.specs.Output.{endedOf};
+ghost use Rattle.frame.specs.Output.{endedOf, Finished};
 
 // How a run ends: all was read and written, a read failed, or a write failed.
 pub enum Ended {
@@ -30,7 +30,9 @@ pub fn how_ended(written: bool) -> Ended
 }
 
 // Writes the last bytes of a run. Returns how the run ends.
-pub fn finish(out: &[u8]) -> Ended {
+pub fn finish(out: &[u8]) -> Ended
+    ensures { λ r. ⌜ Finished r ⌝ }
+{
     how_ended(write(out))
 }
 
