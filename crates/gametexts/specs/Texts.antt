@@ -1,5 +1,5 @@
--- What the entries that take texts answer (docs/RULES.md, "Move texts" and "Refusals"). A new game from a FEN has the refusals of
--- FEN. A move text on a game has 13, 1, 9, 14, 17, 15, 16, in this order.
+-- What the entries that take texts answer (docs/RULES.md, "Move texts" and "Refusals"). A new game from a FEN has the
+-- refusals of FEN. A move text on a game has 13, 1, 9, 14, 17, 15, 16, in this order.
 use Prim.Native.Nat.{ℕ}
 use mathlib.Core.Bool.{cond}
 use mathlib.Core.List.{List}

@@ -1,5 +1,5 @@
--- What is written of a game. Every game that a request plays began from an accepted position. So refusal 13, and a game lost to nobody,
--- do not occur; nothing is written for them.
+-- What is written of a game. Every game that a request plays began from an accepted position. So refusal 13, and a game
+-- lost to nobody, do not occur; nothing is written for them.
 use Prim.Native.Nat.{ℕ}
 use Prim.Native.Char.{code}
 use mathlib.Core.List.{List, [], _∷_, _++_}

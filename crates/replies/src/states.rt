@@ -1,5 +1,5 @@
-// What is written of a game: the outcome, both counts, how often the position has occurred; at the end also the position and the
-// number of its legal moves.
+// What is written of a game: the outcome, both counts, how often the position has occurred; at the end also the position
+// and the number of its legal moves.
 use crate::answers;
 use captures::moves::MAX_MOVES;
 use games::game::Game;

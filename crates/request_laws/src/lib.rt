@@ -1,2 +1,2 @@
-// Laws on the answers of `requests`, no code: no answer is longer than the room that is kept for it (`answer-short`); what `record`
-// and `play` answer is a run of which demand 3 speaks (`record-demand`, `word-plays`).
+// Laws on the answers of `requests`, no code: no answer is longer than the room that is kept for it (`answer-short`); what
+// `record` and `play` answer is a run as in demand 3 (`record-demand`, `play-demand`).

@@ -29,7 +29,7 @@ pub record Row : Type 0 where
 abbrev row : String → String → Request → Row
 row n a r = record { name = n; arguments = a; asks = r }
 
--- FEN is one word, TEXT the rest of the line
+-- FEN is a position: one word, or the rest of the line where nothing follows it
 abbrev pub requests : List Row
 requests =
     row "fen" "TEXT" request.Fen

@@ -1,6 +1,6 @@
 // The requests about a position or a square, one function each.
 //
-// The position that a request is about comes as what was read of its text. If that is a refusal, the refusal is the answer.
+// The position that a request is about comes as what was read of its text. If that is a refusal, it is the answer.
 use crate::reading;
 use crate::reading::Form;
 use notation::notation::Found;

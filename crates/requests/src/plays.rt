@@ -1,8 +1,8 @@
 // The requests about games: `play FEN TEXT ..`, `record FEN FIRST,LAST,SET ..` and `outcome FEN`.
 //
-// `play` and `record` begin a game from the position and play every word in order. A text is a move text. A record is the numbers of
-// a move's first and last square and its set in hexadecimal. `play` writes ` HUB/OUTCOME/COUNT1/COUNT2/TIMES` for each text, or ` !N`
-// where it is refused; `record` writes ` N` for each record, 0 where it is accepted. Both end with
+// `play` and `record` begin a game from the position and play every word in order. A text is a move text. A record is the
+// numbers of a move's first and last square and its set in hexadecimal. `play` writes ` HUB/OUTCOME/COUNT1/COUNT2/TIMES`
+// for each text, or ` !N` where it is refused; `record` writes ` N` for each record, 0 where it is accepted. Both end with
 // ` | FEN OUTCOME COUNT1 COUNT2 TIMES MOVES`.
 use games::game::Game;
 use gametexts::game::PlayedText;

@@ -20,7 +20,8 @@ ghost use Rattle.requests.specs.Requests.{rows, helpText, requestAt, req
 // The longest line that is looked at.
 pub const LONGEST: usize = 65536;
 
-// The requests with their arguments, one a line: what `dame --help` prints. FEN is one word, TEXT the rest of the line.
+// The requests with their arguments, one a line: what `dame --help` prints. FEN is a position: one word, or the rest of
+// the line where nothing follows it. TEXT is the rest of the line, or one word where `..` follows it.
 const TABLE: [u8; 328] = *b"fen TEXT\n\
 hub TEXT\n\
 fen2hub TEXT\n\

@@ -1,5 +1,5 @@
--- Numbers that are read from words: unsigned, signed and hexadecimal ones as Rust reads them (an optional sign, one digit
--- or more, leading zeros allowed, at most the type's limit), and strict ones, which have exactly one text.
+-- Numbers that are read from words: unsigned, signed and hexadecimal ones as Rust reads them (an optional sign, one
+-- digit or more, leading zeros allowed, at most the type's limit), and strict ones, which have exactly one text.
 use Prim.Native.Nat.{ℕ, _+_, _-_, _*_, _^_, _≤_}
 use Prim.Native.Char.{code}
 use mathlib.Core.List.{List, [], _∷_}

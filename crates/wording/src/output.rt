@@ -1,5 +1,5 @@
-// Writers of answers. An answer is written piece by piece into lent bytes. Each function writes its piece at the place `at`
-// and returns the place after it, where the next piece goes. What has no room is left out.
+// Writers of answers. An answer is written piece by piece into lent bytes. Each function writes its piece at the place
+// `at` and returns the place after it, where the next piece goes. What has no room is left out.
 use squares::refusal::Refusal;
 pub use texts::bytes::put_byte;
 ghost use Rattle.texts.specs.Lent.{Adds};

@@ -1,5 +1,5 @@
-// The words of a line. Every single space ends a word, so two spaces have an empty word between them, and a line has one
-// word more than it has spaces.
+// The words of a line. Every single space ends a word, so two spaces have an empty word between them, and a line has
+// one word more than it has spaces.
 use texts::bytes;
 ghost use mathlib.Core.Path.{_≡_};
 ghost use Rattle.wording.specs.Words.{sameText, firstWord, afterWord, wordAt, blanksIn};
