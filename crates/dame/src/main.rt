@@ -1,5 +1,7 @@
 // Answers requests about draughts positions, each by one line on standard output: its arguments are one request;
 // without arguments, each line of standard input is one.
+#![tactic(auto)]
+
 fn main() {
     lines::serve();
 }

@@ -10,7 +10,7 @@ use wording::output;
 
 // The arguments: a line of so many bytes, at the start of the buffer; none; or too long, so that no byte of the
 // buffer would be free.
-#[derive(Drop)]
+#[derive(Clone, Copy)]
 pub enum Given {
     Line(usize),
     Nothing,
@@ -18,7 +18,7 @@ pub enum Given {
 }
 
 // One argument: so many bytes, or too long.
-#[derive(Drop)]
+#[derive(Clone, Copy)]
 enum Word {
     Bytes(usize),
     Long,

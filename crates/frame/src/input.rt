@@ -13,7 +13,7 @@ ghost use Rattle.frame.specs.Input.{came_of, CameIn, TakenIn, TakenLine};
 use libc::STDIN_FILENO;
 
 // What one read brought: so many bytes, or the end of the input; or it failed.
-#[derive(Drop)]
+#[derive(Clone, Copy)]
 pub enum Came {
     Bytes(usize),
     End,
@@ -21,7 +21,7 @@ pub enum Came {
 }
 
 // What the read of one byte brought.
-#[derive(Drop)]
+#[derive(Clone, Copy)]
 enum Single {
     Byte(u8),
     End,
@@ -29,7 +29,7 @@ enum Single {
 }
 
 // What was read: so many bytes, at the start of the buffer; or a read failed.
-#[derive(Drop)]
+#[derive(Clone, Copy)]
 pub enum Taken {
     Bytes(usize),
     Failed,

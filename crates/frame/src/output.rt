@@ -8,7 +8,7 @@ ghost use Rattle.frame.specs.Output.{ended_of, Finished};
 use libc::{STDERR_FILENO, STDOUT_FILENO};
 
 // How a run ends: all was read and written, a read failed, or a write failed.
-#[derive(Drop)]
+#[derive(Clone, Copy)]
 pub enum Ended {
     Whole,
     Read,

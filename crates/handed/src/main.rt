@@ -2,6 +2,8 @@
 // with one fault or two. The input says line by line what is handed in (`given`) and what is asked (`asked`). Each line
 // of the output names the entry and the case, then gives the refusal's number and square, or what came back.
 // scripts/handed writes the files stdin and stdout. Its answers follow docs/RULES.md; it asks no program.
+#![tactic(auto)]
+
 mod asked;
 mod boards;
 mod given;

@@ -14,6 +14,8 @@
 // (law `run_law`). What a run has written when a read or a write fails is a beginning of that output (`stop_law`,
 // `read_stop_law`). The laws are those of the crate line_laws, with `answer_of` for the answer to a line.
 // What is written for arguments is what is written for an input of that line alone (`given_law`).
+#![tactic(auto)]
+
 ghost use Rattle.std.specs.Prelude.{◌≡◌, [], ◌∷◌, ◌++◌, ◌≤◌, ◌<◌, ◌-◌, ◌+◌, min, length, take, drop};
 ghost use Rattle.requests.specs.Requests.{longest, answer_room, answer_of};
 ghost use Rattle.frame.specs.Input.{CameIn};
@@ -34,14 +36,14 @@ use wording::words;
 const ROOM: usize = 23 * asked::LONGEST;
 
 // How far lines were answered: up to the place `at` of the input, with answers of `put` bytes.
-#[derive(Drop)]
+#[derive(Clone, Copy)]
 struct Step {
     at: usize,
     put: usize,
 }
 
 // What became of the answers to the whole lines: all were written, to lines of so many bytes; or a write failed.
-#[derive(Drop)]
+#[derive(Clone, Copy)]
 enum Sent {
     Whole(usize),
     Failed,

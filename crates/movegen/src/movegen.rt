@@ -38,21 +38,21 @@ use squares::refusal::{Answer, Refusal};
 const FEW_KINGS: u32 = 3;
 
 // The answer and the list. Where the call is refused, the list is empty.
-#[derive(Drop)]
+#[derive(Clone, Copy)]
 pub struct Listed {
     pub answer: Answer,
     pub list: MoveList,
 }
 
 // The result of a test, or the refusal.
-#[derive(Drop)]
+#[derive(Clone, Copy)]
 pub enum Tested {
     Is(bool),
     Refused(Refusal),
 }
 
 // A board as the side to move sees it: its own pieces, the enemy's, the kings of both. Depth counts need no more.
-#[derive(Drop)]
+#[derive(Clone, Copy)]
 pub(crate) struct View {
     pub(crate) us: Bitboard,
     pub(crate) them: Bitboard,

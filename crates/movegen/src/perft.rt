@@ -33,7 +33,7 @@ use squares::{bitboard, square};
 pub const MAX_DEPTH: u32 = 7;
 
 // A count, or the refusal.
-#[derive(Drop)]
+#[derive(Clone, Copy)]
 pub enum Counted {
     Count(u64),
     Refused(Refusal),
@@ -41,7 +41,7 @@ pub enum Counted {
 
 // The first moves and the count after each; unused counts are 0. Where the call is refused, the list is empty and all
 // counts are 0.
-#[derive(Drop)]
+#[derive(Clone, Copy)]
 pub struct Divided {
     pub answer: Answer,
     pub list: MoveList,

@@ -21,7 +21,7 @@ use squares::bitboard::Bitboard;
 use squares::piece::Color;
 
 // A list of moves, and whether there were more than it has room for.
-#[derive(Drop)]
+#[derive(Clone, Copy)]
 pub struct Listing {
     pub list: MoveList,
     pub overflow: bool,

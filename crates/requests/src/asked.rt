@@ -133,7 +133,7 @@ pub(crate) fn eval(p: Placed, weights: Classical, out: &mut [u8], at: usize) -> 
 }
 
 // The five weights, or `Bad` where one of them is not a number.
-#[derive(Drop)]
+#[derive(Clone, Copy)]
 pub enum Weights {
     Classical(Classical),
     Bad,

@@ -4,6 +4,8 @@
 //   asked      one function for each request about a position or a square
 //   plays      the requests about games
 //   reading    the texts of a request, their escapes undone, as positions, moves and squares
+#![tactic(auto)]
+
 mod asked;
 mod plays;
 mod reading;

@@ -20,14 +20,14 @@ use wording::output::Flaw;
 use wording::{escapes, numbers, output, words};
 
 // How the plays of a game are given.
-#[derive(Drop)]
+#[derive(Clone, Copy)]
 pub enum Given {
     Text,
     Record,
 }
 
 // The move of a record, or `Bad` where a part of it is not a number.
-#[derive(Drop)]
+#[derive(Clone, Copy)]
 pub enum Recorded {
     Move(Move),
     Bad,

@@ -11,7 +11,7 @@ use texts::{bytes, fen, hub};
 use wording::escapes;
 
 // How the text of a position is read: as FEN, as Hub, or as whichever of the two it looks like.
-#[derive(Drop)]
+#[derive(Clone, Copy)]
 pub enum Form {
     Fen,
     Hub,

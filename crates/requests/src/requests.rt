@@ -44,7 +44,7 @@ record FEN FIRST,LAST,SET ..\n";
 const ROWS: usize = 22;
 
 // The requests in the order of the table, and a name that is in none of its rows.
-#[derive(Drop)]
+#[derive(Clone, Copy)]
 pub enum Request {
     Fen,
     Hub,

@@ -18,7 +18,7 @@ use squares::bitboard::Bitboard;
 // How many moves a short list can hold.
 pub const ROOM: usize = 14;
 
-#[derive(Drop)]
+#[derive(Clone, Copy)]
 pub struct Short {
     // The longest captures so far, `len` of them. The entries after them mean nothing.
     pub moves: [Move; 14],

@@ -19,7 +19,7 @@ use crate::square;
 use crate::square::Square;
 
 // One draw of SplitMix64: the state for the next draw, and the output.
-#[derive(Drop)]
+#[derive(Clone, Copy)]
 pub struct Drawn {
     pub state: u64,
     pub output: u64,

@@ -1,6 +1,8 @@
 // Writes outputs of SplitMix64, the keys of the pieces and of the side, and number, bit, row and file of each square
 // (docs/RULES.md, "The board" and "Keys and hash"). The output must equal the file stdout beside src/, which
 // scripts/vectors makes from published vectors and from the answers of the Rust.
+#![tactic(auto)]
+
 use libc::STDOUT_FILENO;
 use squares::piece::{Color, PieceKind};
 use squares::square::Numbered;

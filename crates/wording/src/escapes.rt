@@ -10,7 +10,7 @@ ghost use Rattle.wording.specs.Escapes.{high_of, hex_escape, escape_of, UsedIn, 
 use crate::{numbers, output};
 
 // The byte that an escape stands for, and how many bytes the escape has after its backslash; or that it is invalid.
-#[derive(Drop)]
+#[derive(Clone, Copy)]
 pub(crate) enum Escape {
     Byte(u8, usize),
     Bad,

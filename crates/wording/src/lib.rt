@@ -6,6 +6,8 @@
 // * `output`: the writers of answers, piece by piece into lent bytes.
 //
 // Every function has an answer for every input.
+#![tactic(auto)]
+
 pub mod escapes;
 pub mod numbers;
 pub mod output;

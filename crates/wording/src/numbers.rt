@@ -9,13 +9,13 @@ ghost use Rattle.wording.specs.Numbers.{digit_of, AtMost, number_in, unsigned_of
 
 use texts::bytes;
 
-#[derive(Drop)]
+#[derive(Clone, Copy)]
 pub enum Parsed {
     Value(u64),
     Bad,
 }
 
-#[derive(Drop)]
+#[derive(Clone, Copy)]
 pub enum Signed {
     Value(i32),
     Bad,

@@ -7,7 +7,7 @@ use squares::refusal::Refusal;
 pub use texts::bytes::put_byte;
 
 // What is wrong with a bad request.
-#[derive(Drop)]
+#[derive(Clone, Copy)]
 pub enum Flaw {
     // The line is too long.
     Length,
