@@ -1,0 +1,16 @@
+-- The loop asks the four directions in turn.
+use mathlib.Core.Path.{◌≡◌, sym, ap, ◌∙◌}
+use mathlib.Core.Bool.{false}
+use Prim.Native.Nat.{◌≤◌, ◌-◌}
+use native.Mathlib.Omega.{arith}
+use Rattle.captures.specs.Walks.{any_up_to}
+use Rattle.captures.specs.Open.{king_jump}
+use Rattle.captures.proofs.Some.{up_found, up_none, up_on}
+use borrow.Author.Rules.{rules}
+use Rattle.captures.proofs.movegen.king_open.Given as goal
+
+abbrev pub invariant-loop-d : goal.invariant-loop-d
+invariant-loop-d l = (l.d ≤ 4) × (any_up_to (king_jump l.at l.them l.empty) l.d ≡ false)
+
+abbrev pub decreases-loop-d : goal.decreases-loop-d
+decreases-loop-d l = 4 - l.d

@@ -1,0 +1,14 @@
+-- What came of each read has room, and is a byte at least.
+use mathlib.Core.Path.{◌≡◌}
+use Prim.Native.Nat.{◌-◌, ◌≤◌}
+use lib.ListN.{length}
+use Rattle.frame.proofs.Taking as laws
+use borrow.Author.Rules.{rules}
+use native.Mathlib.Omega.{arith}
+use Rattle.frame.proofs.input.read_all.Given as goal
+
+abbrev pub invariant-loop-n : goal.invariant-loop-n
+invariant-loop-n l = (length l.buf ≡ length l.initial.buf) × (l.n ≤ length l.buf)
+
+abbrev pub decreases-loop-n : goal.decreases-loop-n
+decreases-loop-n l = length l.buf - l.n

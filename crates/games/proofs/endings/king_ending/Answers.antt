@@ -1,0 +1,33 @@
+-- The branches are the tests of the definition, in its order.
+use Rattle.games.specs.Games.{king_ending}
+use borrow.Author.Rules.{rules}
+use Rattle.games.proofs.endings.king_ending.Goals as goal
+
+pub returns-then-three-material : goal.returns-then-three-material
+unfolding king_ending
+returns-then-three-material c = rw (← c.faces.ensures, ← c.faces-2.ensures, c.if-three-material.true) c.draw.ensures
+
+pub returns-then-two-material : goal.returns-then-two-material
+unfolding king_ending
+returns-then-two-material c =
+    rw (
+      ← c.faces.ensures,
+      ← c.faces-2.ensures,
+      c.if-three-material.false,
+      ← c.faces-3.ensures,
+      ← c.faces-4.ensures,
+      c.if-two-material.true,
+    )
+    c.draw-then-two-material.ensures
+
+pub returns : goal.returns
+unfolding king_ending
+returns c =
+    rw (
+      ← c.faces.ensures,
+      ← c.faces-2.ensures,
+      c.if-three-material.false,
+      ← c.faces-3.ensures,
+      ← c.faces-4.ensures,
+      c.if-two-material.false,
+    )

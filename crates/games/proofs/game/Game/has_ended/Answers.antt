@@ -1,0 +1,6 @@
+-- What `ended` says of the outcome.
+use borrow.Author.Rules.{rules}
+use Rattle.games.proofs.game.Game.has_ended.Goals as goal
+
+pub returns : goal.returns
+returns c = rw (← c.judged.ensures) c.ended.ensures

@@ -1,0 +1,12 @@
+-- The text of each winner.
+use borrow.Author.Rules.{rules}
+use Rattle.games.proofs.game.Outcome.result.Goals as goal
+
+pub returns-in-White : goal.returns-in-White
+returns-in-White c = rw (c.in-Side.is, c.in-White.is)
+
+pub returns-in-Black : goal.returns-in-Black
+returns-in-Black c = rw (c.in-Side.is, c.in-Black.is)
+
+pub returns-in-Nobody : goal.returns-in-Nobody
+returns-in-Nobody c = rw c.in-Nobody.is

@@ -1,0 +1,35 @@
+-- Up to the place reached every position is sound; the first that is not ends the walk.
+use mathlib.Core.Path.{◌≡◌, sym, ◌∙◌}
+use mathlib.Core.Bool.{true}
+use Prim.Native.Nat.{◌≤◌, ◌-◌}
+use lib.ListN.{length, take}
+use Rattle.games.specs.Games.{blank_position, window_of, all_sound}
+use Rattle.squares.proofs.Lengths.{length_of_map}
+use Rattle.games.proofs.Window.{all_none, all_more, all_fails}
+use borrow.Author.Rules.{rules}
+use native.Mathlib.Omega.{arith}
+use Rattle.games.proofs.keeping.kept_sound.Goals as goal
+
+pub loop-at-init : goal.loop-at-init
+loop-at-init c = (omega arith, all_none c.args.t1.kept)
+
+pub loop-at-preserved : goal.loop-at-preserved
+loop-at-preserved c =
+    let g = c.args.t1 in
+    let k : length g.kept ≡ 51 = search (rules, length_of_map) in
+    let s = sym c.sound.ensures ∙ c.if-sound.true in
+    (omega arith, all_more blank_position g.kept c.loop-at.at (omega arith) c.loop-at.invariant.1 s)
+
+pub returns-else-sound : goal.returns-else-sound
+unfolding window_of
+returns-else-sound c =
+    let g = c.args.t1 in
+    let k : length g.kept ≡ 51 = search (rules, length_of_map) in
+    let s = sym c.sound.ensures ∙ c.if-sound.false in
+    sym (all_fails blank_position g.kept g.len c.loop-at.at (omega arith) (omega arith) s)
+
+pub returns : goal.returns
+unfolding window_of
+returns c =
+    let e : c.loop-at.at ≡ c.args.t1.len = omega arith in
+    sym (rw e at c.loop-at.invariant.1)

@@ -1,0 +1,17 @@
+-- Up to the place reached every position is sound; the first that is not ends the walk.
+use mathlib.Core.Path.{◌≡◌, sym, ◌∙◌}
+use mathlib.Core.Bool.{true}
+use Prim.Native.Nat.{◌≤◌, ◌-◌}
+use lib.ListN.{length, take}
+use Rattle.games.specs.Games.{blank_position, window_of, all_sound}
+use Rattle.squares.proofs.Lengths.{length_of_map}
+use Rattle.games.proofs.Window.{all_none, all_more, all_fails}
+use borrow.Author.Rules.{rules}
+use native.Mathlib.Omega.{arith}
+use Rattle.games.proofs.keeping.kept_sound.Given as goal
+
+abbrev pub invariant-loop-at : goal.invariant-loop-at
+invariant-loop-at l = (l.at ≤ l.g.len) × (all_sound (take l.at l.g.kept) ≡ true)
+
+abbrev pub decreases-loop-at : goal.decreases-loop-at
+decreases-loop-at l = l.g.len - l.at

@@ -1,0 +1,6 @@
+-- What `same` ensures.
+use borrow.Author.Rules.{rules}
+use Rattle.games.proofs.keeping.same_position.Goals as goal
+
+pub returns : goal.returns
+returns c = c.same.ensures

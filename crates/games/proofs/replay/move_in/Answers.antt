@@ -1,0 +1,6 @@
+-- Each square is what its call ensures.
+use borrow.Author.Rules.{rules}
+use Rattle.games.proofs.replay.move_in.Goals as goal
+
+pub returns : goal.returns
+returns c = rw (c.square_in.ensures, c.square_in-2.ensures)

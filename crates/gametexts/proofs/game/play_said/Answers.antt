@@ -1,0 +1,21 @@
+-- 14 is tested before the list is looked at; the position handed in is the current one of a valid game.
+use mathlib.Core.Path.{sym, ◌∙◌}
+use Rattle.gametexts.specs.Texts.{play_said}
+use Rattle.gametexts.proofs.Answers.{over_at, over_not}
+use borrow.Author.Rules.{rules}
+use Rattle.gametexts.proofs.game.play_said.Goals as goal
+
+pub returns-then-over : goal.returns-then-over
+unfolding play_said
+returns-then-over c =
+    let e = over_at c.args.g c.requires.0 _ (sym c.is_over.ensures ∙ c.in-Is.is) ∙ c.if-over.true in
+    rw e c.refused_text.ensures
+
+pub returns-else-over : goal.returns-else-over
+unfolding play_said
+returns-else-over c =
+    let e = over_at c.args.g c.requires.0 _ (sym c.is_over.ensures ∙ c.in-Is.is) ∙ c.if-over.false in
+    rw (e, ← c.requires.1, ← c.fit.ensures) c.play_found.ensures
+
+pub returns-in-Refused : goal.returns-in-Refused
+returns-in-Refused c = over_not c.args.g c.requires.0 _ (sym c.is_over.ensures ∙ c.in-Refused.is)

@@ -1,0 +1,17 @@
+-- What is read goes after the bytes that were carried over.
+use Prim.Native.Nat.{ℕ, ◌-◌}
+use mathlib.Core.Path.{ap, sym, ◌∙◌, subst}
+use lib.ListN.{length}
+use borrow.Rule.Slice.PartMut.{take_put}
+use Rattle.frame.specs.Input.{CameIn}
+use Rattle.frame.proofs.Taking as laws
+use borrow.Author.Rules.{rules}
+use native.Mathlib.Omega.{arith}
+use Rattle.lines.proofs.read_more.Goals as goal
+
+pub returns : goal.returns
+returns c =
+    let buf = c.args.buf.now in
+    let s = laws.same_buffer buf c.read_once.new.0 c.args.have (omega arith) c.read_once.auto.0 in
+    let l = laws.part_length buf c.read_once.new.0 c.args.have (omega arith) c.read_once.auto.0 in
+    (subst (λ (n : ℕ). CameIn n c.read_once.result) (l ∙ ap (λ (n : ℕ). n - c.args.have) (sym s)) c.read_once.ensures, take_put c.args.have (length buf - c.args.have) buf c.read_once.new.0 (omega arith))

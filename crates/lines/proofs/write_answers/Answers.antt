@@ -1,0 +1,26 @@
+-- Step by step, up to the last whole line, or to a write that fails.
+use mathlib.Core.Path.{◌≡◌, sym}
+use Prim.Native.Nat.{◌-◌}
+use lib.ListN.{length, take}
+use lib.Seq.{length-take-le}
+use Rattle.requests.specs.Requests.{answer_of}
+use borrow.Author.Rules.{rules}
+use Rattle.line_laws.specs.Lines.{whole_of}
+use Rattle.line_laws.specs.Steps.{Answered}
+use Rattle.line_laws.proofs.LineLaws.{whole_nil}
+use Rattle.line_laws.proofs.StepLaws as laws
+use native.Mathlib.Omega.{arith}
+use Rattle.lines.proofs.write_answers.Goals as goal
+
+pub loop-at-init : goal.loop-at-init
+loop-at-init c = (search rules, whole_nil, c.answer_lines-t.ensures)
+
+pub slice_bounds-write-end-in-loop-at : goal.slice_bounds-write-end-in-loop-at
+slice_bounds-write-end-in-loop-at c = sym (length-take-le _ _ (omega arith))
+
+pub loop-at-preserved : goal.loop-at-preserved
+loop-at-preserved c =
+    let l = c.before.before.before.before.before.before.before.before.before.loop in (search rules, laws.onward_whole answer_of l.invariant.1 l.invariant.2, c.answer_lines-t-then-write.ensures)
+
+pub returns : goal.returns
+returns c = (omega arith, laws.all_whole answer_of c.loop-at.invariant.1 c.loop-at.invariant.2 (omega arith))

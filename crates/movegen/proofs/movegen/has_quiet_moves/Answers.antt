@@ -1,0 +1,15 @@
+-- The test by sets is that of the rules on the board of a sound position.
+use mathlib.Core.Path.{refl, sym, ◌∙◌}
+use Rattle.movegen.specs.Lists.{has_quiet_moves_of}
+use Rattle.movegen.proofs.Listed.{quiets_tested}
+use borrow.Author.Rules.{rules}
+use Rattle.movegen.proofs.movegen.has_quiet_moves.Goals as goal
+
+pub returns-then-sound : goal.returns-then-sound
+returns-then-sound c =
+    let p = c.args.p in
+    quiets_tested p (sym c.sound.ensures ∙ c.if-sound.true) _ _ _ _ c.men.ensures c.kings.ensures c.empty.ensures c.has_quiet.ensures
+
+pub returns : goal.returns
+unfolding has_quiet_moves_of
+returns c = rw (sym c.sound.ensures ∙ c.if-sound.false) refl

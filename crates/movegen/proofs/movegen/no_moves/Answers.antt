@@ -1,0 +1,6 @@
+-- The new list is empty.
+use borrow.Author.Rules.{rules}
+use Rattle.movegen.proofs.movegen.no_moves.Goals as goal
+
+pub returns : goal.returns
+returns c = rw c.new-list.ensures

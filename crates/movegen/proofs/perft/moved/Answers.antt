@@ -1,0 +1,6 @@
+-- The two squares as sets.
+use borrow.Author.Rules.{rules}
+use Rattle.movegen.proofs.perft.moved.Goals as goal
+
+pub returns : goal.returns
+returns c = cc

@@ -1,0 +1,13 @@
+-- The list tells 12 and 17; of the moves in it those that fit are looked for.
+use mathlib.Core.Path.{ap, ◌∙◌}
+use Rattle.notation.specs.Choice.{answered}
+use Rattle.notation.proofs.Search.{fit_done, fit_refused}
+use borrow.Author.Rules.{rules}
+use Rattle.notation.proofs.notation.fit.Goals as goal
+
+pub returns-in-Done : goal.returns-in-Done
+returns-in-Done c =
+    c.answered.ensures ∙ ap answered c.choose.ensures ∙ fit_done c.args.p c.args.said c.legal_moves-l.result c.legal_moves-l.ensures c.in-Done.is
+
+pub returns-in-Refused : goal.returns-in-Refused
+returns-in-Refused c = fit_refused c.args.p c.args.said c.legal_moves-l.result _ c.legal_moves-l.ensures c.in-Refused.is

@@ -1,0 +1,16 @@
+-- What is not of the form is 9; a refusal is passed on.
+use mathlib.Core.Path.{refl}
+use Rattle.notation.proofs.Reading.{formed, unformed}
+use borrow.Author.Rules.{rules}
+use Rattle.notation.proofs.notation.in_form.Goals as goal
+
+pub returns-then-well_formed : goal.returns-then-well_formed
+returns-then-well_formed c =
+    formed c.args.dash c.args.heard _ _ c.in-Said.is c.before.well-formed-2.ensures c.if-well_formed.true
+
+pub returns-else-well_formed : goal.returns-else-well_formed
+returns-else-well_formed c =
+    unformed c.args.dash c.args.heard _ _ c.in-Said.is c.before.well-formed-2.ensures c.if-well_formed.false
+
+pub returns-in-Refused : goal.returns-in-Refused
+returns-in-Refused c = rw c.in-Refused.is refl

@@ -1,0 +1,39 @@
+-- What was read is fitted, and `fit` tests the position first; a refusal of the text comes after that of the position.
+use mathlib.Core.Path.{◌≡◌, refl, sym, ◌∙◌}
+use mathlib.Core.Bool.{Bool, true, false, cond}
+use lib.Dec.{leb}
+use lib.ListN.{length}
+use Rattle.squares.specs.declared.refusal.Refusal.TheVariants.{BadPosition, TooManyMoves}
+use Rattle.positions.specs.Acceptance.{sound}
+use Rattle.positions.specs.Boards.{board_of}
+use Rattle.positions.specs.declared.position.Position.{Position}
+use Rattle.rules.specs.Ordered.{legal}
+use Rattle.notation.specs.Choice.{fitting, only, fit_of, parse_move_of}
+use Rattle.notation.specs.declared.notation.Found.{Found}
+use Rattle.notation.specs.declared.notation.Found.TheVariants as found
+use Rattle.notation.specs.declared.notation.Said.{Said}
+use borrow.Author.Rules.{rules}
+use Rattle.notation.proofs.notation.parse_move.Goals as goal
+
+-- 12 is the first refusal of `fit`
+position_first : (p : Position) (h : Said) → fit_of p h ≡ cond (sound p) (fit_of p h) (found.Refused BadPosition)
+unfolding fit_of
+position_first p h = go (sound p) (cond (leb (length (legal (board_of p))) 256) (only (fitting h (legal (board_of p)))) (found.Refused TooManyMoves))
+  where
+    go : (t : Bool) (f : Found) → cond t f (found.Refused BadPosition) ≡ cond t (cond t f (found.Refused BadPosition)) (found.Refused BadPosition)
+    go true f = refl
+    go false f = refl
+
+pub returns-in-Said : goal.returns-in-Said
+unfolding parse_move_of
+returns-in-Said c =
+    rw (← c.read_move.ensures, c.in-Said.is)
+    (c.fit.ensures ∙ position_first _ _)
+
+pub returns-then-sound : goal.returns-then-sound
+unfolding parse_move_of
+returns-then-sound c = rw (sym c.sound.ensures ∙ c.if-sound.true, ← c.read_move.ensures, c.in-Refused.is) refl
+
+pub returns-else-sound : goal.returns-else-sound
+unfolding parse_move_of
+returns-else-sound c = rw (sym c.sound.ensures ∙ c.if-sound.false) refl

@@ -1,0 +1,61 @@
+-- Each turn takes the lowest square and puts in its opposite; bits that are no square go nowhere.
+use mathlib.Core.Path.{◌≡◌, sym, ap, ◌∙◌}
+use Prim.Native.Nat.{ℕ, ◌-◌, ◌*◌, ◌%◌, ◌^◌, ◌<◌}
+use native.Mathlib.Nat.{lt_of_le_of_lt}
+use lib.Bits.{bit_and, bit_or, and_le_l, and_le_r, or_comm, or_zero_l, or_zero_r}
+use Rattle.squares.specs.Sets.{has, lowest}
+use Rattle.squares.specs.Squares.{all, square_at_bit, single}
+use Rattle.squares.specs.Folds.{union_over}
+use Rattle.squares.proofs.Bools.{and_right}
+use Rattle.squares.proofs.Pointwise.{has_and, one_bit, member_lt}
+use Rattle.squares.proofs.Members.{lowest_in}
+use Rattle.squares.proofs.Unions.{or_assoc, union_next, union_none, union_same, union_mask}
+use Rattle.squares.proofs.Numbers.{all_is, has_all}
+use Rattle.positions.specs.Flip.{rotated}
+use Rattle.positions.proofs.Rotation.{turned_bit, turned_off}
+use borrow.Author.Rules.{rules}
+use native.Mathlib.Omega.{arith}
+use Rattle.positions.proofs.position.rotate.Invariants.{turned, Left}
+use Rattle.positions.proofs.position.rotate.Goals as goal
+
+turn : {left out whole : ℕ} → Left left out whole → 0 < left → left < 2 ^ 54 → Left (bit_and left (left - 1)) (bit_or out (turned (lowest left))) whole
+turn {left} {out} {whole} e p h =
+    let rest = union_over turned (bit_and left (left - 1)) in
+    record {
+      sum = or_assoc out (turned (lowest left)) rest
+          ∙ ap (bit_or out) (or_comm (turned (lowest left)) rest ∙ sym (union_next turned left p (omega arith))) ∙ e.sum;
+    }
+
+-- the code's bits are the definition's squares
+is_rotated : (s : ℕ) → union_over turned (bit_and s all) ≡ rotated s
+unfolding rotated
+is_rotated s =
+    union_same turned (λ i. single (51 - square_at_bit i)) (bit_and s all)
+    (λ i l e.
+    let o = sym (has_all i) ∙ and_right (has s i) (has all i) (sym (has_and s all i) ∙ e) in
+    one_bit (53 - i) (omega arith) ∙ sym (turned_bit i o))
+    ∙ union_mask (λ i. single (51 - square_at_bit i)) s all (λ i l e. turned_off i (sym (has_all i) ∙ e))
+
+ended : (s : ℕ) {left out : ℕ} → left ≡ 0 → Left left out (union_over turned (bit_and s 0x003F_F7FE_FFDF_FBFF)) → out ≡ rotated s
+ended s {left} {out} z e =
+    sym (or_zero_r out) ∙ ap (bit_or out) (sym (ap (union_over turned) z ∙ union_none turned)) ∙ e.sum
+    ∙ ap (λ (m : ℕ). union_over turned (bit_and s m)) (sym all_is) ∙ is_rotated s
+
+pub loop-left-init : goal.loop-left-init
+loop-left-init c = (record { sum = or_zero_l _ }, lt_of_le_of_lt (and_le_r c.args.set 0x003F_F7FE_FFDF_FBFF) (omega arith))
+
+pub overflow_sub-out : goal.overflow_sub-out
+overflow_sub-out c =
+    let h : c.loop-left.left < 2 ^ 54 = c.loop-left.invariant.1 in
+    let low = lowest_in 64 c.loop-left.left (omega arith) (omega arith) in
+    omega (arith, member_lt 54 c.loop-left.left (lowest c.loop-left.left) h low)
+
+pub loop-left-smaller : goal.loop-left-smaller
+loop-left-smaller c = omega (arith, and_le_r c.loop-left.left (c.loop-left.left - 1))
+
+pub loop-left-preserved : goal.loop-left-preserved
+loop-left-preserved c =
+    (turn c.loop-left.invariant.0 (omega arith) c.loop-left.invariant.1, omega (arith, and_le_l c.loop-left.left (c.loop-left.left - 1)))
+
+pub returns : goal.returns
+returns c = ended c.args.set (omega arith) c.loop-left.invariant.0

@@ -1,0 +1,22 @@
+-- Each test is the definition's; a man's directions are the first two from `forward` on.
+use mathlib.Core.Path.{sym, ap, ap₂, ◌∙◌}
+use mathlib.Core.Bool.{◌||◌}
+use Prim.Native.Nat.{ℕ, ◌+◌}
+use native.Mathlib.Omega.{arith}
+use Rattle.captures.specs.Walks.{any_up_to}
+use Rattle.quiets.specs.Tests.{steps_open, has_quiet_of}
+use Rattle.quiets.proofs.Forward.{forward_le, plus_zero}
+use borrow.Author.Rules.{rules}
+use Rattle.quiets.proofs.quiets.has_quiet.Goals as goal
+
+pub overflow_add-first : goal.overflow_add-first
+overflow_add-first c = omega (arith, forward_le c.args.side, c.forward-first.ensures)
+
+pub returns : goal.returns
+unfolding has_quiet_of any_up_to
+returns c =
+    let first = c.forward-first.ensures in
+    ap₂ ◌||◌
+    (ap₂ ◌||◌ (c.steps.ensures ∙ ap (steps_open c.args.men c.args.empty) (first ∙ sym (plus_zero c.args.side)))
+    (c.steps-2.ensures ∙ ap (λ (d : ℕ). steps_open c.args.men c.args.empty (d + 1)) first))
+    (ap₂ ◌||◌ (ap₂ ◌||◌ (ap₂ ◌||◌ c.steps-3.ensures c.steps-4.ensures) c.steps-5.ensures) c.steps-6.ensures)

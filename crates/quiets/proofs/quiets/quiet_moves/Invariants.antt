@@ -1,0 +1,64 @@
+-- Each turn stores one move in the array: the men's steps by the lowest bit reached, in both directions forward; then the landings
+-- of each flight, direction by direction and king by king.
+use mathlib.Core.Path.{◌≡◌, refl, sym, ap, ap₂, ◌∙◌}
+use mathlib.Core.Logic.{⊎_elim}
+use mathlib.Core.Bool.{Bool, false}
+use mathlib.Core.List.{List, ◌∷◌, [], foldl, foldl-append, map, flat_map}
+use Prim.Native.Nat.{ℕ, ◌+◌, ◌-◌, ◌≤◌}
+use native.Mathlib.Omega.{arith}
+use lib.Bits.{bit_and}
+use Rattle.squares.specs.Sets.{members}
+use Rattle.squares.specs.Directions.{direction_at}
+use Rattle.squares.proofs.Loops.{cleared}
+use Rattle.squares.proofs.Members.{lowest_lt}
+use Rattle.squares.proofs.Pointwise.{and_lt, one_bit}
+use Rattle.squares.proofs.Shifts.{shifted_lt}
+use Rattle.positions.specs.declared.moves.Move.{Move}
+use Rattle.positions.specs.Moves.{move}
+use Rattle.captures.specs.declared.moves.MoveList.{MoveList}
+use Rattle.captures.specs.Lists.{no_moves}
+use Rattle.captures.specs.Rays.{far, landings}
+use Rattle.captures.specs.Walks.{up_to}
+use Rattle.captures.proofs.Steps.{rank, ray_falls}
+use Rattle.quiets.specs.declared.quiets.Listing.{Listing}
+use Rattle.quiets.specs.Quiets.{listing, add_of, step_move, men_steps, men_quiets, flights, king_quiets, all_quiets, quiet_moves_of}
+use Rattle.quiets.proofs.Forward.{forward_le}
+use Rattle.quiets.proofs.Added.{stored, marked, Adding, adding_turn, adding_done, ones, Flying, fly_start, fly_step, fly_end, Walked, walk_start, walk_on, step_made, quiet_to, flight_from, flights_made}
+use borrow.Author.Rules.{rules}
+use Rattle.quiets.proofs.quiets.quiet_moves.Given as goal
+
+abbrev pub held : List Move → ℕ → MoveList
+held moves len = record { moves = moves; len = len }
+
+abbrev pub found : List Move → ℕ → Bool → Listing
+found moves len overflow = listing (held moves len) overflow
+
+abbrev pub invariant-loop-to : goal.invariant-loop-to
+invariant-loop-to l = Adding (λ i. step_move l.d i ∷ []) (foldl add_of (found l.initial.moves l.initial.len l.initial.overflow) (flat_map (λ i. step_move l.d i ∷ []) (members l.initial.to))) (found l.moves l.len l.overflow) l.to
+
+abbrev pub decreases-loop-to : goal.decreases-loop-to
+decreases-loop-to l = l.to
+
+abbrev pub invariant-loop-k : goal.invariant-loop-k
+invariant-loop-k l = Walked (λ l.k. men_steps l.men l.empty (l.first + l.k)) (found l.initial.moves l.initial.len l.initial.overflow) (found l.moves l.len l.overflow) l.k × (l.k ≤ 2)
+
+abbrev pub decreases-loop-k : goal.decreases-loop-k
+decreases-loop-k l = 2 - l.k
+
+abbrev pub invariant-loop-land : goal.invariant-loop-land
+invariant-loop-land l = Flying (quiet_to l.from) (direction_at l.dir) l.empty (found l.initial.moves l.initial.len l.initial.overflow) l.initial.land (found l.moves l.len l.overflow) l.land
+
+abbrev pub decreases-loop-land : goal.decreases-loop-land
+decreases-loop-land l = rank (direction_at l.dir) l.land
+
+abbrev pub invariant-loop-dir : goal.invariant-loop-dir
+invariant-loop-dir l = Walked (flight_from l.from l.king l.empty) (found l.initial.moves l.initial.len l.initial.overflow) (found l.moves l.len l.overflow) l.dir × (l.dir ≤ 4)
+
+abbrev pub decreases-loop-dir : goal.decreases-loop-dir
+decreases-loop-dir l = 4 - l.dir
+
+abbrev pub invariant-loop-left : goal.invariant-loop-left
+invariant-loop-left l = Adding (flights l.empty) (foldl add_of (found l.initial.moves l.initial.len l.initial.overflow) (flat_map (flights l.empty) (members l.initial.left))) (found l.moves l.len l.overflow) l.left
+
+abbrev pub decreases-loop-left : goal.decreases-loop-left
+decreases-loop-left l = l.left

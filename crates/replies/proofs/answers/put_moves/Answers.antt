@@ -1,0 +1,24 @@
+-- Move by move.
+use mathlib.Core.Path.{◌≡◌, refl, ap}
+use Prim.Native.Nat.{◌≤◌, ◌-◌}
+use lib.ListN.{length}
+use Rattle.texts.proofs.Pieces as laws
+use Rattle.replies.proofs.Listing as listing
+use Rattle.replies.specs.Answers.{moves_text}
+use Rattle.texts.specs.Lent.{Adds}
+use borrow.Author.Rules.{rules}
+use native.Mathlib.Omega.{arith}
+use Rattle.replies.proofs.answers.put_moves.Goals as goal
+
+pub loop-i-init : goal.loop-i-init
+loop-i-init c = (search rules, search rules, refl, listing.moves_none _ _ _)
+
+pub returns-then-len-i : goal.returns-then-len-i
+returns-then-len-i c = laws.adds_as (ap (moves_text _) (omega arith)) c.loop-i.invariant.3
+
+pub loop-i-preserved : goal.loop-i-preserved
+loop-i-preserved c =
+    (search rules, search rules, search rules, listing.moves_next _ _ c.loop-i.invariant.3 c.put_byte-k.ensures c.put_move-k.ensures)
+
+pub returns : goal.returns
+returns c = laws.adds_as (ap (moves_text _) (omega arith)) c.loop-i.invariant.3

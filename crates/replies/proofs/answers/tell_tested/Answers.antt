@@ -1,0 +1,14 @@
+-- What the test says, or the refusal.
+use mathlib.Core.Path.{ap}
+use mathlib.Core.List.{[], ◌∷◌}
+use Prim.Native.Nat.{ℕ}
+use borrow.Author.Rules.{rules}
+use Rattle.texts.proofs.Pieces as laws
+use Rattle.replies.proofs.answers.tell_tested.Goals as goal
+
+pub returns-in-Is : goal.returns-in-Is
+returns-in-Is c =
+    rw c.in-Is.is (laws.adds_then c.put_ok-k.ensures (laws.adds_as (ap (λ (x : ℕ). x ∷ []) c.yes_no.ensures) c.put_byte.ensures))
+
+pub returns-in-Refused : goal.returns-in-Refused
+returns-in-Refused c = rw c.in-Refused.is c.put_refusal.ensures

@@ -1,0 +1,16 @@
+-- By the case.
+use mathlib.Core.Path.{ap, sym}
+use Rattle.texts.proofs.Pieces as pieces
+use Rattle.replies.specs.States.{judged_word}
+use borrow.Author.Rules.{rules}
+use Rattle.replies.proofs.states.put_judged.Goals as goal
+
+pub returns-in-Outcome : goal.returns-in-Outcome
+returns-in-Outcome c = pieces.adds_as (sym (ap judged_word c.in-Outcome.is)) c.put_outcome.ensures
+
+pub returns-in-Going : goal.returns-in-Going
+returns-in-Going c =
+    pieces.adds_as (sym (ap judged_word c.before.before.before.before.before.enum_told.given.1)) c.put.ensures
+
+pub returns-in-Refused : goal.returns-in-Refused
+returns-in-Refused c = pieces.adds_as (sym (ap judged_word c.in-Refused.is)) (pieces.adds_none _ _)

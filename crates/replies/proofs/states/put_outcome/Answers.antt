@@ -1,0 +1,27 @@
+-- By the reason.
+use mathlib.Core.Path.{ap, sym}
+use Rattle.texts.proofs.Pieces as pieces
+use Rattle.replies.specs.States.{ending_word}
+use Rattle.games.specs.declared.game.Termination.{Termination}
+use borrow.Author.Rules.{rules}
+use Rattle.replies.proofs.states.put_outcome.Goals as goal
+
+pub returns-in-NoMoves : goal.returns-in-NoMoves
+returns-in-NoMoves c =
+    pieces.adds_as (sym (ap (λ (t : Termination). ending_word t c.args.o.winner) c.in-NoMoves.is)) c.put_winner.ensures
+
+pub returns-in-Repetition : goal.returns-in-Repetition
+returns-in-Repetition c =
+    pieces.adds_as (sym (ap (λ (t : Termination). ending_word t c.args.o.winner) c.before.before.before.before.before.enum-told2.given.1)) c.put.ensures
+
+pub returns-in-TwentyFiveMoves : goal.returns-in-TwentyFiveMoves
+returns-in-TwentyFiveMoves c =
+    pieces.adds_as (sym (ap (λ (t : Termination). ending_word t c.args.o.winner) c.before.before.before.before.before.enum-told3.given.1)) c.put-in-TwentyFiveMoves.ensures
+
+pub returns-in-SixteenMoves : goal.returns-in-SixteenMoves
+returns-in-SixteenMoves c =
+    pieces.adds_as (sym (ap (λ (t : Termination). ending_word t c.args.o.winner) c.before.before.before.before.before.enum-told4.given.1)) c.put-in-SixteenMoves.ensures
+
+pub returns-in-FiveMoves : goal.returns-in-FiveMoves
+returns-in-FiveMoves c =
+    pieces.adds_as (sym (ap (λ (t : Termination). ending_word t c.args.o.winner) c.before.before.before.before.before.enum-told5.given.1)) c.put-in-FiveMoves.ensures

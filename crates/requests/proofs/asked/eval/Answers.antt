@@ -1,0 +1,12 @@
+-- The score, or the refusal.
+use mathlib.Core.Path.{ap}
+use Rattle.texts.proofs.Pieces as pieces
+use Rattle.replies.specs.Answers as told
+use borrow.Author.Rules.{rules}
+use Rattle.requests.proofs.asked.eval.Goals as goal
+
+pub returns-in-Position : goal.returns-in-Position
+returns-in-Position c = rw c.in-Position.is (pieces.adds_as (ap told.scored_answer c.evaluate.ensures) c.tell_scored.ensures)
+
+pub returns-in-Refused : goal.returns-in-Refused
+returns-in-Refused c = rw c.in-Refused.is c.put_refusal.ensures

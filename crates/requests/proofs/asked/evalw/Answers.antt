@@ -1,0 +1,19 @@
+-- Six words; the weights, then the position.
+use borrow.Author.Tests.{eq-eqb, ne_eqb}
+use Rattle.requests.specs.Asked as asked
+use borrow.Author.Rules.{rules}
+use Rattle.requests.proofs.asked.evalw.Goals as goal
+
+pub returns-then-blanks-ne5 : goal.returns-then-blanks-ne5
+unfolding asked.evalw_request
+returns-then-blanks-ne5 c = rw (← c.blanks.ensures, ne_eqb _ 5 c.if-blanks-ne5.true) c.put_bad.ensures
+
+pub returns-in-Classical : goal.returns-in-Classical
+unfolding asked.evalw_request
+returns-in-Classical c =
+    rw (← c.blanks.ensures, eq-eqb _ 5 c.if-blanks-ne5.false, ← c.read_weights.ensures, c.in-Classical.is, ← c.first.ensures, ← c.position.ensures) c.eval.ensures
+
+pub returns-in-Bad : goal.returns-in-Bad
+unfolding asked.evalw_request
+returns-in-Bad c =
+    rw (← c.blanks.ensures, eq-eqb _ 5 c.if-blanks-ne5.false, ← c.read_weights.ensures, c.in-Bad.is) c.put_bad-in-Bad.ensures

@@ -1,0 +1,6 @@
+-- What is written of a position.
+use borrow.Author.Rules.{rules}
+use Rattle.requests.proofs.asked.fen.Goals as goal
+
+pub returns : goal.returns
+returns c = c.tell_placed.ensures

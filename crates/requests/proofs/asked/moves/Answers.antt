@@ -1,0 +1,12 @@
+-- The list, or the refusal.
+use mathlib.Core.Path.{ap}
+use Rattle.texts.proofs.Pieces as pieces
+use Rattle.replies.specs.Answers as told
+use borrow.Author.Rules.{rules}
+use Rattle.requests.proofs.asked.moves.Goals as goal
+
+pub returns-in-Position : goal.returns-in-Position
+returns-in-Position c = rw c.in-Position.is (pieces.adds_as (ap told.list_answer c.legal_moves.ensures) c.tell_list.ensures)
+
+pub returns-in-Refused : goal.returns-in-Refused
+returns-in-Refused c = rw c.in-Refused.is c.put_refusal.ensures

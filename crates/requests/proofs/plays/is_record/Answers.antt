@@ -1,0 +1,13 @@
+-- Reading it says so.
+use mathlib.Core.Path.{ap, sym, ◌∙◌}
+use Rattle.requests.specs.Plays.{is_move, is_record_of}
+use borrow.Author.Rules.{rules}
+use Rattle.requests.proofs.plays.is_record.Goals as goal
+
+pub returns-in-Move : goal.returns-in-Move
+unfolding is_record_of
+returns-in-Move c = sym (ap is_move (sym c.read_record.ensures ∙ c.in-Move.is))
+
+pub returns-in-Bad : goal.returns-in-Bad
+unfolding is_record_of
+returns-in-Bad c = sym (ap is_move (sym c.read_record.ensures ∙ c.in-Bad.is))

@@ -1,0 +1,15 @@
+-- The record is read, then played.
+use mathlib.Core.Path.{ap, sym, ◌∙◌}
+use Rattle.gametexts.specs.Texts.{beside}
+use Rattle.requests.specs.Plays.{play_move, play_record_of}
+use borrow.Author.Rules.{rules}
+use Rattle.requests.proofs.plays.play_record.Goals as goal
+
+pub returns-in-Move : goal.returns-in-Move
+unfolding play_record_of
+returns-in-Move c =
+    c.beside.ensures ∙ ap (beside _) c.play.ensures ∙ sym (ap (play_move c.args.g) (sym c.read_record.ensures ∙ c.in-Move.is))
+
+pub returns-in-Bad : goal.returns-in-Bad
+unfolding play_record_of
+returns-in-Bad c = c.refused_text.ensures ∙ sym (ap (play_move c.args.g) (sym c.read_record.ensures ∙ c.in-Bad.is))

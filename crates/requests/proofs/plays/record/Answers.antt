@@ -1,0 +1,13 @@
+-- The game, a record that cannot be read, or the refusal.
+use mathlib.Core.Path.{sym, ◌∙◌}
+use borrow.Author.Rules.{rules}
+use Rattle.requests.proofs.plays.record.Goals as goal
+
+pub returns-then-all_records : goal.returns-then-all_records
+returns-then-all_records c = rw (c.in-Position.is, sym c.all_records.ensures ∙ c.if-all_records.true) c.play_game.ensures
+
+pub returns-else-all_records : goal.returns-else-all_records
+returns-else-all_records c = rw (c.in-Position.is, sym c.all_records.ensures ∙ c.if-all_records.false) c.put_bad.ensures
+
+pub returns-in-Refused : goal.returns-in-Refused
+returns-in-Refused c = rw c.in-Refused.is c.put_refusal.ensures

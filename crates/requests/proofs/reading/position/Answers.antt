@@ -1,0 +1,12 @@
+-- The escapes undone; then at most 4,097 bytes are read.
+use mathlib.Core.Path.{refl, sym}
+use lib.Seq.{length-take-le}
+use Rattle.requests.proofs.Readings as readings
+use borrow.Author.Rules.{rules}
+use Rattle.requests.proofs.reading.position.Goals as goal
+
+pub slice_bounds-read-end : goal.slice_bounds-read-end
+slice_bounds-read-end c = sym (length-take-le _ _ (readings.fits _ _ _ _ refl c.unescape-n.ensures))
+
+pub returns : goal.returns
+returns c = readings.position_read _ _ _ _ refl c.unescape-n.ensures c.args.form _ c.read.ensures

@@ -1,0 +1,8 @@
+-- The whole argument is read.
+use Rattle.requests.specs.Requests.{whole_position}
+use borrow.Author.Rules.{rules}
+use Rattle.requests.proofs.requests.whole.Goals as goal
+
+pub returns : goal.returns
+unfolding whole_position
+returns c = c.position.ensures

@@ -1,0 +1,30 @@
+-- Two terms, each within 57,600,000, of the counts of men and kings.
+use mathlib.Core.Path.{ap, ◌∙◌}
+use lib.Dec.{lit<}
+use borrow.Author.Rules.{rules}
+use Rattle.squares.specs.Sets.{size}
+use Rattle.scores.specs.Score.{material_of}
+use Rattle.scores.proofs.Integers.{held_within, add_of_lem, fits, read}
+use Rattle.scores.proofs.Scores.{weights_of_lem, count_le, of_term}
+use Rattle.scores.proofs.eval.Classical.material.Goals as goal
+
+pub term-requires : goal.term-requires
+term-requires c =
+    (held_within 10000 c.args.self.man (lit< tt) (weights_of_lem c.args.self c.requires).man, count_le _ _ c.count.ensures)
+
+pub term-requires-2 : goal.term-requires-2
+term-requires-2 c =
+    (held_within 10000 c.args.self.king (lit< tt) (weights_of_lem c.args.self c.requires).king, count_le _ _ c.count-2.ensures)
+
+pub overflow_add-result : goal.overflow_add-result
+overflow_add-result c = fits (add_of_lem c.term.ensures c.term-2.ensures (lit< tt) (lit< tt)) (lit< tt)
+
+pub returns : goal.returns
+unfolding material_of
+returns c =
+    let w = c.args.self in
+    let fit = weights_of_lem w c.requires in
+    read (add_of_lem
+    (of_term w.man _ _ _ fit.man (c.count.ensures ∙ ap size c.men.ensures) c.term.ensures)
+    (of_term w.king _ _ _ fit.king (c.count-2.ensures ∙ ap size c.kings.ensures) c.term-2.ensures)
+    (lit< tt) (lit< tt)) (lit< tt)

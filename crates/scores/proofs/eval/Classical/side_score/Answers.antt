@@ -1,0 +1,18 @@
+-- White's score, or its negative for Black.
+use lib.Dec.{lit<}
+use borrow.Author.Rules.{rules}
+use Rattle.positions.specs.Boards.{board_of}
+use Rattle.scores.proofs.Integers.{neg_of, fits}
+use Rattle.scores.proofs.ScoreSums.{for_white, for_black}
+use Rattle.scores.proofs.eval.Classical.side_score.Goals as goal
+
+pub overflow_sub-result : goal.overflow_sub-result
+overflow_sub-result c = fits (neg_of c.white_score-score.ensures (lit< tt)) (lit< tt)
+
+pub returns-in-White : goal.returns-in-White
+returns-in-White c =
+    for_white c.args.self (board_of c.args.p) c.white_score-score.result c.white_score-score.ensures c.in-White.is
+
+pub returns-in-Black : goal.returns-in-Black
+returns-in-Black c =
+    for_black c.args.self (board_of c.args.p) c.white_score-score.result c.white_score-score.ensures c.in-Black.is

@@ -1,0 +1,19 @@
+-- White's worth less Black's, damped.
+use lib.Dec.{lit<}
+use borrow.Author.Rules.{rules}
+use Rattle.positions.specs.Boards.{board_of}
+use Rattle.scores.proofs.Integers.{less_of, fits, read, le_within}
+use Rattle.scores.proofs.ScoreSums.{white_of}
+use Rattle.scores.proofs.eval.Classical.white_score.Goals as goal
+
+pub overflow_sub-worth : goal.overflow_sub-worth
+overflow_sub-worth c = fits (less_of c.worth.ensures c.worth-2.ensures (lit< tt) (lit< tt)) (lit< tt)
+
+pub damp-requires : goal.damp-requires
+damp-requires c =
+    le_within 576000000 _ (read (less_of c.worth.ensures c.worth-2.ensures (lit< tt) (lit< tt)) (lit< tt)).small
+
+pub returns : goal.returns
+returns c =
+    read (white_of c.args.self (board_of c.args.p) c.worth.result c.worth-2.result c.damp.result
+    c.worth.ensures c.worth-2.ensures c.damp.ensures) (lit< tt)

@@ -1,0 +1,19 @@
+-- Where the opponent has no king, the men on the guard squares are counted.
+use native.Mathlib.Omega.{arith}
+use borrow.Author.Rules.{rules}
+use Rattle.positions.specs.Boards.{board_of}
+use Rattle.scores.proofs.Scores.{count_le, guards_none, guards_some}
+use Rattle.scores.proofs.eval.guards.Goals as goal
+
+pub returns-then-kings-eq0 : goal.returns-then-kings-eq0
+returns-then-kings-eq0 c =
+    (
+      guards_some c.args.color (board_of c.args.p) c.not.result c.kings.result c.not.ensures c.kings.ensures
+          c.men.result c.guard_squares.result c.count.result
+          c.if-kings-eq0.true c.men.ensures c.guard_squares.ensures c.count.ensures,
+      count_le _ _ c.count.ensures,
+    )
+
+pub returns-else-kings-eq0 : goal.returns-else-kings-eq0
+returns-else-kings-eq0 c =
+    (guards_none c.args.color (board_of c.args.p) c.not.result c.kings.result c.not.ensures c.kings.ensures c.if-kings-eq0.false, omega arith)

@@ -1,0 +1,35 @@
+-- Each turn sets the list onto the lowest king left and adds its captures, if it has a jump: one step of the fold.
+use borrow.Author.Rules.{rules}
+use mathlib.Core.Path.{refl, sym, ◌∙◌}
+use mathlib.Core.Logic.{⊎_elim}
+use mathlib.Core.List.{foldl}
+use native.Mathlib.Omega.{arith}
+use Rattle.squares.specs.Sets.{members}
+use Rattle.squares.proofs.Pointwise.{one_bit}
+use Rattle.squares.proofs.Loops.{Left, cleared, next_lt, turn, done}
+use Rattle.shorts.specs.Few.{king_short, few_kings_of}
+use Rattle.shorts.proofs.Onto.{king_none, king_some}
+use Rattle.shorts.proofs.few.few_kings.Goals as goal
+
+pub loop-left-init : goal.loop-left-init
+loop-left-init c = record { fold = refl; fits = c.ranges.kings.fits }
+
+pub overflow_cast-at : goal.overflow_cast-at
+overflow_cast-at c = omega (arith, next_lt _ c.loop-left.invariant (omega arith))
+
+pub overflow_shl-at : goal.overflow_shl-at
+overflow_shl-at c = next_lt _ c.loop-left.invariant (omega arith)
+
+pub loop-left-smaller : goal.loop-left-smaller
+loop-left-smaller c = cleared c.loop-left.left (omega arith)
+
+pub loop-left-preserved : goal.loop-left-preserved
+loop-left-preserved c =
+    let one = one_bit _ (next_lt _ c.loop-left.invariant (omega arith)) in
+    turn _ c.loop-left.invariant (omega arith)
+    (⊎_elim (λ w. w.2 ∙ king_some c.args.them c.args.empty c.loop-left.t _ _ one w.1.result w.1.ensures)
+    (λ w. w.1 ∙ king_none c.args.them c.args.empty c.loop-left.t _ _ one (sym c.king_open.ensures ∙ w.0.left)) c.if-king_open.branch)
+
+pub returns : goal.returns
+unfolding few_kings_of
+returns c = done _ c.loop-left.invariant c.loop-left-test.false

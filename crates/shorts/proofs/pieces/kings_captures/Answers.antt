@@ -1,0 +1,47 @@
+-- Each turn sets the search onto the lowest king left and records its captures, if it has a jump: by the short list, or, where that
+-- has no room, by the long search. Either is one step of the fold.
+use borrow.Author.Rules.{rules}
+use mathlib.Core.Path.{◌≡◌, refl, sym, ap, ◌∙◌}
+use mathlib.Core.Logic.{⊎_elim}
+use mathlib.Core.List.{foldl}
+use native.Mathlib.Omega.{arith}
+use lib.ListN.{length}
+use Rattle.squares.specs.Sets.{members}
+use Rattle.squares.proofs.Pointwise.{one_bit}
+use Rattle.squares.proofs.Loops.{Left, cleared, next_lt, turn, done}
+use Rattle.captures.specs.Kings.{king_captures, kings_captures_of}
+use Rattle.captures.specs.declared.movegen.Captures.{Captures}
+use Rattle.captures.proofs.Shut.{king_shut}
+use Rattle.squares.proofs.Lengths.{length_of_map}
+use Rattle.captures.proofs.Loops.{king_turn}
+use Rattle.shorts.proofs.Turns.{king_few, king_full}
+use Rattle.shorts.proofs.pieces.kings_captures.Goals as goal
+
+pub loop-left-init : goal.loop-left-init
+loop-left-init c =
+    let h : length c.args.start.moves ≡ 256 = search (rules, length_of_map) in
+    (record { fold = refl; fits = c.ranges.kings.fits }, h)
+
+pub overflow_cast-at : goal.overflow_cast-at
+overflow_cast-at c = omega (arith, next_lt _ c.loop-left.invariant.0 (omega arith))
+
+pub overflow_shl-at : goal.overflow_shl-at
+overflow_shl-at c = next_lt _ c.loop-left.invariant.0 (omega arith)
+
+pub loop-left-smaller : goal.loop-left-smaller
+loop-left-smaller c = cleared c.loop-left.left (omega arith)
+
+pub loop-left-preserved : goal.loop-left-preserved
+loop-left-preserved c =
+    let e = c.args.empty in
+    let s = c.loop-left.s in
+    let one = one_bit _ (next_lt _ c.loop-left.invariant.0 (omega arith)) in
+    let full = c.loop-left.invariant.1 in
+    let is = ⊎_elim (λ w. w.5 ∙ king_turn e s w.4.result _ _ one w.4.ensures)
+    (⊎_elim (λ w. w.5 ∙ w.4.ensures ∙ king_few e s _ _ one full w.1.result w.2.result w.1.ensures w.3.left w.2.ensures)
+    (λ w. w.1 ∙ king_shut e s _ _ one (sym c.king_open.ensures ∙ w.0.left))) c.if-king_open.branch in
+    (turn _ c.loop-left.invariant.0 (omega arith) is, ap (λ (x : Captures). length x.moves) is ∙ king_full e s _ full)
+
+pub returns : goal.returns
+unfolding kings_captures_of
+returns c = done _ c.loop-left.invariant.0 c.loop-left-test.false

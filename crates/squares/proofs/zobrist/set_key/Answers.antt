@@ -1,0 +1,94 @@
+-- Each turn takes the lowest square's key; what is left is the exclusive or over the rest. The table is tested once against its rule.
+-- A set without squares has the key 0.
+use Rattle.std.proofs.Common.{◌≡◌, ℕ, ◌+◌, ◌-◌, ◌*◌, ◌^◌, ◌<◌, List, get_or, sym, refl, ap, ◌∙◌, ap₂, lt_of_le_of_lt, arith, rules}
+use lib.Bits.{bit_and, bit_xor, and_le_l, and_le_r, xor_comm, xor_zero_l, xor_zero_r}
+use Rattle.squares.specs.Sets.{lowest}
+use Rattle.squares.specs.Folds.{xor_over}
+use Rattle.squares.specs.Keys.{advance, scramble, output, outputs, keys, block, set_key_of}
+use Rattle.squares.specs.declared.piece.Color.{Color}
+use Rattle.squares.specs.declared.piece.Color.TheVariants.{White, Black}
+use Rattle.squares.specs.declared.piece.PieceKind.{PieceKind}
+use Rattle.squares.specs.declared.piece.PieceKind.TheVariants.{Man, King}
+use Rattle.squares.proofs.Folds.{xor_next, xor_none, xor_assoc}
+use Rattle.squares.proofs.Keys.{table_key}
+use Rattle.squares.proofs.Members.{lowest_lt}
+use Rattle.squares.proofs.Numbers.{all_is}
+use Rattle.squares.proofs.zobrist.set_key.Invariants.{keyed, Left}
+use Rattle.squares.proofs.zobrist.set_key.Goals as goal
+use Rattle.squares.proofs.zobrist.set_key.Goals.{In-loop-left}
+
+-- one turn
+turn : {table : List ℕ} {from left key whole : ℕ} → Left table from left key whole → 0 < left → left < 2 ^ 54
+    → Left table from (bit_and left (left - 1)) (bit_xor key (get_or table (from + lowest left) 0)) whole
+unfolding keyed
+turn {table} {from} {left} {key} {whole} e p h =
+    let rest = keyed table from (bit_and left (left - 1)) in
+    let entry = get_or table (from + lowest left) 0 in
+    record {
+      sum = xor_assoc key entry rest
+          ∙ ap (bit_xor key) (xor_comm entry rest ∙ sym (xor_next (λ i. get_or table (from + i) 0) left p (omega arith))) ∙ e.sum;
+    }
+
+-- at the end nothing is left, and the table is what SplitMix64 fills
+ended : (c : Color) (k : PieceKind) (from s left key : ℕ) (table : List ℕ) → from ≡ block c k → left ≡ 0
+    → Left table (64 * from) left key (keyed table (64 * from) (bit_and s 0x003F_F7FE_FFDF_FBFF)) → table ≡ keys → key ≡ set_key_of c k s
+unfolding keyed
+ended c k from s left key table f z e t =
+    sym (xor_zero_r key) ∙ ap (bit_xor key) (sym (ap (keyed table (64 * from)) z ∙ xor_none (λ i. get_or table (64 * from + i) 0))) ∙ e.sum
+    ∙ ap₂ (λ (l : List ℕ) (n : ℕ). keyed l (64 * n) (bit_and s 0x003F_F7FE_FFDF_FBFF)) t f
+    ∙ ap (λ (m : ℕ). keyed keys (64 * block c k) (bit_and s m)) (sym all_is) ∙ table_key c k s
+
+block_lt : (c : Color) (k : PieceKind) → block c k < 4
+block_lt White Man = omega arith
+block_lt Black Man = omega arith
+block_lt White King = omega arith
+block_lt Black King = omega arith
+
+-- nothing on the board
+empty_key : (c : Color) (k : PieceKind) (s : ℕ) → bit_and s 0x003F_F7FE_FFDF_FBFF ≡ 0 → 0 ≡ set_key_of c k s
+empty_key c k s z =
+    sym (xor_none (λ i. get_or keys (64 * block c k + i) 0))
+    ∙ ap (xor_over (λ i. get_or keys (64 * block c k + i) 0)) (sym z ∙ ap (bit_and s) (sym all_is)) ∙ table_key c k s
+
+pub returns-then-set-eq0 : goal.returns-then-set-eq0
+returns-then-set-eq0 c = empty_key _ _ _ c.if-set-eq0.true
+
+pub overflow_mul-from : goal.overflow_mul-from
+overflow_mul-from c = omega (arith, c.index-from.ensures, block_lt c.args.color c.args.kind)
+
+pub loop-left-init : goal.loop-left-init
+loop-left-init c = (record { sum = xor_zero_l _ }, lt_of_le_of_lt (and_le_r c.args.set 0x003F_F7FE_FFDF_FBFF) (omega arith))
+
+-- the entry that is read stands in the table
+in_table : (c : Color) (k : PieceKind) (from left : ℕ) → from ≡ block c k → (left ≡ 0 → ⊥) → left < 2 ^ 54 → (lowest left < 64) × (64 * from + lowest left < 256)
+in_table c k from left e p h =
+    let l = lowest_lt 64 left (omega arith) (omega arith) in (l, omega (arith, block_lt c k))
+
+module _ (c : In-loop-left) where
+  entry : (lowest c.loop-left.left < 64) × (64 * c.index-from.result + lowest c.loop-left.left < 256)
+  entry =
+      in_table c.args.color c.args.kind c.index-from.result c.loop-left.left
+      c.index-from.ensures c.loop-left-test.true c.loop-left.invariant.1
+
+pub overflow_cast-bit : goal.overflow_cast-bit
+overflow_cast-bit c = omega (arith, (entry (goal.at.overflow_cast-bit c).In-loop-left-unread).0)
+
+pub overflow_add-key : goal.overflow_add-key
+overflow_add-key c = omega (arith, (entry (goal.at.overflow_add-key c).In-loop-left-unread).1)
+
+pub offset_bounds-keys-from : goal.offset_bounds-keys-from
+offset_bounds-keys-from c = omega (arith, (entry (goal.at.offset_bounds-keys-from c).In-loop-left-unread).1)
+
+pub bounds-keys-from : goal.bounds-keys-from
+bounds-keys-from c = (entry (goal.at.bounds-keys-from c).In-loop-left-unread).1
+
+pub loop-left-smaller : goal.loop-left-smaller
+loop-left-smaller c = omega (arith, and_le_r c.loop-left.left (c.loop-left.left - 1))
+
+pub loop-left-preserved : goal.loop-left-preserved
+loop-left-preserved c =
+    (turn c.loop-left.invariant.0 (omega arith) c.loop-left.invariant.1, omega (arith, and_le_l c.loop-left.left (c.loop-left.left - 1)))
+
+pub returns : goal.returns
+unfolding keys outputs output advance scramble
+returns c = ended _ _ _ _ _ _ _ c.index-from.ensures (omega arith) c.loop-left.invariant.0 refl

@@ -1,0 +1,9 @@
+-- Both ends.
+use mathlib.Core.Path.{ap, ◌∙◌}
+use Rattle.texts.specs.Bytes.{trim, trim_end, blank}
+use borrow.Author.Rules.{rules}
+use Rattle.texts.proofs.bytes.trim.Goals as goal
+
+pub returns : goal.returns
+unfolding trim
+returns c = c.cut_end.ensures ∙ ap (trim_end blank) c.cut_start.ensures

@@ -1,0 +1,17 @@
+-- Before the place that `find` gives.
+use mathlib.Core.Path.{ap, sym, ◌∙◌}
+use Prim.Native.Nat.{ℕ}
+use lib.ListN.{take}
+use lib.Seq.{length-take-le}
+use Rattle.texts.proofs.Cuts as laws
+use borrow.Author.Rules.{rules}
+use native.Mathlib.Omega.{arith}
+use Rattle.texts.proofs.bytes.up_to.Goals as goal
+
+pub slice_bounds-result-end : goal.slice_bounds-result-end
+slice_bounds-result-end c = sym (length-take-le _ _ (omega arith))
+
+pub returns : goal.returns
+returns c =
+    let s = c.before.before.before.args.s.now in
+    ap (λ (n : ℕ). take n s) c.before.find.ensures.0 ∙ sym (laws.up_to_is c.before.before.before.args.c s)

@@ -1,0 +1,18 @@
+-- The side, then the fields after it.
+use mathlib.Core.Path.{sym, ◌∙◌}
+use lib.Seq.{length-take-le}
+use Rattle.texts.proofs.Readers as laws
+use borrow.Author.Rules.{rules}
+use native.Mathlib.Omega.{arith}
+use Rattle.texts.proofs.fen.fen_parts.Goals as goal
+
+pub slice_bounds-trim-end : goal.slice_bounds-trim-end
+slice_bounds-trim-end c = sym (length-take-le _ _ (omega arith))
+
+pub returns-in-Side : goal.returns-in-Side
+returns-in-Side c =
+    c.fields.ensures ∙ sym (laws.fen_open c.before.before.before.before.before.before.before.before.before.before.before.args.s.now c.before.before.before.before.before.before.before.before.before.body.result.now c.trim.result.now c.before.before.before.before.before.before.before.before.find.result c.side.result c.before.before.before.before.before.before.before.before.before.body.ensures c.before.before.before.before.before.before.before.before.find.ensures.0 c.trim.ensures c.side.ensures ∙ rw (c.in-Side.is, ← c.begun.ensures))
+
+pub returns-in-Refused : goal.returns-in-Refused
+returns-in-Refused c =
+    sym (laws.fen_open c.before.before.before.before.before.before.before.before.args.s.now c.before.before.before.before.before.before.body.result.now c.trim.result.now c.before.before.before.before.before.find.result c.side.result c.before.before.before.before.before.before.body.ensures c.before.before.before.before.before.find.ensures.0 c.trim.ensures c.side.ensures ∙ rw c.in-Refused.is)

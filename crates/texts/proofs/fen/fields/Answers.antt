@@ -1,0 +1,32 @@
+-- One field a turn, as in `items`.
+use mathlib.Core.Path.{refl, sym}
+use Prim.Native.Nat.{◌-◌, ◌+◌}
+use lib.ListN.{length}
+use Rattle.texts.specs.Bytes.{parts_from}
+use Rattle.texts.specs.Fen.{at_colon, field_of, fields_of}
+use Rattle.texts.proofs.Readers.{Left, turned, none_left}
+use borrow.Author.Rules.{rules}
+use native.Mathlib.Omega.{arith}
+use Rattle.texts.proofs.fen.fields.Goals as goal
+
+pub loop-at-init : goal.loop-at-init
+loop-at-init c = record { within = search rules; answer = refl }
+
+pub returns-in-Refused : goal.returns-in-Refused
+returns-in-Refused c =
+    sym ((turned _ _ _ c.loop-at.invariant c.up_to-text.ensures c.trim.ensures c.field.ensures (omega arith)).stops c.in-Refused.is)
+
+pub overflow_add-at : goal.overflow_add-at
+overflow_add-at c =
+    omega (arith, (turned _ _ _ c.loop-at.invariant c.up_to-text.ensures c.trim.ensures c.field.ensures (omega arith)).fits)
+
+pub overflow_add-at-in-loop-at : goal.overflow_add-at-in-loop-at
+overflow_add-at-in-loop-at c =
+    omega (arith, (turned _ _ _ c.loop-at.invariant c.up_to-text.ensures c.trim.ensures c.field.ensures (omega arith)).fits)
+
+pub loop-at-preserved : goal.loop-at-preserved
+loop-at-preserved c =
+    (turned _ _ _ c.loop-at.invariant c.up_to-text.ensures c.trim.ensures c.field.ensures (omega arith)).goes c.in-Parts.is
+
+pub returns : goal.returns
+returns c = sym (none_left _ _ _ c.loop-at.invariant (omega arith))

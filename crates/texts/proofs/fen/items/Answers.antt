@@ -1,0 +1,34 @@
+-- One item a turn: the definition at the whole is the definition at what is left.
+use mathlib.Core.Path.{ap, sym}
+use Prim.Native.Nat.{◌-◌, ◌+◌}
+use lib.ListN.{length}
+use Rattle.texts.specs.Bytes.{split_on}
+use Rattle.texts.specs.Fen.{at_comma, item_of, items_of}
+use Rattle.texts.proofs.Cuts.{parts_start}
+use Rattle.texts.proofs.Readers.{Left, turned, none_left}
+use borrow.Author.Rules.{rules}
+use native.Mathlib.Omega.{arith}
+use Rattle.texts.proofs.fen.items.Goals as goal
+
+pub loop-at-init : goal.loop-at-init
+loop-at-init c =
+    record { within = search rules; answer = ap (items_of c.args.color c.args.p) (sym (parts_start at_comma c.args.s.now)) }
+
+pub returns-in-Refused : goal.returns-in-Refused
+returns-in-Refused c =
+    sym ((turned _ _ _ c.loop-at.invariant c.up_to-text.ensures c.trim.ensures c.item.ensures (omega arith)).stops c.in-Refused.is)
+
+pub overflow_add-at : goal.overflow_add-at
+overflow_add-at c =
+    omega (arith, (turned _ _ _ c.loop-at.invariant c.up_to-text.ensures c.trim.ensures c.item.ensures (omega arith)).fits)
+
+pub overflow_add-at-in-loop-at : goal.overflow_add-at-in-loop-at
+overflow_add-at-in-loop-at c =
+    omega (arith, (turned _ _ _ c.loop-at.invariant c.up_to-text.ensures c.trim.ensures c.item.ensures (omega arith)).fits)
+
+pub loop-at-preserved : goal.loop-at-preserved
+loop-at-preserved c =
+    (turned _ _ _ c.loop-at.invariant c.up_to-text.ensures c.trim.ensures c.item.ensures (omega arith)).goes c.in-Parts.is
+
+pub returns : goal.returns
+returns c = sym (none_left _ _ _ c.loop-at.invariant (omega arith))

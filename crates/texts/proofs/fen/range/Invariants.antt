@@ -1,0 +1,15 @@
+-- The squares from lo to the one before n are in the set.
+use mathlib.Core.Path.{◌≡◌, ap, ◌∙◌}
+use Prim.Native.Nat.{◌≤◌, ◌-◌, ◌+◌}
+use lib.ListN.{set}
+use Rattle.texts.proofs.Readers as laws
+use Rattle.squares.specs.Squares.{run}
+use borrow.Author.Rules.{rules}
+use native.Mathlib.Omega.{arith}
+use Rattle.texts.proofs.fen.range.Given as goal
+
+abbrev pub invariant-loop-n : goal.invariant-loop-n
+invariant-loop-n l = (l.lo ≤ l.n) × (l.n - l.lo ≤ l.hi + 1 - l.lo) × (l.set ≡ run l.lo (l.n - l.lo))
+
+abbrev pub decreases-loop-n : goal.decreases-loop-n
+decreases-loop-n l = l.hi + 1 - l.n

@@ -1,0 +1,38 @@
+-- One square a turn; what is left of the text, and what it should have, fall together.
+use mathlib.Core.Path.{◌≡◌, refl, ap, sym, ◌∙◌}
+use Prim.Native.Nat.{◌≤◌, ◌-◌}
+use lib.ListN.{length, drop}
+use Rattle.texts.proofs.Readers as laws
+use Rattle.texts.specs.declared.parts.Parts.{Parts}
+use Rattle.texts.specs.Hub.{hub_from}
+use borrow.Author.Rules.{rules}
+use native.Mathlib.Omega.{arith}
+use Rattle.texts.proofs.hub.hub_squares.Goals as goal
+
+pub loop-n-init : goal.loop-n-init
+loop-n-init c = (omega arith, omega arith, c.requires, refl)
+
+pub returns-then-s-at : goal.returns-then-s-at
+returns-then-s-at c =
+    let s = c.args.s.now in
+    sym (laws.hub_cut s c.loop-n.n c.loop-n.p (omega arith) (omega arith)) ∙ c.loop-n.invariant.3 ∙ ap (λ (x : Parts). hub_from 50 1 x (drop 1 s)) c.begun-p.ensures
+
+pub returns-in-Refused : goal.returns-in-Refused
+returns-in-Refused c =
+    let s = c.args.s.now in
+    sym (laws.hub_step s c.loop-n.n c.loop-n.p c.hub_byte.result (omega arith) (omega arith) c.hub_byte.ensures ∙ rw c.in-Refused.is) ∙ c.loop-n.invariant.3 ∙ ap (λ (x : Parts). hub_from 50 1 x (drop 1 s)) c.begun-p.ensures
+
+pub loop-n-preserved : goal.loop-n-preserved
+loop-n-preserved c =
+    let s = c.args.s.now in
+    (omega arith, omega arith, omega arith, sym (laws.hub_step s c.loop-n.n c.loop-n.p c.hub_byte.result (omega arith) (omega arith) c.hub_byte.ensures ∙ rw c.in-Parts.is) ∙ c.loop-n.invariant.3)
+
+pub returns-then-s-gt51 : goal.returns-then-s-gt51
+returns-then-s-gt51 c =
+    let s = c.args.s.now in
+    sym (laws.past_end s c.loop-n.n c.loop-n.p (omega arith) c.if-s-gt51.true) ∙ c.loop-n.invariant.3 ∙ ap (λ (x : Parts). hub_from 50 1 x (drop 1 s)) c.begun-p.ensures
+
+pub returns-else-s-gt51 : goal.returns-else-s-gt51
+returns-else-s-gt51 c =
+    let s = c.args.s.now in
+    sym (laws.at_end s c.loop-n.n c.loop-n.p (omega arith) c.if-s-gt51.false) ∙ c.loop-n.invariant.3 ∙ ap (λ (x : Parts). hub_from 50 1 x (drop 1 s)) c.begun-p.ensures

@@ -1,0 +1,16 @@
+-- One square a turn; what is left of the text, and what it should have, fall together.
+use mathlib.Core.Path.{◌≡◌, refl, ap, sym, ◌∙◌}
+use Prim.Native.Nat.{◌≤◌, ◌-◌}
+use lib.ListN.{length, drop}
+use Rattle.texts.proofs.Readers as laws
+use Rattle.texts.specs.declared.parts.Parts.{Parts}
+use Rattle.texts.specs.Hub.{hub_from}
+use borrow.Author.Rules.{rules}
+use native.Mathlib.Omega.{arith}
+use Rattle.texts.proofs.hub.hub_squares.Given as goal
+
+abbrev pub invariant-loop-n : goal.invariant-loop-n
+invariant-loop-n l = (1 ≤ l.n) × (l.n ≤ 51) × (l.n ≤ length l.s) × (hub_from (51 - l.n) l.n l.p (drop l.n l.s) ≡ hub_from 50 1 l.initial.p (drop 1 l.s))
+
+abbrev pub decreases-loop-n : goal.decreases-loop-n
+decreases-loop-n l = 51 - l.n

@@ -1,0 +1,18 @@
+-- What the bytes before the place stand for was written; nothing where an escape is invalid.
+use mathlib.Core.Path.{◌≡◌, refl, ap, sym, ◌∙◌}
+use mathlib.Core.Bool.{true}
+use Prim.Native.Nat.{◌≤◌, ◌-◌, ◌+◌}
+use lib.ListN.{length}
+use Rattle.wording.proofs.Escaped as laws
+use Rattle.wording.specs.Escapes.{escape_of, is_plain, plain}
+use Rattle.texts.proofs.Cuts.{rest}
+use borrow.Author.Tests.{not-true, not-false}
+use borrow.Author.Rules.{rules}
+use native.Mathlib.Omega.{arith}
+use Rattle.wording.proofs.escapes.unescape.Given as goal
+
+abbrev pub invariant-loop-i : goal.invariant-loop-i
+invariant-loop-i l = (l.i ≤ length l.s) × (length l.out ≡ length l.initial.out) × (is_plain (plain l.s) ≡ true) × laws.Undoing l.s l.initial.out l.out l.i l.at
+
+abbrev pub decreases-loop-i : goal.decreases-loop-i
+decreases-loop-i l = length l.s - l.i

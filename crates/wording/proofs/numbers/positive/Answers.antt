@@ -1,0 +1,17 @@
+-- A number of 31 bits is itself.
+use mathlib.Core.Path.{ap}
+use Rattle.wording.proofs.Signs as signs
+use borrow.Author.Tests.{le-leb, lt-leb}
+use Rattle.wording.specs.declared.numbers.Signed.TheVariants as signed
+use borrow.Author.Rules.{rules}
+use Rattle.wording.proofs.numbers.positive.Goals as goal
+
+pub returns-then-v-le2147483647 : goal.returns-then-v-le2147483647
+returns-then-v-le2147483647 c =
+    rw (c.in-Value.is, le-leb _ 2147483647 c.if-v-le2147483647.true) (ap signed.Value (signs.positive_is _ c.if-v-le2147483647.true))
+
+pub returns-else-v-le2147483647 : goal.returns-else-v-le2147483647
+returns-else-v-le2147483647 c = rw (c.in-Value.is, lt-leb _ 2147483647 c.if-v-le2147483647.false)
+
+pub returns-in-Bad : goal.returns-in-Bad
+returns-in-Bad c = rw c.in-Bad.is

@@ -1,0 +1,10 @@
+-- The fewest digits are those of the definition.
+use Rattle.texts.proofs.Pieces as laws
+use Rattle.wording.proofs.Numerals.{decimal_is}
+use borrow.Author.Rules.{rules}
+use Rattle.wording.proofs.output.put_decimal.Goals as goal
+
+pub returns : goal.returns
+returns c =
+    let n = c.args.n in
+    laws.adds_as (decimal_is n c.decimal-k.result _ c.ranges.n.fits c.decimal-k.ensures.len.0 c.decimal-k.ensures.len.1) c.put.ensures

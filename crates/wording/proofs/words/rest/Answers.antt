@@ -1,0 +1,8 @@
+-- What comes after the first space.
+use Rattle.wording.specs.Words.{after_word}
+use borrow.Author.Rules.{rules}
+use Rattle.wording.proofs.words.rest.Goals as goal
+
+pub returns : goal.returns
+unfolding after_word
+returns c = c.after_first.ensures
