@@ -16,13 +16,13 @@ loop-i-init c = (search rules, rw c.blank-b.ensures)
 
 pub loop-i-preserved : goal.loop-i-preserved
 loop-i-preserved c =
-    let k : length c.args.t1.kept ≡ 51 = search (rules, length_of_map) in
-    let h : c.loop-i.i < length c.args.t1.kept = omega arith in
-    (omega arith, rw (c.loop-i.invariant.1, fill_copy blank_position blank_position 51 c.loop-i.i c.args.t1.kept k (omega arith)))
+    let k : length c.args.g.kept ≡ 51 = search (rules, length_of_map) in
+    let h : c.loop-i.i < length c.args.g.kept = omega arith in
+    (omega arith, rw (c.loop-i.invariant.1, fill_copy blank_position blank_position 51 c.loop-i.i c.args.g.kept k (omega arith)))
 
 pub returns : goal.returns
 unfolding appended_of window_of
 returns c =
-    let e : c.loop-i.i ≡ c.args.t1.len = omega arith in
-    let k : length c.args.t1.kept ≡ 51 = search (rules, length_of_map) in
-    rw (c.loop-i.invariant.1, e, fill_last blank_position c.args.p c.args.t1.len c.args.t1.kept k c.requires.0)
+    let e : c.loop-i.i ≡ c.args.g.len = omega arith in
+    let k : length c.args.g.kept ≡ 51 = search (rules, length_of_map) in
+    rw (c.loop-i.invariant.1, e, fill_last blank_position c.args.p c.args.g.len c.args.g.kept k c.requires.len_bound)

@@ -11,11 +11,11 @@ use native.Mathlib.Omega.{arith}
 use Rattle.games.proofs.keeping.kept_sound.Goals as goal
 
 pub loop-at-init : goal.loop-at-init
-loop-at-init c = (omega arith, all_none c.args.t1.kept)
+loop-at-init c = (omega arith, all_none c.args.g.kept)
 
 pub loop-at-preserved : goal.loop-at-preserved
 loop-at-preserved c =
-    let g = c.args.t1 in
+    let g = c.args.g in
     let k : length g.kept ≡ 51 = search (rules, length_of_map) in
     let s = sym c.sound.ensures ∙ c.if-sound.true in
     (omega arith, all_more blank_position g.kept c.loop-at.at (omega arith) c.loop-at.invariant.1 s)
@@ -23,7 +23,7 @@ loop-at-preserved c =
 pub returns-else-sound : goal.returns-else-sound
 unfolding window_of
 returns-else-sound c =
-    let g = c.args.t1 in
+    let g = c.args.g in
     let k : length g.kept ≡ 51 = search (rules, length_of_map) in
     let s = sym c.sound.ensures ∙ c.if-sound.false in
     sym (all_fails blank_position g.kept g.len c.loop-at.at (omega arith) (omega arith) s)
@@ -31,5 +31,5 @@ returns-else-sound c =
 pub returns : goal.returns
 unfolding window_of
 returns c =
-    let e : c.loop-at.at ≡ c.args.t1.len = omega arith in
+    let e : c.loop-at.at ≡ c.args.g.len = omega arith in
     sym (rw e at c.loop-at.invariant.1)

@@ -7,7 +7,7 @@ use Rattle.games.proofs.keeping.last.Goals as goal
 
 pub bounds-g-i : goal.bounds-g-i
 bounds-g-i c =
-    let v = valid_says c.args.t1 c.requires in
+    let v = valid_says c.args.g c.requires in
     omega arith
 
 pub returns : goal.returns

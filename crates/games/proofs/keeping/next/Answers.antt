@@ -20,8 +20,8 @@ returns-then-is_capture-man_moves c =
 
 pub appended-requires : goal.appended-requires
 appended-requires c =
-    let v = valid_says c.args.g c.requires.0 in
-    (omega arith, c.requires.1)
+    let v = valid_says c.args.g c.requires.g_value in
+    record { len_bound = omega arith; reversible_bound = c.requires.reversible_bound }
 
 pub returns : goal.returns
 unfolding moved_of irreversible

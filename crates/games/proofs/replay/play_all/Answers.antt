@@ -37,7 +37,7 @@ loop-i-preserved c =
     let r = c.play-r.result in
     let p : r ≡ play_of now (get_or ms i blank) =
     c.play-r.ensures
-    ∙ ap₂ play_of c.loop-i.invariant.3 c.before.before.before.Move-in.ensures
+    ∙ ap₂ play_of c.loop-i.invariant.3 c.move_in-mv.ensures
     ∙ played_in now (get_or ns (3 * i) 0) (get_or ns (3 * i + 1) 0) (get_or ns (3 * i + 2) 0)
     ∙ ap (play_of now) (sym m) in
     let n : length (answers_to play_of start (take i ms)) ≡ i = answers_length start (take i ms) ∙ length-take-le i ms (omega arith) in (

@@ -6,7 +6,9 @@ use borrow.Author.Rules.{rules}
 use Rattle.gametexts.proofs.game.play_str.Goals as goal
 
 pub play_said-requires : goal.play_said-requires
-play_said-requires c = stands_at c.args.g _ (sym c.position.ensures ∙ c.in-Position.is)
+play_said-requires c =
+    let q = stands_at c.args.g _ (sym c.position.ensures ∙ c.in-Position.is) in
+    record { g_value = q.0; p_value = q.1 }
 
 pub returns-in-Said : goal.returns-in-Said
 unfolding play_str_of

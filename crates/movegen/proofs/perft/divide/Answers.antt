@@ -8,11 +8,10 @@ use native.Mathlib.Omega.{arith}
 use Rattle.movegen.proofs.perft.divide.Goals as goal
 
 pub split-requires : goal.split-requires
-split-requires c =
-    (
-      seen_accepted c.args.p (sym c.sound.ensures ∙ c.if-sound.true) _ c.of.ensures,
-      omega (arith, c.below.ensures, c.if-depth-le-MAX_DEPTH.true),
-    )
+split-requires c = (
+  seen_accepted c.args.p (sym c.sound.ensures ∙ c.if-sound.true) _ c.of.ensures,
+  omega (arith, c.below.ensures, c.if-depth-le-MAX_DEPTH.true),
+)
 
 pub returns-then-depth-le-MAX_DEPTH : goal.returns-then-depth-le-MAX_DEPTH
 unfolding divide_of

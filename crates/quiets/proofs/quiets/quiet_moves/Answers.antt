@@ -59,7 +59,7 @@ loop-to-preserved c =
     let mv = move c.first.result c.first-in-loop-to.result 0 in
     let made : found c.if-len-lt-MAX_MOVES.moves c.if-len-lt-MAX_MOVES.len c.if-len-lt-MAX_MOVES.overflow ≡ add_of (found c.loop-to.moves c.loop-to.len c.loop-to.overflow) mv =
     elim c.if-len-lt-MAX_MOVES.branch [
-      then-len-lt-MAX_MOVES w ↦ same_found w.moves-is w.len-is w.overflow-is ∙ stored (held c.loop-to.moves c.loop-to.len) c.loop-to.overflow mv w.if-len-lt-MAX_MOVES.true
+      | then-len-lt-MAX_MOVES w ↦ same_found w.moves-is w.len-is w.overflow-is ∙ stored (held c.loop-to.moves c.loop-to.len) c.loop-to.overflow mv w.if-len-lt-MAX_MOVES.true
       | else-len-lt-MAX_MOVES w ↦ same_found w.moves-is w.len-is w.overflow-is ∙ marked (held c.loop-to.moves c.loop-to.len) c.loop-to.overflow mv w.if-len-lt-MAX_MOVES.false
     ] in
     adding_turn _ _ (found c.loop-to.moves c.loop-to.len c.loop-to.overflow) _ c.loop-to.to c.loop-to.invariant (omega arith)
@@ -102,7 +102,7 @@ loop-land-preserved c =
     let mv = move from c.first-in-loop-land.result 0 in
     let made : found c.if-len-lt-MAX_MOVES-2.moves c.if-len-lt-MAX_MOVES-2.len c.if-len-lt-MAX_MOVES-2.overflow ≡ add_of (found c.loop-land.moves c.loop-land.len c.loop-land.overflow) mv =
     elim c.if-len-lt-MAX_MOVES-2.branch [
-      then-len-lt-MAX_MOVES-2 w ↦ same_found w.moves-is w.len-is w.overflow-is ∙ stored (held c.loop-land.moves c.loop-land.len) c.loop-land.overflow mv w.if-len-lt-MAX_MOVES-2.true
+      | then-len-lt-MAX_MOVES-2 w ↦ same_found w.moves-is w.len-is w.overflow-is ∙ stored (held c.loop-land.moves c.loop-land.len) c.loop-land.overflow mv w.if-len-lt-MAX_MOVES-2.true
       | else-len-lt-MAX_MOVES-2 w ↦ same_found w.moves-is w.len-is w.overflow-is ∙ marked (held c.loop-land.moves c.loop-land.len) c.loop-land.overflow mv w.if-len-lt-MAX_MOVES-2.false
     ] in
     fly_step _ _ _ _ _ _ c.loop-land.land c.loop-land.invariant (found c.if-len-lt-MAX_MOVES-2.moves c.if-len-lt-MAX_MOVES-2.len c.if-len-lt-MAX_MOVES-2.overflow) c.shift-in-loop-land.result c.loop-land-test.true c.shift-in-loop-land.ensures

@@ -20,10 +20,11 @@ returns-then-has_ended c =
 pub moved-requires : goal.moved-requires
 unfolding judged_of
 moved-requires c =
-    let g = c.args.self in (
-      sym c.valid.ensures ∙ c.if-valid.true,
-      room (board_of (last_of g)) (stood g) g.reversible g.material (sym c.has_ended.ensures ∙ c.if-has_ended.false),
-    )
+    let g = c.args.self in
+    record {
+      g_value = sym c.valid.ensures ∙ c.if-valid.true;
+      reversible_bound = room (board_of (last_of g)) (stood g) g.reversible g.material (sym c.has_ended.ensures ∙ c.if-has_ended.false);
+    }
 
 pub returns-then-on_board : goal.returns-then-on_board
 unfolding play_of
