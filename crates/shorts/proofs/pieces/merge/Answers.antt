@@ -18,18 +18,18 @@ use Rattle.shorts.proofs.pieces.merge.Goals as goal
 pub loop-i-init : goal.loop-i-init
 loop-i-init c =
     let h : length c.args.start.moves ≡ 256 = search (rules, length_of_map) in
-    let r : length c.args.t2.moves ≡ 14 = search (rules, length_of_map) in
-    (omega arith, merging_none c.args.start c.args.t2 h r)
+    let r : length c.args.found.moves ≡ 14 = search (rules, length_of_map) in
+    (omega arith, merging_none c.args.start c.args.found h r)
 
 pub loop-j-init : goal.loop-j-init
-loop-j-init c = (omega arith, sym (listed_none c.loop-i.s.moves (get_or c.args.t2.moves c.loop-i.i blank)))
+loop-j-init c = (omega arith, sym (listed_none c.loop-i.s.moves (get_or c.args.found.moves c.loop-i.i blank)))
 
 pub loop-j-preserved : goal.loop-j-preserved
 loop-j-preserved c =
     let s = c.loop-i.s in
     let j = c.loop-j.j in
     let lt : j < 256 = omega arith in
-    let more = seen_more s.moves j (get_or c.args.t2.moves c.loop-i.i blank) c.loop-j.there (omega (arith, c.loop-i.invariant.1.full)) c.loop-j.invariant.1 in
+    let more = seen_more s.moves j (get_or c.args.found.moves c.loop-i.i blank) c.loop-j.there (omega (arith, c.loop-i.invariant.1.full)) c.loop-j.invariant.1 in
     (omega arith, ap (λ (b : Bool). c.loop-j.there || b) c.same-there.ensures ∙ more)
 
 pub loop-i-preserved : goal.loop-i-preserved
@@ -37,13 +37,13 @@ unfolding push_of
 loop-i-preserved c =
     let s = c.loop-i.s in
     let i = c.loop-i.i in
-    let m = get_or c.args.t2.moves i blank in
+    let m = get_or c.args.found.moves i blank in
     let n = c.count-count.result in
     let e = c.count-count.ensures in
     let full = c.loop-i.invariant.1.full in
     let lt : i < 14 = omega arith in (
       omega arith,
-      merging_step c.args.start c.args.t2 s c.if-not-count-best.s i c.loop-i.invariant.1 lt
+      merging_step c.args.start c.args.found s c.if-not-count-best.s i c.loop-i.invariant.1 lt
           (⊎_elim (λ w. w.2 ∙ added_anew s m n e (not-true _ w.0.taken) (push_of no_moves m) w.1.taken refl)
           (⊎_elim (λ w. w.7 ∙ added_stored s m n e (not-true _ w.0.taken) m refl w.1.left
           (looked s m w.3.j w.2.result w.3.there full w.3.inv.0 w.4.left w.2.ensures w.3.inv.1 ∙ not-true w.3.there w.5.taken) w.6.taken)
