@@ -1,12 +1,10 @@
 -- Each turn adds the next move of the short list by the rule, in place: one step of the fold.
 use mathlib.Core.Path.{◌≡◌, refl, sym, ap, ◌∙◌}
-use mathlib.Core.Logic.{⊎_elim}
 use mathlib.Core.Bool.{Bool, ◌||◌}
 use Prim.Native.Nat.{◌≤◌, ◌<◌, ◌-◌}
 use native.Mathlib.Omega.{arith}
 use lib.ListN.{length, take, get_or}
 use borrow.Author.Rules.{rules}
-use borrow.Author.Tests.{not-true, not-false}
 use Rattle.captures.specs.Lists.{no_moves, listed, blank, push_of}
 use Rattle.squares.proofs.Lengths.{length_of_map}
 use Rattle.captures.proofs.Listed.{listed_none}
@@ -14,6 +12,7 @@ use Rattle.captures.proofs.Recorded.{added_anew, added_there, added_stored, adde
 use Rattle.shorts.proofs.Absorbed.{add_few}
 use Rattle.shorts.proofs.Merged.{looked, Merging, merging_none, merging_step, merging_end, seen_more}
 use Rattle.shorts.proofs.pieces.merge.Goals as goal
+use Rattle.shorts.proofs.pieces.merge.Goals.{then-not-count-best+then-best-count, then-not-count-best+else-best-count+else-loop-j-test+then-not-there+then-len-lt-MAX_MOVES, then-not-count-best+else-best-count+else-loop-j-test+then-not-there+else-len-lt-MAX_MOVES, then-not-count-best+else-best-count+else-loop-j-test+else-not-there, else-not-count-best}
 
 pub loop-i-init : goal.loop-i-init
 loop-i-init c =
@@ -44,14 +43,17 @@ loop-i-preserved c =
     let lt : i < 14 = omega arith in (
       omega arith,
       merging_step c.args.start c.args.found s c.if-not-count-best.s i c.loop-i.invariant.1 lt
-          (⊎_elim (λ w. w.2 ∙ added_anew s m n e (not-true _ w.0.taken) (push_of no_moves m) w.1.taken refl)
-          (⊎_elim (λ w. w.7 ∙ added_stored s m n e (not-true _ w.0.taken) m refl w.1.left
-          (looked s m w.3.j w.2.result w.3.there full w.3.inv.0 w.4.left w.2.ensures w.3.inv.1 ∙ not-true w.3.there w.5.taken) w.6.taken)
-          (⊎_elim (λ w. w.7 ∙ added_marked s m n e (not-true _ w.0.taken) w.1.left
-          (looked s m w.3.j w.2.result w.3.there full w.3.inv.0 w.4.left w.2.ensures w.3.inv.1 ∙ not-true w.3.there w.5.taken) w.6.left)
-          (⊎_elim (λ w. w.6 ∙ added_there s m n e (not-true _ w.0.taken) w.1.left
-          (looked s m w.3.j w.2.result w.3.there full w.3.inv.0 w.4.left w.2.ensures w.3.inv.1 ∙ not-false w.3.there w.5.left))
-          (λ w. w.1 ∙ sym (add_few s m n e (not-false _ w.0.left)))))) c.if-not-count-best.branch),
+          (elim c.if-not-count-best.branch [
+            then-not-count-best+then-best-count w ↦
+                w.s-is ∙ added_anew s m n e w.if-not-count-best.true (push_of no_moves m) w.if-best-count.true refl
+          | then-not-count-best+else-best-count+else-loop-j-test+then-not-there+then-len-lt-MAX_MOVES w ↦
+                w.s-is ∙ added_stored s m n e w.if-not-count-best.true m refl w.if-best-count.false (looked s m w.loop-j.j w.least-end.result w.loop-j.there full w.loop-j.invariant.0 w.loop-j-test.false w.least-end.ensures w.loop-j.invariant.1 ∙ w.if-not-there.true) w.if-len-lt-MAX_MOVES.true
+          | then-not-count-best+else-best-count+else-loop-j-test+then-not-there+else-len-lt-MAX_MOVES w ↦
+                w.s-is ∙ added_marked s m n e w.if-not-count-best.true w.if-best-count.false (looked s m w.loop-j.j w.least-end.result w.loop-j.there full w.loop-j.invariant.0 w.loop-j-test.false w.least-end.ensures w.loop-j.invariant.1 ∙ w.if-not-there.true) w.if-len-lt-MAX_MOVES.false
+          | then-not-count-best+else-best-count+else-loop-j-test+else-not-there w ↦
+                w.s-is ∙ added_there s m n e w.if-not-count-best.true w.if-best-count.false (looked s m w.loop-j.j w.least-end.result w.loop-j.there full w.loop-j.invariant.0 w.loop-j-test.false w.least-end.ensures w.loop-j.invariant.1 ∙ w.if-not-there.false)
+          | else-not-count-best w ↦ w.s-is ∙ sym (add_few s m n e w.if-not-count-best.false)
+          ]),
     )
 
 pub returns : goal.returns
