@@ -28,8 +28,8 @@ loop-left-preserved c =
     let one = one_bit _ (next_lt _ c.loop-left.invariant (omega arith)) in
     turn _ c.loop-left.invariant (omega arith)
     (elim c.if-king_open.branch [
-      then-king_open w ↦ w.t-is ∙ king_some c.args.them c.args.empty c.loop-left.t _ _ one w.king-t.result w.king-t.ensures
-    | else-king_open w ↦ w.t-is ∙ king_none c.args.them c.args.empty c.loop-left.t _ _ one (sym c.king_open.ensures ∙ w.if-king_open.false)
+      | then-king_open w ↦ w.t-is ∙ king_some c.args.them c.args.empty c.loop-left.t _ _ one w.king-t.result w.king-t.ensures
+      | else-king_open w ↦ w.t-is ∙ king_none c.args.them c.args.empty c.loop-left.t _ _ one (sym c.king_open.ensures ∙ w.if-king_open.false)
     ])
 
 pub returns : goal.returns

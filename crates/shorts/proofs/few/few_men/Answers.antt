@@ -28,8 +28,8 @@ loop-left-preserved c =
     let one = one_bit _ (next_lt _ c.loop-left.invariant (omega arith)) in
     turn _ c.loop-left.invariant (omega arith)
     (elim c.if-man_open.branch [
-      then-man_open w ↦ w.t-is ∙ man_some c.args.them c.args.empty c.loop-left.t _ _ one w.man-t.result w.man-t.ensures
-    | else-man_open w ↦ w.t-is ∙ man_none c.args.them c.args.empty c.loop-left.t _ _ one (sym c.man_open.ensures ∙ w.if-man_open.false)
+      | then-man_open w ↦ w.t-is ∙ man_some c.args.them c.args.empty c.loop-left.t _ _ one w.man-t.result w.man-t.ensures
+      | else-man_open w ↦ w.t-is ∙ man_none c.args.them c.args.empty c.loop-left.t _ _ one (sym c.man_open.ensures ∙ w.if-man_open.false)
     ])
 
 pub returns : goal.returns

@@ -38,12 +38,12 @@ loop-left-preserved c =
     let one = one_bit _ (next_lt _ c.loop-left.invariant.0 (omega arith)) in
     let full = c.loop-left.invariant.1 in
     let is : c.if-king_open.s ≡ king_captures e s (lowest c.loop-left.left) =
-        elim c.if-king_open.branch [
-          then-king_open+then-found w ↦ w.s-is ∙ king_turn e s w.king-s.result _ _ one w.king-s.ensures
-        | then-king_open+else-found w ↦
-              w.s-is ∙ w.merge-s.ensures ∙ king_few e s _ _ one full w.new.result w.king-found.result w.new.ensures w.if-found.false w.king-found.ensures
-        | else-king_open w ↦ w.s-is ∙ king_shut e s _ _ one (sym c.king_open.ensures ∙ w.if-king_open.false)
-        ] in
+    elim c.if-king_open.branch [
+      | then-king_open+then-found w ↦ w.s-is ∙ king_turn e s w.king-s.result _ _ one w.king-s.ensures
+      | then-king_open+else-found w ↦
+          w.s-is ∙ w.merge-s.ensures ∙ king_few e s _ _ one full w.new.result w.king-found.result w.new.ensures w.if-found.false w.king-found.ensures
+      | else-king_open w ↦ w.s-is ∙ king_shut e s _ _ one (sym c.king_open.ensures ∙ w.if-king_open.false)
+    ] in
     (turn _ c.loop-left.invariant.0 (omega arith) is, ap (λ (x : Captures). length x.moves) is ∙ king_full e s _ full)
 
 pub returns : goal.returns

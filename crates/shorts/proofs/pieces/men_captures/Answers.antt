@@ -38,12 +38,12 @@ loop-left-preserved c =
     let one = one_bit _ (next_lt _ c.loop-left.invariant.0 (omega arith)) in
     let full = c.loop-left.invariant.1 in
     let is : c.if-man_open.s ≡ man_captures e s (lowest c.loop-left.left) =
-        elim c.if-man_open.branch [
-          then-man_open+then-few w ↦ w.s-is ∙ man_turn e s w.man-s.result _ _ one w.man-s.ensures
-        | then-man_open+else-few w ↦
-              w.s-is ∙ w.merge-s.ensures ∙ man_few e s _ _ one full w.new.result w.man-few.result w.new.ensures w.if-few.false w.man-few.ensures
-        | else-man_open w ↦ w.s-is ∙ man_shut e s _ _ one (sym c.man_open.ensures ∙ w.if-man_open.false)
-        ] in
+    elim c.if-man_open.branch [
+      | then-man_open+then-few w ↦ w.s-is ∙ man_turn e s w.man-s.result _ _ one w.man-s.ensures
+      | then-man_open+else-few w ↦
+          w.s-is ∙ w.merge-s.ensures ∙ man_few e s _ _ one full w.new.result w.man-few.result w.new.ensures w.if-few.false w.man-few.ensures
+      | else-man_open w ↦ w.s-is ∙ man_shut e s _ _ one (sym c.man_open.ensures ∙ w.if-man_open.false)
+    ] in
     (turn _ c.loop-left.invariant.0 (omega arith) is, ap (λ (x : Captures). length x.moves) is ∙ man_full e s _ full)
 
 pub returns : goal.returns

@@ -44,15 +44,15 @@ loop-i-preserved c =
       omega arith,
       merging_step c.args.start c.args.found s c.if-not-count-best.s i c.loop-i.invariant.1 lt
           (elim c.if-not-count-best.branch [
-            then-not-count-best+then-best-count w ↦
+            | then-not-count-best+then-best-count w ↦
                 w.s-is ∙ added_anew s m n e w.if-not-count-best.true (push_of no_moves m) w.if-best-count.true refl
-          | then-not-count-best+else-best-count+else-loop-j-test+then-not-there+then-len-lt-MAX_MOVES w ↦
+            | then-not-count-best+else-best-count+else-loop-j-test+then-not-there+then-len-lt-MAX_MOVES w ↦
                 w.s-is ∙ added_stored s m n e w.if-not-count-best.true m refl w.if-best-count.false (looked s m w.loop-j.j w.least-end.result w.loop-j.there full w.loop-j.invariant.0 w.loop-j-test.false w.least-end.ensures w.loop-j.invariant.1 ∙ w.if-not-there.true) w.if-len-lt-MAX_MOVES.true
-          | then-not-count-best+else-best-count+else-loop-j-test+then-not-there+else-len-lt-MAX_MOVES w ↦
+            | then-not-count-best+else-best-count+else-loop-j-test+then-not-there+else-len-lt-MAX_MOVES w ↦
                 w.s-is ∙ added_marked s m n e w.if-not-count-best.true w.if-best-count.false (looked s m w.loop-j.j w.least-end.result w.loop-j.there full w.loop-j.invariant.0 w.loop-j-test.false w.least-end.ensures w.loop-j.invariant.1 ∙ w.if-not-there.true) w.if-len-lt-MAX_MOVES.false
-          | then-not-count-best+else-best-count+else-loop-j-test+else-not-there w ↦
+            | then-not-count-best+else-best-count+else-loop-j-test+else-not-there w ↦
                 w.s-is ∙ added_there s m n e w.if-not-count-best.true w.if-best-count.false (looked s m w.loop-j.j w.least-end.result w.loop-j.there full w.loop-j.invariant.0 w.loop-j-test.false w.least-end.ensures w.loop-j.invariant.1 ∙ w.if-not-there.false)
-          | else-not-count-best w ↦ w.s-is ∙ sym (add_few s m n e w.if-not-count-best.false)
+            | else-not-count-best w ↦ w.s-is ∙ sym (add_few s m n e w.if-not-count-best.false)
           ]),
     )
 

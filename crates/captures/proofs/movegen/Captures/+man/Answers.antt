@@ -34,11 +34,11 @@ loop-dir-preserved t c =
     let less = jump_fewer a.self.them a.self.empty a.captured _ c.difference-untaken.result c.shift.result c.shift-in-loop-dir.result c.difference-untaken.ensures c.shift-in-loop-dir.ensures ht c.ranges.captured.fits in
     let jump = walked_jump note_of a.self.them a.self.empty a.self a.at a.captured d s c.loop-dir.extended c.loop-dir.invariant lt _ _ j in
     elim c.if-land-ne0.branch [
-      then-land-ne0+then-man_open w ↦
+      | then-land-ne0+then-man_open w ↦
           rw (w.s-is, w.extended-is) (jump w.man-s.result (less w.if-land-ne0.true) w.if-land-ne0.true (man_on a.self s _ _ _ kept w.man-s.ensures))
-    | then-land-ne0+else-man_open w ↦
+      | then-land-ne0+else-man_open w ↦
           rw (w.s-is, w.extended-is) (jump w.record-s.result (less w.if-land-ne0.true) w.if-land-ne0.true (rw w.record-s.ensures (man_ends note_of _ _ s _ _ (rw (← w.difference.ensures, ← w.man_open.ensures) w.if-man_open.false))))
-    | else-land-ne0 w ↦ rw (w.s-is, w.extended-is) (past w.if-land-ne0.false)
+      | else-land-ne0 w ↦ rw (w.s-is, w.extended-is) (past w.if-land-ne0.false)
     ]
 
 pub returns-then-extended : goal.returns-then-extended

@@ -45,9 +45,9 @@ king-loop-d-preserved t c =
     let d = c.loop-d.d in
     let lt : d < 4 = c.loop-d-test.true in
     elim c.if-not-skips.branch [
-      king-then-not-skips+else-loop-land-test w ↦
+      | king-then-not-skips+else-loop-land-test w ↦
           rw (w.s-is, w.extended-is) (walked_ray note_short a.them a.empty a.self a.at a.captured (skip_of true a.came) d c.loop-d.s c.loop-d.extended c.loop-d.invariant lt _ _ w.loop-land.s w.loop-land.extended w.loop-land.land (sym c.skips.ensures ∙ w.if-not-skips.true) (jumped a.them a.empty a.at a.captured d _ _ _ c.difference-untaken.ensures w.slide.ensures w.shift.ensures) w.loop-land.invariant w.loop-land-test.false)
-    | king-else-not-skips w ↦
+      | king-else-not-skips w ↦
           rw (w.s-is, w.extended-is) (walked_skip note_short a.them a.empty a.self a.at a.captured (skip_of true a.came) d c.loop-d.s c.loop-d.extended c.loop-d.invariant lt (sym c.skips.ensures ∙ w.if-not-skips.false))
     ]
 
@@ -93,9 +93,9 @@ king_landing-loop-turn-preserved t c =
     let d = c.loop-turn.turn in
     let lt : d < 4 = c.loop-turn-test.true in
     elim c.if-not-skips.branch [
-      king_landing-then-not-skips+else-loop-land-test w ↦
+      | king_landing-then-not-skips+else-loop-land-test w ↦
           rw (w.s-is, w.extended-is) (walked_ray note_short a.them a.empty a.self a.at a.captured (skip_of false a.dir) d c.loop-turn.s c.loop-turn.extended c.loop-turn.invariant lt _ _ w.loop-land.s w.loop-land.extended w.loop-land.land (sym c.skips.ensures ∙ w.if-not-skips.true) (jumped a.them a.empty a.at a.captured d _ _ _ c.difference-untaken.ensures w.slide.ensures w.shift.ensures) w.loop-land.invariant w.loop-land-test.false)
-    | king_landing-else-not-skips w ↦
+      | king_landing-else-not-skips w ↦
           rw (w.s-is, w.extended-is) (walked_skip note_short a.them a.empty a.self a.at a.captured (skip_of false a.dir) d c.loop-turn.s c.loop-turn.extended c.loop-turn.invariant lt (sym c.skips.ensures ∙ w.if-not-skips.false))
     ]
 
