@@ -1,5 +1,5 @@
 -- Arguments joined by single spaces.
-use Rattle.std.specs.Prelude.{ℕ, ◌≤◌, ◌<◌, ◌≡◌, List, [], ◌∷◌, ◌++◌, Bool, true, false, length, drop}
+use Rattle.std.specs.Prelude.{ℕ, ◌≤◌, ◌<◌, ◌≡◌, List, ◌∷◌, ◌++◌, Bool, true, false, length, drop}
 use Prim.Native.Char.{code}
 use Rattle.texts.specs.Bytes.{joined}
 use Rattle.frame.specs.declared.arguments.Given.{Given}

@@ -1,14 +1,14 @@
 // A reader, as standard input: one read, a line byte by byte, or all of it up to the end of a buffer.
 //
-// No contract says what the outside delivers, since that of read does not. The contracts say what the answer of a
-// read means, how many bytes were read at most, that a line has no line feed in it, and which bytes of the buffer
-// stay. Only the code shows the rest: the bytes in the buffer are those that were read, in order, and `read_line`
-// reads nothing after the line feed.
+// No contract says what standard input delivers, since that of its read does not. The contracts say what the answer of
+// a read means, how many bytes were read at most, that a line has no line feed in it, and which bytes of the buffer
+// stay. Of a reader whose bytes are known, they also say that the bytes in the buffer are those that were read, in
+// order, that `read_line` reads nothing after the line feed, and that nothing is left at the end of the input.
 //
 // A read fails where the reader answers an error. The reason is not asked: a call that a signal interrupts, or that
 // would have to wait on a descriptor that must not wait, counts as one that failed.
 ghost use Rattle.std.specs.Prelude.{◌≡◌, length};
-ghost use Rattle.frame.specs.Input.{came_of, CameIn, TakenIn, TakenLine};
+ghost use Rattle.frame.specs.Input.{came_of, CameIn, CameFrom, SingleFrom, TakenIn, TakenFrom, TakenLine, LineFrom};
 
 use std::io;
 use std::io::Read;
@@ -53,13 +53,16 @@ fn what_came(got: io::Result<usize>) -> Came
 
 // Reads once, into the start of the space. A space without bytes gives the end of the input.
 pub fn read_once<R: Read>(from: &mut R, space: &mut [u8]) -> Came
-    ensures { CameIn (length space.new) result }
+    ensures came_in { CameIn (length space.new) result }
+    ensures came_from { CameFrom (R.remaining from.old) (R.remaining from.new) space.new result }
 {
     let got = from.read(space);
     what_came(got)
 }
 
-fn read_byte<R: Read>(from: &mut R) -> Single {
+fn read_byte<R: Read>(from: &mut R) -> Single
+    ensures { SingleFrom (R.remaining from.old) (R.remaining from.new) result }
+{
     let mut one = [0u8; 1];
     match read_once(from, &mut one) {
         Came::Bytes(_) => Single::Byte(one[0]),
@@ -71,7 +74,8 @@ fn read_byte<R: Read>(from: &mut R) -> Single {
 // Reads byte by byte up to a line feed, the end of the input or the end of the buffer. The line feed is not put into
 // the buffer. A full buffer may be the start of a longer line. The bytes of the buffer after the line stay.
 pub fn read_line<R: Read>(from: &mut R, buf: &mut [u8]) -> Taken
-    ensures { TakenLine buf.old buf.new result }
+    ensures line { TakenLine buf.old buf.new result }
+    ensures line_from { LineFrom (R.remaining from.old) (R.remaining from.new) buf.new result }
 {
     let mut n = 0;
     while n < buf.len() {
@@ -97,7 +101,8 @@ pub fn read_line<R: Read>(from: &mut R, buf: &mut [u8]) -> Taken
 // Reads up to the end of the input or the end of the buffer. A full buffer may be the start of a longer input, so it
 // has one byte more than the longest input that the program takes.
 pub fn read_all<R: Read>(from: &mut R, buf: &mut [u8]) -> Taken
-    ensures { TakenIn (length buf.new) result }
+    ensures taken_in { TakenIn (length buf.new) result }
+    ensures taken_from { TakenFrom (R.remaining from.old) (R.remaining from.new) buf.new result }
 {
     let mut n = 0;
     while n < buf.len() {

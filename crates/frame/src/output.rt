@@ -1,9 +1,12 @@
 // A writer, as standard output, and the line on standard error that says that a run stopped.
 //
+// No contract says what standard output gets, since that of its write does not. Of a writer whose bytes are known, the
+// contracts say which bytes it got.
+//
 // A write fails where the writer answers an error or takes no byte; some of the bytes may be written then. The reason
-// is not asked.
+// is not asked: a call that a signal interrupts counts as one that failed.
 ghost use Rattle.std.specs.Prelude.{◌≡◌};
-ghost use Rattle.frame.specs.Output.{ended_of, Finished};
+ghost use Rattle.frame.specs.Output.{ended_of, Finished, Put, PutAtEnd};
 
 use std::io::Write;
 
@@ -16,8 +19,24 @@ pub enum Ended {
 }
 
 // Writes the bytes. Returns whether all of them were written.
-pub fn write<W: Write>(to: &mut W, out: &[u8]) -> bool {
-    to.write_all(out).is_ok()
+pub fn write<W: Write>(to: &mut W, out: &[u8]) -> bool
+    ensures { Put (W.contents to.old) (W.contents to.new) out.now result }
+{
+    let mut done = 0;
+    while done < out.len() {
+        match to.write(&out[done..]) {
+            Ok(n) => {
+                if n == 0 {
+                    return false;
+                }
+                done += n;
+            }
+            Err(_) => {
+                return false;
+            }
+        }
+    }
+    true
 }
 
 // How a run ends, by whether its last bytes were all written.
@@ -32,7 +51,8 @@ pub fn how_ended(written: bool) -> Ended
 
 // Writes the last bytes of a run. Returns how the run ends.
 pub fn finish<W: Write>(to: &mut W, out: &[u8]) -> Ended
-    ensures { Finished result }
+    ensures finished { Finished result }
+    ensures put { PutAtEnd (W.contents to.old) (W.contents to.new) out.now result }
 {
     how_ended(write(to, out))
 }

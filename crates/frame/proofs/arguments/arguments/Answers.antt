@@ -1,7 +1,7 @@
 -- Word by word: what was put so far is the words so far, joined.
-use mathlib.Core.Path.{◌≡◌, refl, sym}
-use Prim.Native.Nat.{ℕ, ◌-◌, ◌≤◌}
-use lib.ListN.{length, length-replicate}
+use mathlib.Core.Path.{refl, sym}
+use Prim.Native.Nat.{ℕ}
+use lib.ListN.{length-replicate}
 use lib.Seq.{length-take-le}
 use Rattle.frame.proofs.Joining as laws
 use borrow.Author.Rules.{rules}

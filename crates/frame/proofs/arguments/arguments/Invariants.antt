@@ -1,11 +1,8 @@
 -- Word by word: what was put so far is the words so far, joined.
-use mathlib.Core.Path.{◌≡◌, refl, sym}
-use Prim.Native.Nat.{ℕ, ◌-◌, ◌≤◌, ◌^◌}
-use lib.ListN.{length, length-replicate}
-use lib.Seq.{length-take-le}
+use mathlib.Core.Path.{◌≡◌}
+use Prim.Native.Nat.{◌-◌, ◌≤◌, ◌^◌}
+use lib.ListN.{length}
 use Rattle.frame.proofs.Joining as laws
-use borrow.Author.Rules.{rules}
-use native.Mathlib.Omega.{arith}
 use Rattle.frame.proofs.arguments.arguments.Given as goal
 
 abbrev pub invariant-loop-i : goal.invariant-loop-i

@@ -1,7 +1,7 @@
 -- By the count.
 use Prim.Native.Nat.{ℕ, zero, suc}
 use mathlib.Core.Path.{◌≡◌, refl, ap, sym, ◌∙◌}
-use Rattle.std.specs.Prelude.{Result, Ok, Err}
+use Rattle.std.specs.Prelude.{Ok, Err}
 use native.Mathlib.Omega.{arith}
 use Rattle.frame.specs.Input.{came_of}
 use Rattle.frame.specs.declared.input.Came.TheVariants as came
