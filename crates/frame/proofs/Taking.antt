@@ -5,7 +5,8 @@ use mathlib.Core.List.{List, [], ◌∷◌, ◌++◌}
 use mathlib.Core.Bool.{Bool, true, false, ◌||◌}
 use native.Mathlib.Omega.{arith}
 use native.Mathlib.Numerals.{add-one}
-use lib.IntN.{ℤ, pos, negsuc}
+use Rattle.std.specs.Prelude.{Result, Ok, Err}
+use Rattle.std.specs.Io.{ReadsAtMost}
 use lib.Dec.{eqb}
 use lib.ListN.{length, take, drop, set, length-set, length-drop}
 use lib.Seq.{drop-drop, take-suc-set, drop-set-lt}
@@ -18,14 +19,14 @@ use Rattle.frame.specs.declared.input.Came.{Came}
 use Rattle.frame.specs.declared.input.Came.TheVariants as came
 
 -- ---- one read
-fits : (z : ℤ) (space : ℕ) → CameIn space (came_of z space)
+fits : {E : Type 0} (got : Result ℕ E) (space : List ℕ) → ReadsAtMost got space → CameIn (length space) (came_of got)
 unfolding came_of
-fits (pos zero) space = tt
-fits (pos (suc k)) space = (omega arith, λ h. omega arith)
-fits (negsuc k) space = tt
+fits (Ok zero) space h = tt
+fits (Ok (suc k)) space h = (h.0, λ some. omega arith)
+fits (Err e) space h = tt
 
-pub came_in : (z : ℤ) (space : ℕ) (r : Came) → r ≡ came_of z space → CameIn space r
-came_in z space r e = subst (λ (x : Came). CameIn space x) (sym e) (fits z space)
+pub came_in : {E : Type 0} (got : Result ℕ E) (space : List ℕ) (r : Came) → ReadsAtMost got space → r ≡ came_of got → CameIn (length space) r
+came_in got space r h e = subst (λ (x : Came). CameIn (length space) x) (sym e) (fits got space h)
 
 pub came_bytes : (space : ℕ) (r : Came) (n : ℕ) → CameIn space r → r ≡ came.Bytes n → (n ≤ space) × (0 < space → 0 < n)
 came_bytes space r n h e = subst (λ (x : Came). CameIn space x) e h

@@ -1,17 +1,16 @@
 -- What the answer of a read means, and what the buffer contains after reads.
-use Rattle.std.specs.Prelude.{ℕ, zero, suc, ◌≤◌, ◌<◌, min, ◌≡◌, List, false, length, take, drop, ℤ, pos, negsuc}
+use Rattle.std.specs.Prelude.{ℕ, zero, suc, ◌≤◌, ◌<◌, ◌≡◌, List, false, length, take, drop, Result, Ok, Err}
 use Rattle.texts.specs.Bytes.{holds}
 use Rattle.frame.specs.declared.input.Came.{Came}
 use Rattle.frame.specs.declared.input.Came.TheVariants as came
 use Rattle.frame.specs.declared.input.Taken.{Taken}
 use Rattle.frame.specs.declared.input.Taken.TheVariants as taken
 
--- what a read brought, by its answer, for a space of so many bytes: an answer below 0 is a failure, not the end of
--- the input
-unfoldable pub came_of : ℤ → ℕ → Came
-came_of (pos zero) space = came.End
-came_of (pos (suc k)) space = came.Bytes (min (suc k) space)
-came_of (negsuc k) space = came.Failed
+-- what a read brought, by its answer: an error is a failure, not the end of the input
+unfoldable pub came_of : {E : Type 0} → Result ℕ E → Came
+came_of (Ok zero) = came.End
+came_of (Ok (suc k)) = came.Bytes (suc k)
+came_of (Err e) = came.Failed
 
 -- the bytes have room in the space, and there is at least one where the space has one
 abbrev pub CameIn : ℕ → Came → Type 0

@@ -25,7 +25,7 @@ use Rattle.rules.proofs.Jumps.{jump_target}
 use Rattle.squares.proofs.Cases.{of_or, of_bit}
 use Rattle.rules.proofs.Paths.{Path, begin, onward, of_sequence}
 
-glide_end : {e i j : ℕ} {d : Direction} → Glide e d i j → has e i ≡ true → has e j ≡ true
+glide_end : {e : ℕ} {d : Direction} {i j : ℕ} → Glide e d i j → has e i ≡ true → has e j ≡ true
 glide_end rest h = h
 glide_end (step q g) h = glide_end g q
 

@@ -8,7 +8,7 @@ use Rattle.captures.proofs.Steps.{rank, falls}
 use Rattle.captures.proofs.movegen.slide.Goals as goal
 
 pub loop-square-init : goal.loop-square-init
-loop-square-init c = slide_start _ _ _ c.shift-square.type-inv
+loop-square-init c = slide_start _ _ _ c.shift-square.type_inv
 
 pub loop-square-smaller : goal.loop-square-smaller
 loop-square-smaller c =

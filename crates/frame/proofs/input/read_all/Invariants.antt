@@ -8,7 +8,7 @@ use native.Mathlib.Omega.{arith}
 use Rattle.frame.proofs.input.read_all.Given as goal
 
 abbrev pub invariant-loop-n : goal.invariant-loop-n
-invariant-loop-n l = (length l.buf ≡ length l.initial.buf) × (l.n ≤ length l.buf)
+invariant-loop-n g l = (length l.buf ≡ length l.initial.buf) × (l.n ≤ length l.buf)
 
 abbrev pub decreases-loop-n : goal.decreases-loop-n
-decreases-loop-n l = length l.buf - l.n
+decreases-loop-n g l = length l.buf - l.n

@@ -9,7 +9,7 @@ use native.Mathlib.Omega.{arith}
 use Rattle.frame.proofs.input.read_line.Given as goal
 
 abbrev pub invariant-loop-n : goal.invariant-loop-n
-invariant-loop-n l = (length l.buf ≡ length l.initial.buf) × LineIn l.initial.buf l.buf l.n
+invariant-loop-n g l = (length l.buf ≡ length l.initial.buf) × LineIn l.initial.buf l.buf l.n
 
 abbrev pub decreases-loop-n : goal.decreases-loop-n
-decreases-loop-n l = length l.buf - l.n
+decreases-loop-n g l = length l.buf - l.n

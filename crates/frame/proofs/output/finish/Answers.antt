@@ -14,4 +14,4 @@ finished : (b : Bool) (r : Ended) → r ≡ ended_of b → Finished r
 finished b r e = subst Finished (sym e) (by_write b)
 
 pub returns : goal.returns
-returns c = finished c.write.result _ c.how_ended.ensures
+returns g c = finished c.write.result _ c.how_ended.ensures

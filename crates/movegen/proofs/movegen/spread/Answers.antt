@@ -37,13 +37,13 @@ loop-i-init c = (omega arith, refl)
 
 pub loop-i-preserved : goal.loop-i-preserved
 loop-i-preserved c =
-    let k : length c.args.t1.moves ≡ 14 = search (rules, length_of_map) in
-    (omega arith, ap (λ (ms : List Move). set ms c.loop-i.i (get_or c.args.t1.moves c.loop-i.i blank)) c.loop-i.invariant.1 ∙ copied_more c.args.t1.moves c.loop-i.i (omega arith) (omega arith))
+    let k : length c.args.found.moves ≡ 14 = search (rules, length_of_map) in
+    (omega arith, ap (λ (ms : List Move). set ms c.loop-i.i (get_or c.args.found.moves c.loop-i.i blank)) c.loop-i.invariant.1 ∙ copied_more c.args.found.moves c.loop-i.i (omega arith) (omega arith))
 
 pub returns : goal.returns
 returns c =
-    let e : c.loop-i.i ≡ c.args.t1.len = omega arith in
-    let k : length c.args.t1.moves ≡ 14 = search (rules, length_of_map) in
+    let e : c.loop-i.i ≡ c.args.found.len = omega arith in
+    let k : length c.args.found.moves ≡ 14 = search (rules, length_of_map) in
     ap (λ (m : MoveList). listing m false)
-    (ap (λ (ms : List Move). record { moves = ms; len = c.args.t1.len }) (c.loop-i.invariant.1 ∙ ap (copied c.args.t1.moves) e)
-    ∙ copied_all c.args.t1.moves c.args.t1.len c.requires k)
+    (ap (λ (ms : List Move). record { moves = ms; len = c.args.found.len }) (c.loop-i.invariant.1 ∙ ap (copied c.args.found.moves) e)
+    ∙ copied_all c.args.found.moves c.args.found.len c.requires k)

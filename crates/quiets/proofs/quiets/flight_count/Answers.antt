@@ -9,7 +9,7 @@ use Rattle.quiets.proofs.Counts.{Counting, count_start, count_step, count_end, c
 use Rattle.quiets.proofs.quiets.flight_count.Goals as goal
 
 pub loop-to-init : goal.loop-to-init
-loop-to-init c = count_start _ _ _ (and_lt _ _ c.shift.type-inv)
+loop-to-init c = count_start _ _ _ (and_lt _ _ c.shift.type_inv)
 
 pub overflow_add-n : goal.overflow_add-n
 overflow_add-n c = omega (arith, count_most _ _ _ _ _ c.loop-to.invariant)

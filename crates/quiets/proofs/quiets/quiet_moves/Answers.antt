@@ -1,7 +1,6 @@
 -- Each turn stores one move in the array: the men's steps by the lowest bit reached, in both directions forward; then the landings
 -- of each flight, direction by direction and king by king.
 use mathlib.Core.Path.{◌≡◌, refl, sym, ap, ap₂, ◌∙◌}
-use mathlib.Core.Logic.{⊎_elim}
 use mathlib.Core.Bool.{Bool, false}
 use mathlib.Core.List.{List, ◌∷◌, [], foldl, foldl-append, map, flat_map}
 use Prim.Native.Nat.{ℕ, ◌+◌, ◌-◌, ◌≤◌}
@@ -27,6 +26,7 @@ use Rattle.quiets.proofs.Added.{stored, marked, Adding, adding_turn, adding_done
 use borrow.Author.Rules.{rules}
 use Rattle.quiets.proofs.quiets.quiet_moves.Invariants.{held, found}
 use Rattle.quiets.proofs.quiets.quiet_moves.Goals as goal
+use Rattle.quiets.proofs.quiets.quiet_moves.Goals.{then-len-lt-MAX_MOVES, else-len-lt-MAX_MOVES, then-len-lt-MAX_MOVES-2, else-len-lt-MAX_MOVES-2}
 
 same_found : {a b : List Move} {m n : ℕ} {o p : Bool} → a ≡ b → m ≡ n → o ≡ p → found a m o ≡ found b n p
 same_found {a} {b} {m} {n} {o} {p} x y z = ap₂ (λ (l : List Move) (k : ℕ). found l k o) x y ∙ ap (found b n) z
@@ -38,7 +38,7 @@ pub overflow_add-d : goal.overflow_add-d
 overflow_add-d c = omega (arith, forward_le c.args.side, c.forward-first.ensures)
 
 pub loop-to-init : goal.loop-to-init
-loop-to-init c = record { fits = and_lt _ _ c.shift.type-inv; same = refl }
+loop-to-init c = record { fits = and_lt _ _ c.shift.type_inv; same = refl }
 
 pub overflow_cast-at : goal.overflow_cast-at
 overflow_cast-at c = omega (arith, lowest_lt 64 c.loop-to.to (omega arith) c.loop-to.invariant.fits)
@@ -58,8 +58,10 @@ loop-to-preserved c =
     let l = lowest_lt 64 c.loop-to.to (omega arith) c.loop-to.invariant.fits in
     let mv = move c.first.result c.first-in-loop-to.result 0 in
     let made : found c.if-len-lt-MAX_MOVES.moves c.if-len-lt-MAX_MOVES.len c.if-len-lt-MAX_MOVES.overflow ≡ add_of (found c.loop-to.moves c.loop-to.len c.loop-to.overflow) mv =
-    ⊎_elim (λ w. same_found w.1 w.2 w.3 ∙ stored (held c.loop-to.moves c.loop-to.len) c.loop-to.overflow mv w.0.taken)
-    (λ w. same_found w.1 w.2 w.3 ∙ marked (held c.loop-to.moves c.loop-to.len) c.loop-to.overflow mv w.0.left) c.if-len-lt-MAX_MOVES.branch in
+    elim c.if-len-lt-MAX_MOVES.branch [
+      then-len-lt-MAX_MOVES w ↦ same_found w.moves-is w.len-is w.overflow-is ∙ stored (held c.loop-to.moves c.loop-to.len) c.loop-to.overflow mv w.if-len-lt-MAX_MOVES.true
+      | else-len-lt-MAX_MOVES w ↦ same_found w.moves-is w.len-is w.overflow-is ∙ marked (held c.loop-to.moves c.loop-to.len) c.loop-to.overflow mv w.if-len-lt-MAX_MOVES.false
+    ] in
     adding_turn _ _ (found c.loop-to.moves c.loop-to.len c.loop-to.overflow) _ c.loop-to.to c.loop-to.invariant (omega arith)
     (made ∙ ap (add_of (found c.loop-to.moves c.loop-to.len c.loop-to.overflow)) (step_made d _ _ _ _ _ (one_bit _ l) c.shift-back.ensures c.first.ensures c.first-in-loop-to.ensures))
 
@@ -87,7 +89,7 @@ pub loop-dir-init : goal.loop-dir-init
 loop-dir-init c = (walk_start _ _, omega arith)
 
 pub loop-land-init : goal.loop-land-init
-loop-land-init c = fly_start _ _ _ _ _ (and_lt _ _ c.shift-in-loop-dir.type-inv)
+loop-land-init c = fly_start _ _ _ _ _ (and_lt _ _ c.shift-in-loop-dir.type_inv)
 
 pub loop-land-smaller : goal.loop-land-smaller
 loop-land-smaller c =
@@ -99,8 +101,10 @@ loop-land-preserved c =
     let from = c.first-from.result in
     let mv = move from c.first-in-loop-land.result 0 in
     let made : found c.if-len-lt-MAX_MOVES-2.moves c.if-len-lt-MAX_MOVES-2.len c.if-len-lt-MAX_MOVES-2.overflow ≡ add_of (found c.loop-land.moves c.loop-land.len c.loop-land.overflow) mv =
-    ⊎_elim (λ w. same_found w.1 w.2 w.3 ∙ stored (held c.loop-land.moves c.loop-land.len) c.loop-land.overflow mv w.0.taken)
-    (λ w. same_found w.1 w.2 w.3 ∙ marked (held c.loop-land.moves c.loop-land.len) c.loop-land.overflow mv w.0.left) c.if-len-lt-MAX_MOVES-2.branch in
+    elim c.if-len-lt-MAX_MOVES-2.branch [
+      then-len-lt-MAX_MOVES-2 w ↦ same_found w.moves-is w.len-is w.overflow-is ∙ stored (held c.loop-land.moves c.loop-land.len) c.loop-land.overflow mv w.if-len-lt-MAX_MOVES-2.true
+      | else-len-lt-MAX_MOVES-2 w ↦ same_found w.moves-is w.len-is w.overflow-is ∙ marked (held c.loop-land.moves c.loop-land.len) c.loop-land.overflow mv w.if-len-lt-MAX_MOVES-2.false
+    ] in
     fly_step _ _ _ _ _ _ c.loop-land.land c.loop-land.invariant (found c.if-len-lt-MAX_MOVES-2.moves c.if-len-lt-MAX_MOVES-2.len c.if-len-lt-MAX_MOVES-2.overflow) c.shift-in-loop-land.result c.loop-land-test.true c.shift-in-loop-land.ensures
     (made ∙ ap (λ (t : ℕ). add_of (found c.loop-land.moves c.loop-land.len c.loop-land.overflow) (move from t 0)) c.first-in-loop-land.ensures)
 

@@ -1,7 +1,6 @@
 -- Each turn stores one move in the array: the men's steps by the lowest bit reached, in both directions forward; then the landings
 -- of each flight, direction by direction and king by king.
 use mathlib.Core.Path.{◌≡◌, refl, sym, ap, ap₂, ◌∙◌}
-use mathlib.Core.Logic.{⊎_elim}
 use mathlib.Core.Bool.{Bool, false}
 use mathlib.Core.List.{List, ◌∷◌, [], foldl, foldl-append, map, flat_map}
 use Prim.Native.Nat.{ℕ, ◌+◌, ◌-◌, ◌≤◌}
@@ -40,7 +39,7 @@ abbrev pub decreases-loop-to : goal.decreases-loop-to
 decreases-loop-to l = l.to
 
 abbrev pub invariant-loop-k : goal.invariant-loop-k
-invariant-loop-k l = Walked (λ l.k. men_steps l.men l.empty (l.first + l.k)) (found l.initial.moves l.initial.len l.initial.overflow) (found l.moves l.len l.overflow) l.k × (l.k ≤ 2)
+invariant-loop-k l = Walked (λ i. men_steps l.men l.empty (l.first + i)) (found l.initial.moves l.initial.len l.initial.overflow) (found l.moves l.len l.overflow) l.k × (l.k ≤ 2)
 
 abbrev pub decreases-loop-k : goal.decreases-loop-k
 decreases-loop-k l = 2 - l.k

@@ -1,0 +1,13 @@
+use Prim.Native.Nat.{◌-◌, ◌≤◌}
+use Rattle.movegen.specs.Generate.{seen}
+use Rattle.movegen.proofs.Counted.{Counting}
+use Rattle.movegen.proofs.perft.+count.Given as goal
+
+abbrev pub decreases-count : goal.decreases-count
+decreases-count l = l.depth
+
+abbrev pub invariant-loop-i : goal.invariant-loop-i
+invariant-loop-i l = (l.i ≤ l.len) × Counting (l.depth - 1) (seen l.v) l.sum l.i
+
+abbrev pub decreases-loop-i : goal.decreases-loop-i
+decreases-loop-i l = l.len - l.i
