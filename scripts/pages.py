@@ -6,8 +6,9 @@ An example is in a code block, fenced or indented by four spaces or more, and ha
                             arguments
   $ printf 'TEXT' | dame    the same, with this input and no arguments
 or it is a row of a table with a column `example` and a column `answer`, each cell one code span; there `\\|` is a bar.
-`dame` may be written `target/bin/dame`. The words of a `$` line are cut as a shell cuts them, quotes and backslashes
-included, and nothing else of a shell is understood. A `$` line with another program is no example: it is not run.
+`dame` may be written `crates/dame/out/dame`. The words of a `$` line are cut as a shell cuts them, quotes and
+backslashes included, and nothing else of a shell is understood. A `$` line with another program is no example: it is
+not run.
 """
 import os
 import re
@@ -16,7 +17,7 @@ import subprocess
 
 PAGES = ["README.md", "docs/PROTOCOL.md", "docs/REFUSALS.md", "docs/RULES.md"]
 ROOT = os.path.join(os.path.dirname(os.path.abspath(__file__)), "..")
-PROGRAM = ("dame", "target/bin/dame")
+PROGRAM = ("dame", "crates/dame/out/dame")
 
 
 class Example:

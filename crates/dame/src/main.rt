@@ -2,6 +2,6 @@
 // without arguments, each line of standard input is one.
 #![tactic(auto)]
 
-fn main() {
-    lines::serve();
+fn main(rt: HostRuntime) {
+    lines::serve(&rt);
 }

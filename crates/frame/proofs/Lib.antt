@@ -1,2 +1,3 @@
 pub mod Taking
 pub mod Joining
+pub mod Putting

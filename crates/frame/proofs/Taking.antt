@@ -5,27 +5,45 @@ use mathlib.Core.List.{List, [], ◌∷◌, ◌++◌}
 use mathlib.Core.Bool.{Bool, true, false, ◌||◌}
 use native.Mathlib.Omega.{arith}
 use native.Mathlib.Numerals.{add-one}
-use lib.IntN.{ℤ, pos, negsuc}
+use Rattle.std.specs.Prelude.{Result, Ok, Err, None, Some}
+use Rattle.core.specs.declared.option.Option.{Option}
+use Rattle.std.specs.Io.{ReadsAtMost}
+use Rattle.std.proofs.KnownBytes.{Consumes-nil, Consumes-trans, Consumes-kept}
+use Rattle.std.specs.Io.KnownBytes.{ReadConsumes, Consumes, Keeps}
 use lib.Dec.{eqb}
 use lib.ListN.{length, take, drop, set, length-set, length-drop}
-use lib.Seq.{drop-drop, take-suc-set, drop-set-lt}
+use lib.Seq.{drop-drop, take-suc-set, drop-set-lt, take-append-add, take-append-le, length-take-le}
 use borrow.Author.Tests.{ne_eqb}
-use borrow.Rule.Slice.PartMut.{put_mid, same_len_mid}
+use borrow.Rule.Slice.PartMut.{put_mid, post_of, same_len_mid, take_put}
 use Rattle.texts.specs.Bytes.{holds}
 use Rattle.texts.proofs.Cuts.{rest}
-use Rattle.frame.specs.Input.{came_of, CameIn, LineIn}
+use Rattle.frame.specs.Input.{came_of, CameIn, CameFrom, LineIn}
 use Rattle.frame.specs.declared.input.Came.{Came}
 use Rattle.frame.specs.declared.input.Came.TheVariants as came
 
 -- ---- one read
-fits : (z : ℤ) (space : ℕ) → CameIn space (came_of z space)
+fits : {E : Type 0} (got : Result ℕ E) (space : List ℕ) → ReadsAtMost got space → CameIn (length space) (came_of got)
 unfolding came_of
-fits (pos zero) space = tt
-fits (pos (suc k)) space = (omega arith, λ h. omega arith)
-fits (negsuc k) space = tt
+fits (Ok zero) space h = tt
+fits (Ok (suc k)) space h = (h.0, λ some. omega arith)
+fits (Err e) space h = tt
 
-pub came_in : (z : ℤ) (space : ℕ) (r : Came) → r ≡ came_of z space → CameIn space r
-came_in z space r e = subst (λ (x : Came). CameIn space x) (sym e) (fits z space)
+pub came_in : {E : Type 0} (got : Result ℕ E) (space : List ℕ) (r : Came) → ReadsAtMost got space → r ≡ came_of got → CameIn (length space) r
+came_in got space r h e = subst (λ (x : Came). CameIn (length space) x) (sym e) (fits got space h)
+
+nothing : (a b : Option (List ℕ)) → Consumes a b [] → Keeps a b
+nothing None b h = tt
+nothing (Some x) None h = absurd h
+nothing (Some x) (Some y) h = sym h
+
+took : {E : Type 0} (a b : Option (List ℕ)) (got : Result ℕ E) (space : List ℕ) → ReadConsumes a b got space → CameFrom a b space (came_of got)
+unfolding came_of
+took a b (Ok zero) space h = (nothing a b h.0, λ some. h.1 refl some)
+took a b (Ok (suc k)) space h = h.0
+took a b (Err e) space h = h
+
+pub came_took : {E : Type 0} (a b : Option (List ℕ)) (got : Result ℕ E) (space : List ℕ) (r : Came) → ReadConsumes a b got space → r ≡ came_of got → CameFrom a b space r
+came_took a b got space r h e = subst (λ (x : Came). CameFrom a b space x) (sym e) (took a b got space h)
 
 pub came_bytes : (space : ℕ) (r : Came) (n : ℕ) → CameIn space r → r ≡ came.Bytes n → (n ≤ space) × (0 < space → 0 < n)
 came_bytes space r n h e = subst (λ (x : Came). CameIn space x) e h
@@ -65,3 +83,34 @@ line_next {o} {new} {n} b l h e =
           ∙ lacks_more (take n new) b l.line (ne_eqb b 10 e);
       after = drop-set-lt (n + 1) new n b (omega arith) ∙ sym (drop-drop 1 n new) ∙ ap (drop 1) l.after ∙ drop-drop 1 n o;
     }
+
+-- ---- what was taken so far, where the bytes of the reader are known
+pub none_taken : (a : Option (List ℕ)) (buf : List ℕ) → Consumes a a (take 0 buf)
+none_taken a buf = Consumes-nil a
+
+module _ (a b c : Option (List ℕ)) (buf : List ℕ) (n : ℕ) (before : Consumes a b (take n buf)) where
+  -- a read into the part of the buffer from n on
+  module _ (part : List ℕ) (h : n ≤ length buf) where
+    pub taken_more : (k : ℕ) → k ≤ length part → Consumes b c (take k part) → Consumes a c (take (n + k) (put_mid n (length buf - n) buf part))
+    taken_more k fits more =
+        let post = post_of n (length buf - n) buf in
+        let e : take (n + k) (put_mid n (length buf - n) buf part) ≡ take n buf ++ take k part =
+        ap (λ (m : ℕ). take (m + k) (put_mid n (length buf - n) buf part)) (sym (length-take-le n buf h))
+        ∙ take-append-add (take n buf) (part ++ post) k
+        ∙ ap (λ (l : List ℕ). take n buf ++ l) (take-append-le k part post fits) in
+        subst (Consumes a c) (sym e) (Consumes-trans a b c (take n buf) (take k part) before more)
+
+    pub taken_same : Keeps b c → Consumes a c (take n (put_mid n (length buf - n) buf part))
+    taken_same same = subst (Consumes a c) (sym (take_put n (length buf - n) buf part h)) (Consumes-kept a b c (take n buf) before same)
+
+  -- a byte more
+  pub byte_more : (x : ℕ) → n < length buf → Consumes b c (x ∷ []) → Consumes a c (take (n + 1) (set buf n x))
+  byte_more x h more =
+      let e : take (n + 1) (set buf n x) ≡ take n buf ++ (x ∷ []) = ap (λ (k : ℕ). take k (set buf n x)) (add-one n) ∙ take-suc-set buf n x h in
+      subst (Consumes a c) (sym e) (Consumes-trans a b c (take n buf) (x ∷ []) before more)
+
+  pub feed_more : (x : ℕ) → x ≡ 10 → Consumes b c (x ∷ []) → Consumes a c (take n buf ++ (10 ∷ []))
+  feed_more x e more = Consumes-trans a b c (take n buf) (10 ∷ []) before (subst (λ (y : ℕ). Consumes b c (y ∷ [])) e more)
+
+  pub no_more : Keeps b c → Consumes a c (take n buf)
+  no_more same = Consumes-kept a b c (take n buf) before same

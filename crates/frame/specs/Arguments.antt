@@ -1,5 +1,5 @@
 -- Arguments joined by single spaces.
-use Rattle.std.specs.Prelude.{ℕ, ◌≤◌, ◌<◌, ◌≡◌, List, [], ◌∷◌, ◌++◌, Bool, true, false, length, drop}
+use Rattle.std.specs.Prelude.{ℕ, ◌≤◌, ◌<◌, ◌≡◌, List, ◌∷◌, ◌++◌, Bool, true, false, length, drop}
 use Prim.Native.Char.{code}
 use Rattle.texts.specs.Bytes.{joined}
 use Rattle.frame.specs.declared.arguments.Given.{Given}
@@ -16,6 +16,7 @@ next_word false w = code " " ∷ w
 abbrev pub WordIn : List ℕ → Word → Type 0
 WordIn s (word.Bytes n) = n ≤ length s
 WordIn s word.Long = Unit
+WordIn s word.Absent = Unit
 
 -- the new buffer starts with one or more words joined by single spaces; the bytes after them are those of the old
 -- buffer, and there is at least one

@@ -1,5 +1,7 @@
--- How a run ends.
-use Rattle.std.specs.Prelude.{Bool, true, false}
+-- How a run ends, and what a writer got.
+use Rattle.std.specs.Prelude.{ℕ, List, Bool, true, false, take}
+use Rattle.core.specs.declared.option.Option.{Option}
+use Rattle.std.specs.Io.KnownBytes.{Appends}
 use Rattle.frame.specs.declared.output.Ended.{Ended}
 use Rattle.frame.specs.declared.output.Ended.TheVariants as ended
 
@@ -13,3 +15,15 @@ abbrev pub Finished : Ended → Type 0
 Finished ended.Whole = Unit
 Finished ended.Read = ⊥
 Finished ended.Write = Unit
+
+-- what a write of out adds to the bytes that the writer holds, where those are known: all of out; where it failed, a
+-- beginning of out
+abbrev pub Put : Option (List ℕ) → Option (List ℕ) → List ℕ → Bool → Type 0
+Put old new out true = Appends old new out
+Put old new out false = (n : ℕ) × Appends old new (take n out)
+
+-- the same, by how the run ends
+abbrev pub PutAtEnd : Option (List ℕ) → Option (List ℕ) → List ℕ → Ended → Type 0
+PutAtEnd old new out ended.Whole = Put old new out true
+PutAtEnd old new out ended.Read = ⊥
+PutAtEnd old new out ended.Write = Put old new out false

@@ -2,10 +2,12 @@
 //
 // No contract says which arguments there are, since that of the library's `arg` does not. `join` only fills a buffer,
 // and its contract says which bytes it adds. Only the code shows that the words joined are the arguments, in order.
+// An argument need not be UTF-8: its bytes are passed on as they are.
 ghost use Rattle.std.specs.Prelude.{◌≡◌, length};
 ghost use Rattle.texts.specs.Lent.{Adds};
 ghost use Rattle.frame.specs.Arguments.{next_word, WordIn, GivenIn};
 
+use std::env::{Env, FillError};
 use wording::output;
 
 // The arguments: a line of so many bytes, at the start of the buffer; none; or too long, so that no byte of the
@@ -17,11 +19,12 @@ pub enum Given {
     Long,
 }
 
-// One argument: so many bytes, or too long.
+// One argument: so many bytes, or too long; or there is none of this number.
 #[derive(Clone, Copy)]
 enum Word {
     Bytes(usize),
     Long,
+    Absent,
 }
 
 // Puts a word at a place of the buffer, after a space unless it is the first word. What has no room is left out.
@@ -37,27 +40,27 @@ fn join(buf: &mut [u8], at: usize, first: bool, word: &[u8]) -> usize
 }
 
 // Puts the argument of this number at the start of the word.
-fn read_word(i: usize, word: &mut [u8]) -> Word
+fn read_word<E: Env>(rt: &E, i: usize, word: &mut [u8]) -> Word
     ensures { WordIn word.new result }
 {
-    let n = os::arg(i, word);
-    if os::errno() != 0 {
-        return Word::Long;
+    match rt.arg(i, word) {
+        Ok(n) => Word::Bytes(n),
+        Err(FillError::TooLong) => Word::Long,
+        Err(FillError::NotPresent) => Word::Absent,
     }
-    Word::Bytes(n)
 }
 
-// Puts the arguments, joined by single spaces, at the start of the buffer. The bytes after them stay.
-pub fn arguments(buf: &mut [u8]) -> Given
+// Puts the arguments, joined by single spaces, at the start of the buffer. The bytes after them stay. After as many
+// arguments as a number can count, which no system passes, they are too long.
+pub fn arguments<E: Env>(rt: &E, buf: &mut [u8]) -> Given
     ensures { GivenIn buf.old buf.new result }
 {
-    let count = os::arg_count();
     // Linux passes no argument of more bytes.
     let mut word = [0u8; 131072];
     let mut at = 0;
     let mut i = 1;
-    while i < count {
-        match read_word(i, &mut word) {
+    while i < usize::MAX {
+        match read_word(rt, i, &mut word) {
             Word::Bytes(n) => {
                 at = join(buf, at, i == 1, &word[..n]);
                 i += 1;
@@ -65,13 +68,16 @@ pub fn arguments(buf: &mut [u8]) -> Given
             Word::Long => {
                 return Given::Long;
             }
+            Word::Absent => {
+                if i == 1 {
+                    return Given::Nothing;
+                }
+                if at == buf.len() {
+                    return Given::Long;
+                }
+                return Given::Line(at);
+            }
         }
     }
-    if i == 1 {
-        return Given::Nothing;
-    }
-    if at == buf.len() {
-        return Given::Long;
-    }
-    Given::Line(at)
+    Given::Long
 }

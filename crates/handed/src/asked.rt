@@ -18,39 +18,47 @@ use positions::position::Position;
 use scores::eval;
 use scores::eval::Classical;
 use squares::{bitboard, square};
+use std::io;
 use texts::bytes::Wrote;
 use texts::{bytes, fen, hub};
 use wording::words;
 
-fn of_position(entry: u64, n: u64, p: Position, m: Move, w: Classical) {
+fn of_position(
+    rt: &impl Print,
+    entry: u64,
+    n: u64,
+    p: Position,
+    m: Move,
+    w: Classical,
+) -> io::Result<()> {
     match entry {
-        0 => show::listed(movegen::movegen::legal_moves(p, n as usize)),
-        1 => show::tested(movegen::movegen::has_captures(p)),
-        2 => show::tested(movegen::movegen::has_quiet_moves(p)),
-        3 => show::placed(movegen::movegen::after(p, m)),
-        4 => show::placed(p.flipped()),
-        5 => show::counted(perft::perft(p, given::small(n))),
-        6 => show::divided(perft::divide(p, given::small(n))),
-        7 => show::scored(eval::evaluate(p)),
-        8 => show::scored(w.evaluate(p)),
-        9 => show_games::begun(Game::from_position(p)),
-        10 => show::standing(p.piece_at(given::small(n))),
-        _ => parts(p),
+        0 => show::listed(rt, movegen::movegen::legal_moves(p, n as usize)),
+        1 => show::tested(rt, movegen::movegen::has_captures(p)),
+        2 => show::tested(rt, movegen::movegen::has_quiet_moves(p)),
+        3 => show::placed(rt, movegen::movegen::after(p, m)),
+        4 => show::placed(rt, p.flipped()),
+        5 => show::counted(rt, perft::perft(p, given::small(n))),
+        6 => show::divided(rt, perft::divide(p, given::small(n))),
+        7 => show::scored(rt, eval::evaluate(p)),
+        8 => show::scored(rt, w.evaluate(p)),
+        9 => show_games::begun(rt, Game::from_position(p)),
+        10 => show::standing(rt, p.piece_at(given::small(n))),
+        _ => parts(rt, p),
     }
 }
 
-fn parts(p: Position) {
+fn parts(rt: &impl Print, p: Position) -> io::Result<()> {
     let side = p.side;
-    show::placed(position::from_parts(p.white, p.black, p.kings, side));
+    show::placed(rt, position::from_parts(p.white, p.black, p.kings, side))
 }
 
-fn of_number(entry: u64, n: u64) {
+fn of_number(rt: &impl Print, entry: u64, n: u64) -> io::Result<()> {
     match entry {
-        0 => show::numbered(square::new(given::small(n))),
-        1 => show::numbered(square::bit(given::small(n))),
-        2 => show::numbered(square::row(given::small(n))),
-        3 => show::numbered(square::file(given::small(n))),
-        _ => show::gathered(bitboard::from_bits(n)),
+        0 => show::numbered(rt, square::new(given::small(n))),
+        1 => show::numbered(rt, square::bit(given::small(n))),
+        2 => show::numbered(rt, square::row(given::small(n))),
+        3 => show::numbered(rt, square::file(given::small(n))),
+        _ => show::gathered(rt, bitboard::from_bits(n)),
     }
 }
 
@@ -65,27 +73,35 @@ fn write_into(entry: u64, p: Position, m: Move, out: &mut [u8]) -> Wrote {
 
 // Lends the first n of these bytes, which are dots. A writer that refuses must leave every dot as it is; one that
 // writes must leave the dots after its text.
-fn lend(entry: u64, n: usize, p: Position, m: Move, dots: &mut [u8]) {
+fn lend(
+    rt: &impl Print,
+    entry: u64,
+    n: usize,
+    p: Position,
+    m: Move,
+    dots: &mut [u8],
+) -> io::Result<()> {
     if n <= dots.len() {
         let w = write_into(entry, p, m, &mut dots[..n]);
-        show::wrote(w, &dots[..n]);
+        return show::wrote(rt, w, &dots[..n]);
     }
+    Ok(())
 }
 
-fn of_space(entry: u64, n: u64, p: Position, m: Move) {
+fn of_space(rt: &impl Print, entry: u64, n: u64, p: Position, m: Move) -> io::Result<()> {
     let mut dots = [b'.'; 64];
-    lend(entry, n as usize, p, m, &mut dots);
+    lend(rt, entry, n as usize, p, m, &mut dots)
 }
 
-fn of_game(entry: u64, n: u64, g: Game, m: Move) {
+fn of_game(rt: &impl Print, entry: u64, n: u64, g: Game, m: Move) -> io::Result<()> {
     match entry {
-        0 => show_games::played(g, g.play(m)),
-        1 => show_games::judged(g.outcome()),
-        2 => show::listed(g.legal_moves(n as usize)),
-        3 => show::counted(g.repetitions()),
-        4 => show::counted(g.reversible_plies()),
-        5 => show::placed(g.position()),
-        _ => show::tested(g.is_over()),
+        0 => show_games::played(rt, g, g.play(m)),
+        1 => show_games::judged(rt, g.outcome()),
+        2 => show::listed(rt, g.legal_moves(n as usize)),
+        3 => show::counted(rt, g.repetitions()),
+        4 => show::counted(rt, g.reversible_plies()),
+        5 => show::placed(rt, g.position()),
+        _ => show::tested(rt, g.is_over()),
     }
 }
 
@@ -98,59 +114,77 @@ fn listed(s: &[u8], list: &mut [u64]) {
     }
 }
 
-fn replay(p: Position, list: &[u64], answers: &mut [u8]) {
+fn replay(rt: &impl Print, p: Position, list: &[u64], answers: &mut [u8]) -> io::Result<()> {
     let b = replays::replay(p, list, answers);
-    show_games::begun_with(b, answers);
+    show_games::begun_with(rt, b, answers)
 }
 
 // Lends the first numbers of a list of nine, and a byte for each of at most four answers. Each byte is 46 beforehand.
 fn lend_answers(
+    rt: &impl Print,
     s: &[u8],
     p: Position,
     answers: usize,
     count: usize,
     list: &mut [u64],
     lent: &mut [u8],
-) {
+) -> io::Result<()> {
     listed(s, list);
     if count <= list.len() {
         if answers <= lent.len() {
-            replay(p, &list[..count], &mut lent[..answers]);
+            return replay(rt, p, &list[..count], &mut lent[..answers]);
         }
     }
+    Ok(())
 }
 
-fn of_list(s: &[u8], p: Position, answers: u64, count: u64) {
+fn of_list(rt: &impl Print, s: &[u8], p: Position, answers: u64, count: u64) -> io::Result<()> {
     let mut list = [0u64; 9];
     let mut lent = [46u8; 4];
-    lend_answers(s, p, answers as usize, count as usize, &mut list, &mut lent);
+    lend_answers(
+        rt,
+        s,
+        p,
+        answers as usize,
+        count as usize,
+        &mut list,
+        &mut lent,
+    )
 }
 
-fn answer(s: &[u8], p: Position, m: Move, w: Classical, g: Game) {
+fn answer(
+    rt: &impl Print,
+    s: &[u8],
+    p: Position,
+    m: Move,
+    w: Classical,
+    g: Game,
+) -> io::Result<()> {
     let entry = given::number(s, 1);
     let n = given::number(s, 2);
     match given::letter(s) {
-        b'a' => of_position(entry, n, p, m, w),
-        b'b' => of_number(entry, n),
-        b'c' => of_space(entry, n, p, m),
-        b'd' => show::found(notation::notation::parse_move(p, words::word(s, 1))),
-        b'e' => of_game(entry, n, g, m),
-        b'h' => show_games::played_text(g, gametexts::game::play_str(g, words::word(s, 1))),
-        b'j' => show_games::begun(gametexts::game::from_fen(words::word(s, 1))),
-        _ => of_list(s, p, entry, n),
+        b'a' => of_position(rt, entry, n, p, m, w),
+        b'b' => of_number(rt, entry, n),
+        b'c' => of_space(rt, entry, n, p, m),
+        b'd' => show::found(rt, notation::notation::parse_move(p, words::word(s, 1))),
+        b'e' => of_game(rt, entry, n, g, m),
+        b'h' => show_games::played_text(rt, g, gametexts::game::play_str(g, words::word(s, 1))),
+        b'j' => show_games::begun(rt, gametexts::game::from_fen(words::word(s, 1))),
+        _ => of_list(rt, s, p, entry, n),
     }
 }
 
-fn line(s: &[u8], p: Position, m: Move, w: Classical, g: Game) {
+fn line(rt: &impl Print, s: &[u8], p: Position, m: Move, w: Classical, g: Game) -> io::Result<()> {
     let n = bytes::find(s, b';');
     if n < s.len() {
-        show::write(&s[n + 1..]);
-        show::write(b": ");
-        answer(s, p, m, w, g);
+        rt.write_all(&s[n + 1..])?;
+        print!(rt; ": ")?;
+        return answer(rt, s, p, m, w, g);
     }
+    Ok(())
 }
 
-pub(crate) fn lines(text: &[u8]) {
+pub(crate) fn lines(rt: &impl Print, text: &[u8]) -> io::Result<()> {
     let mut p = position::initial();
     let mut m = show::blank_move();
     let mut w = Classical::new();
@@ -165,6 +199,7 @@ pub(crate) fn lines(text: &[u8]) {
         m = given::record(m, s);
         w = given::weights(w, s);
         g = given::game(g, p, s);
-        line(s, p, m, w, g);
+        line(rt, s, p, m, w, g)?;
     }
+    Ok(())
 }

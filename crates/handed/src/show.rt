@@ -3,7 +3,6 @@
 ghost use Rattle.std.specs.Prelude.{◌≤◌};
 
 use captures::moves::MoveList;
-use libc::STDOUT_FILENO;
 use movegen::movegen::{Listed, Tested};
 use movegen::perft::{Counted, Divided};
 use notation::notation::Found;
@@ -13,158 +12,121 @@ use scores::eval::Scored;
 use squares::bitboard::Gathered;
 use squares::refusal::{Answer, Refusal};
 use squares::square::Numbered;
+use std::io;
 use texts::bytes::Wrote;
 use texts::fen;
 
-pub(crate) fn write(text: &[u8]) {
-    io::write_all(STDOUT_FILENO, text);
-}
-
-pub(crate) fn number(n: u64) {
-    io::print_decimal(STDOUT_FILENO, n);
-}
-
-// A signed number. The smallest one has no opposite, so 1 is added before the sign is changed and again after.
-fn signed(z: i32) {
-    if z < 0 {
-        write(b"-");
-        number((-(z + 1)) as u64 + 1);
-    } else {
-        number(z as u64);
-    }
-}
-
-pub(crate) fn end() {
-    write(b"\n");
-}
-
-pub(crate) fn refusal(e: Refusal) {
-    number(e.number() as u64);
-    write(b" ");
-    number(e.square() as u64);
+pub(crate) fn refusal(rt: &impl Print, e: Refusal) -> io::Result<()> {
+    print!(rt; "{} {}", e.number(), e.square())
 }
 
 // The first n bytes.
-fn part(text: &[u8], n: usize) {
+fn part(rt: &impl Print, text: &[u8], n: usize) -> io::Result<()> {
     if n <= text.len() {
-        write(&text[..n]);
+        return rt.write_all(&text[..n]);
     }
+    Ok(())
 }
 
-pub(crate) fn position(p: Position) {
+pub(crate) fn position(rt: &impl Print, p: Position) -> io::Result<()> {
     let mut text = [0u8; 200];
     match fen::fen(p, &mut text) {
-        Wrote::Length(n) => part(&text, n),
-        Wrote::Refused(e) => refusal(e),
+        Wrote::Length(n) => part(rt, &text, n)?,
+        Wrote::Refused(e) => refusal(rt, e)?,
     }
-    write(b" ");
-    io::print_hex(STDOUT_FILENO, p.hash, 16);
+    print!(rt; " {:016x}", p.hash)
 }
 
-pub(crate) fn answer(a: Answer) {
+pub(crate) fn answer(rt: &impl Print, a: Answer) -> io::Result<()> {
     match a {
-        Answer::Done => write(b"done"),
-        Answer::Refused(e) => refusal(e),
+        Answer::Done => print!(rt; "done"),
+        Answer::Refused(e) => refusal(rt, e),
     }
 }
 
-pub(crate) fn place(p: Placed) {
+pub(crate) fn place(rt: &impl Print, p: Placed) -> io::Result<()> {
     match p {
-        Placed::Position(q) => position(q),
-        Placed::Refused(e) => refusal(e),
+        Placed::Position(q) => position(rt, q),
+        Placed::Refused(e) => refusal(rt, e),
     }
 }
 
-pub(crate) fn placed(p: Placed) {
-    place(p);
-    end();
+pub(crate) fn placed(rt: &impl Print, p: Placed) -> io::Result<()> {
+    place(rt, p)?;
+    println!(rt)
 }
 
-pub(crate) fn tested(t: Tested) {
+pub(crate) fn tested(rt: &impl Print, t: Tested) -> io::Result<()> {
     match t {
-        Tested::Is(yes) => {
-            if yes {
-                write(b"yes");
-            } else {
-                write(b"no");
-            }
-        }
-        Tested::Refused(e) => refusal(e),
+        Tested::Is(yes) => print!(rt; "{}", if yes { "yes" } else { "no" })?,
+        Tested::Refused(e) => refusal(rt, e)?,
     }
-    end();
+    println!(rt)
 }
 
-pub(crate) fn counted(c: Counted) {
+pub(crate) fn counted(rt: &impl Print, c: Counted) -> io::Result<()> {
     match c {
-        Counted::Count(n) => number(n),
-        Counted::Refused(e) => refusal(e),
+        Counted::Count(n) => print!(rt; "{n}")?,
+        Counted::Refused(e) => refusal(rt, e)?,
     }
-    end();
+    println!(rt)
 }
 
-pub(crate) fn scored(s: Scored) {
+pub(crate) fn scored(rt: &impl Print, s: Scored) -> io::Result<()> {
     match s {
-        Scored::Score(z) => signed(z),
-        Scored::Refused(e) => refusal(e),
+        Scored::Score(z) => print!(rt; "{z}")?,
+        Scored::Refused(e) => refusal(rt, e)?,
     }
-    end();
+    println!(rt)
 }
 
-pub(crate) fn numbered(n: Numbered) {
+pub(crate) fn numbered(rt: &impl Print, n: Numbered) -> io::Result<()> {
     match n {
-        Numbered::Number(k) => number(k as u64),
-        Numbered::Refused(e) => refusal(e),
+        Numbered::Number(k) => print!(rt; "{k}")?,
+        Numbered::Refused(e) => refusal(rt, e)?,
     }
-    end();
+    println!(rt)
 }
 
-pub(crate) fn standing(s: Standing) {
+pub(crate) fn standing(rt: &impl Print, s: Standing) -> io::Result<()> {
     match s {
-        Standing::Piece(_) => write(b"a piece"),
-        Standing::Nothing => write(b"nothing"),
-        Standing::Refused(e) => refusal(e),
+        Standing::Piece(_) => print!(rt; "a piece")?,
+        Standing::Nothing => print!(rt; "nothing")?,
+        Standing::Refused(e) => refusal(rt, e)?,
     }
-    end();
+    println!(rt)
 }
 
-pub(crate) fn gathered(g: Gathered) {
+pub(crate) fn gathered(rt: &impl Print, g: Gathered) -> io::Result<()> {
     match g {
-        Gathered::Set(set) => number(set),
-        Gathered::Refused(e) => refusal(e),
+        Gathered::Set(set) => print!(rt; "{set}")?,
+        Gathered::Refused(e) => refusal(rt, e)?,
     }
-    end();
+    println!(rt)
 }
 
 // The first square, the last square, and the set taken as a number.
-pub(crate) fn record(m: Move) {
-    number(m.from as u64);
-    write(b" ");
-    number(m.to as u64);
-    write(b" ");
-    number(m.captured);
+pub(crate) fn record(rt: &impl Print, m: Move) -> io::Result<()> {
+    print!(rt; "{} {} {}", m.from, m.to, m.captured)
 }
 
-pub(crate) fn found(f: Found) {
+pub(crate) fn found(rt: &impl Print, f: Found) -> io::Result<()> {
     match f {
-        Found::Move(m) => record(m),
-        Found::Refused(e) => refusal(e),
+        Found::Move(m) => record(rt, m)?,
+        Found::Refused(e) => refusal(rt, e)?,
     }
-    end();
+    println!(rt)
 }
 
 // The answer of a writer, then the lent bytes as they are after it.
-pub(crate) fn wrote(w: Wrote, out: &[u8]) {
+pub(crate) fn wrote(rt: &impl Print, w: Wrote, out: &[u8]) -> io::Result<()> {
     match w {
-        Wrote::Length(n) => {
-            write(b"length ");
-            number(n as u64);
-        }
-        Wrote::Refused(e) => refusal(e),
+        Wrote::Length(n) => print!(rt; "length {n}")?,
+        Wrote::Refused(e) => refusal(rt, e)?,
     }
-    write(b" [");
-    write(out);
-    write(b"]");
-    end();
+    print!(rt; " [")?;
+    rt.write_all(out)?;
+    println!(rt; "]")
 }
 
 // 1 or 0, so that counting needs no branch.
@@ -207,30 +169,23 @@ fn zeros(counts: [u64; 256]) -> u64 {
     n
 }
 
-fn list(l: MoveList) {
-    write(b", ");
-    number(l.len as u64);
-    write(b" moves, ");
-    number(blank_moves(l));
-    write(b" blank");
+fn list(rt: &impl Print, l: MoveList) -> io::Result<()> {
+    print!(rt; ", {} moves, {} blank", l.len, blank_moves(l))
 }
 
-pub(crate) fn listed(l: Listed) {
+pub(crate) fn listed(rt: &impl Print, l: Listed) -> io::Result<()> {
     let told = l.answer;
     let moves = l.list;
-    answer(told);
-    list(moves);
-    end();
+    answer(rt, told)?;
+    list(rt, moves)?;
+    println!(rt)
 }
 
-pub(crate) fn divided(d: Divided) {
+pub(crate) fn divided(rt: &impl Print, d: Divided) -> io::Result<()> {
     let told = d.answer;
     let moves = d.list;
     let counts = d.counts;
-    answer(told);
-    list(moves);
-    write(b", ");
-    number(zeros(counts));
-    write(b" counts 0");
-    end();
+    answer(rt, told)?;
+    list(rt, moves)?;
+    println!(rt; ", {} counts 0", zeros(counts))
 }

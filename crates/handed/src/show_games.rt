@@ -8,6 +8,7 @@ use positions::position;
 use positions::position::Position;
 use squares::piece::Color;
 use squares::refusal::Answer;
+use std::io;
 
 pub(crate) fn blank_game() -> Game {
     let b = Game::from_position(position::initial());
@@ -59,106 +60,93 @@ fn same(g: Game, h: Game) -> bool {
     same_entries(g, h) & (counters & (g.len == h.len))
 }
 
-fn game(g: Game) {
-    write_numbers(g.len, g.reversible, g.material);
-    show::write(b", ");
-    show::number(blank_positions(g));
-    show::write(b" blank");
+fn game(rt: &impl Print, g: Game) -> io::Result<()> {
+    write_numbers(rt, g.len, g.reversible, g.material)?;
+    print!(rt; ", {} blank", blank_positions(g))
 }
 
-fn write_numbers(len: usize, reversible: u32, material: u32) {
-    show::write(b", kept ");
-    show::number(len as u64);
-    show::write(b", counters ");
-    show::number(reversible as u64);
-    show::write(b" ");
-    show::number(material as u64);
+fn write_numbers(rt: &impl Print, len: usize, reversible: u32, material: u32) -> io::Result<()> {
+    print!(rt; ", kept {len}, counters {reversible} {material}")
 }
 
-fn answered(b: Begun) {
+fn answered(rt: &impl Print, b: Begun) -> io::Result<()> {
     let told = b.answer;
     let g = b.game;
-    show::answer(told);
-    game(g);
+    show::answer(rt, told)?;
+    game(rt, g)
 }
 
-pub(crate) fn begun(b: Begun) {
-    answered(b);
-    show::end();
+pub(crate) fn begun(rt: &impl Print, b: Begun) -> io::Result<()> {
+    answered(rt, b)?;
+    println!(rt)
 }
 
-fn wide(code: u8) -> u64 {
-    code as u64
-}
-
-fn codes(answers: &[u8]) {
-    let mut i: usize = 0;
-    while i < answers.len() {
-        show::write(b" ");
-        show::number(wide(answers[i]));
-        i += 1;
+fn codes(rt: &impl Print, answers: &[u8]) -> io::Result<()> {
+    for code in answers {
+        print!(rt; " {code}")?;
     }
+    Ok(())
 }
 
 // The game, then the lent answers as they are after the call.
-pub(crate) fn begun_with(b: Begun, answers: &[u8]) {
-    answered(b);
-    show::write(b", answers");
-    codes(answers);
-    show::end();
+pub(crate) fn begun_with(rt: &impl Print, b: Begun, answers: &[u8]) -> io::Result<()> {
+    answered(rt, b)?;
+    print!(rt; ", answers")?;
+    codes(rt, answers)?;
+    println!(rt)
 }
 
-fn after_play(came: Game, told: Answer, g: Game) {
-    show::answer(told);
-    game(g);
+fn after_play(rt: &impl Print, came: Game, told: Answer, g: Game) -> io::Result<()> {
+    show::answer(rt, told)?;
+    game(rt, g)?;
     if same(came, g) {
-        show::write(b", as it came");
+        print!(rt; ", as it came")
     } else {
-        show::write(b", ");
-        show::place(g.position());
+        print!(rt; ", ")?;
+        show::place(rt, g.position())
     }
 }
 
-pub(crate) fn played(came: Game, r: Played) {
+pub(crate) fn played(rt: &impl Print, came: Game, r: Played) -> io::Result<()> {
     let told = r.answer;
     let g = r.game;
-    after_play(came, told, g);
-    show::end();
+    after_play(rt, came, told, g)?;
+    println!(rt)
 }
 
 // The same, then the move handed back.
-pub(crate) fn played_text(came: Game, r: PlayedText) {
+pub(crate) fn played_text(rt: &impl Print, came: Game, r: PlayedText) -> io::Result<()> {
     let told = r.answer;
     let g = r.game;
     let m = r.mv;
-    after_play(came, told, g);
-    show::write(b", move ");
-    show::record(m);
-    show::end();
+    after_play(rt, came, told, g)?;
+    print!(rt; ", move ")?;
+    show::record(rt, m)?;
+    println!(rt)
 }
 
-fn termination(t: Termination) {
+fn termination(rt: &impl Print, t: Termination) -> io::Result<()> {
     match t {
-        Termination::NoMoves => show::write(b" no moves"),
-        Termination::Repetition => show::write(b" repetition"),
-        Termination::TwentyFiveMoves => show::write(b" 25 moves"),
-        Termination::SixteenMoves => show::write(b" 16 moves"),
-        Termination::FiveMoves => show::write(b" 5 moves"),
+        Termination::NoMoves => print!(rt; " no moves"),
+        Termination::Repetition => print!(rt; " repetition"),
+        Termination::TwentyFiveMoves => print!(rt; " 25 moves"),
+        Termination::SixteenMoves => print!(rt; " 16 moves"),
+        Termination::FiveMoves => print!(rt; " 5 moves"),
     }
 }
 
-fn outcome(o: Outcome) {
+fn outcome(rt: &impl Print, o: Outcome) -> io::Result<()> {
     let text = o.result();
     let why = o.termination;
-    show::write(&text);
-    termination(why);
+    rt.write_all(&text)?;
+    termination(rt, why)
 }
 
-pub(crate) fn judged(j: Judged) {
+pub(crate) fn judged(rt: &impl Print, j: Judged) -> io::Result<()> {
     match j {
-        Judged::Outcome(o) => outcome(o),
-        Judged::Going => show::write(b"going"),
-        Judged::Refused(e) => show::refusal(e),
+        Judged::Outcome(o) => outcome(rt, o)?,
+        Judged::Going => print!(rt; "going")?,
+        Judged::Refused(e) => show::refusal(rt, e)?,
     }
-    show::end();
+    println!(rt)
 }

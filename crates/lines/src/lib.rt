@@ -29,6 +29,9 @@ use frame::input::Came;
 use frame::output::Ended;
 use frame::{arguments, input, output};
 use requests::requests as asked;
+use std::env::Env;
+use std::io;
+use std::io::{Input, Read, Write};
 use texts::bytes;
 use wording::words;
 
@@ -128,16 +131,16 @@ fn carry(buf: &mut [u8], used: usize, full: usize) -> usize
 }
 
 // Reads once, into the buffer after the bytes that were carried over. Those stay.
-fn read_more(buf: &mut [u8], have: usize) -> Came
+fn read_more<R: Read>(from: &mut R, buf: &mut [u8], have: usize) -> Came
     requires { have < length buf.old }
     ensures came_in { CameIn (length buf.new - have) result }
     ensures buf_unchanged { take have buf.new ≡ take have buf.old }
 {
-    input::read_once(&mut buf[have..])
+    input::read_once(from, &mut buf[have..])
 }
 
 // Writes the answers to the whole lines of s. It stops at the first write that fails.
-fn write_answers(s: &[u8], out: &mut [u8]) -> Sent
+fn write_answers<W: Write>(to: &mut W, s: &[u8], out: &mut [u8]) -> Sent
     requires { answer_room ≤ length out.old }
     ensures { SentOf s.now result }
 {
@@ -145,7 +148,7 @@ fn write_answers(s: &[u8], out: &mut [u8]) -> Sent
     let mut t = answer_lines(s, 0, out);
     while at < t.at {
         let put = t.put;
-        if output::write(&out[..put]) {
+        if output::write(to, &out[..put]) {
             at = t.at;
             t = answer_lines(s, at, out);
         } else {
@@ -156,25 +159,25 @@ fn write_answers(s: &[u8], out: &mut [u8]) -> Sent
 }
 
 // At the end of the input: writes the answer to the last line, which has no line feed, if there is such a line.
-fn write_last(line: &[u8], out: &mut [u8]) -> Ended
+fn write_last<W: Write>(to: &mut W, line: &[u8], out: &mut [u8]) -> Ended
     requires { answer_room ≤ length out.old }
 {
     let put = last_answer(line, out);
-    output::finish(&out[..put])
+    output::finish(to, &out[..put])
 }
 
 // Each turn reads once and answers the lines that are whole then. After a read or a write that fails, nothing more is
 // answered or written. After u64::MAX turns, which no run reaches, it ends as if a read had failed.
-fn feed(buf: &mut [u8], out: &mut [u8]) -> Ended
+fn feed<R: Read, W: Write>(from: &mut R, to: &mut W, buf: &mut [u8], out: &mut [u8]) -> Ended
     requires { (longest + 1 < length buf.old) × (answer_room ≤ length out.old) }
 {
     let mut have = 0;
     let mut turns = u64::MAX;
     while turns > 0 {
-        match read_more(buf, have) {
+        match read_more(from, buf, have) {
             Came::Bytes(n) => {
                 let full = have + n;
-                match write_answers(&buf[..full], out) {
+                match write_answers(to, &buf[..full], out) {
                     Sent::Whole(used) => {
                         have = carry(buf, used, full);
                         turns -= 1;
@@ -185,7 +188,7 @@ fn feed(buf: &mut [u8], out: &mut [u8]) -> Ended
                 }
             }
             Came::End => {
-                return write_last(&buf[..have], out);
+                return write_last(to, &buf[..have], out);
             }
             Came::Failed => {
                 return Ended::Read;
@@ -209,31 +212,43 @@ fn given_answer(line: &[u8], out: &mut [u8]) -> usize
 }
 
 // Writes the answer to the arguments, given as one line. Standard input is not read.
-fn answer_given(line: &[u8], out: &mut [u8]) -> Ended
+fn answer_given<W: Write>(to: &mut W, line: &[u8], out: &mut [u8]) -> Ended
     requires { answer_room ≤ length out.old }
 {
     let put = given_answer(line, out);
-    output::finish(&out[..put])
+    output::finish(to, &out[..put])
 }
 
 // Answers the arguments, or standard input where there are none. The buffer `line` has one byte more than the longest
 // line. So arguments that leave no byte of it free are a line that is too long, and so is the whole buffer: all lines
 // that are too long have one answer (law `given_long`).
-fn run(line: &mut [u8], buf: &mut [u8], out: &mut [u8]) -> Ended
+fn run<E: Env, R: Read, W: Write>(
+    rt: &E,
+    from: &mut R,
+    to: &mut W,
+    line: &mut [u8],
+    buf: &mut [u8],
+    out: &mut [u8],
+) -> Ended
     requires { (longest + 1 < length buf.old) × (answer_room ≤ length out.old) }
 {
-    match arguments::arguments(line) {
-        Given::Line(n) => answer_given(&line[..n], out),
-        Given::Nothing => feed(buf, out),
-        Given::Long => answer_given(line, out),
+    match arguments::arguments(rt, line) {
+        Given::Line(n) => answer_given(to, &line[..n], out),
+        Given::Nothing => feed(from, to, buf, out),
+        Given::Long => answer_given(to, line, out),
     }
 }
 
 // The whole program. It ends with the input, or at the first read or write that fails, and reports that on standard
 // error.
-pub fn serve() {
+pub fn serve<R: Env + Input + Print + Eprint>(rt: &R) {
     let mut line = [0u8; 65537];
     let mut buf = [0u8; 131072];
     let mut out = [0u8; 1572864];
-    output::report(run(&mut line, &mut buf, &mut out));
+    let mut from = rt.reader();
+    let mut to = io::writer(rt);
+    output::report(
+        rt,
+        run(rt, &mut from, &mut to, &mut line, &mut buf, &mut out),
+    );
 }

@@ -12,6 +12,7 @@ pub mod Rising
 pub mod Lengths
 pub mod Numbers
 pub mod Shifts
+pub mod Steps
 pub mod OneBit
 pub mod Keys
 pub mod Characters

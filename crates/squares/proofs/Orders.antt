@@ -9,7 +9,6 @@ use Rattle.squares.specs.declared.piece.Color.{Color}
 use Rattle.squares.specs.declared.piece.Color.TheVariants.{White, Black}
 use Rattle.squares.specs.declared.piece.Known.{Known}
 use Rattle.squares.specs.declared.piece.Known.TheVariants as known
-use Rattle.squares.specs.declared.piece.Piece.{Piece}
 use Rattle.squares.specs.declared.piece.PieceKind.{PieceKind}
 use Rattle.squares.specs.declared.piece.PieceKind.TheVariants.{Man, King}
 use Rattle.squares.specs.declared.piece.Sided.TheVariants as sided

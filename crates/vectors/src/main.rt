@@ -3,72 +3,69 @@
 // scripts/vectors makes from published vectors and from the answers of the Rust.
 #![tactic(auto)]
 
-use libc::STDOUT_FILENO;
 use squares::piece::{Color, PieceKind};
 use squares::square::Numbered;
 use squares::{square, zobrist};
+use std::io;
 
-fn hex_line(n: u64) {
-    io::print_hex(STDOUT_FILENO, n, 16);
-    io::write_all(STDOUT_FILENO, b"\n");
+fn hex_line(rt: &impl Print, n: u64) -> io::Result<()> {
+    println!(rt; "{n:016x}")
 }
 
 // The first outputs from a start value.
-fn draws(start: u64, count: u32) {
+fn draws(rt: &impl Print, start: u64, count: u32) -> io::Result<()> {
     let mut state = start;
     for _ in 0..count {
         let drawn = zobrist::splitmix64(state);
-        hex_line(drawn.output);
+        hex_line(rt, drawn.output)?;
         state = drawn.state;
     }
+    Ok(())
 }
 
 // The keys of one kind of piece, square by square.
-fn keys(color: Color, kind: PieceKind) {
+fn keys(rt: &impl Print, color: Color, kind: PieceKind) -> io::Result<()> {
     for n in 1..=50 {
-        hex_line(zobrist::piece_key(color, kind, n));
+        hex_line(rt, zobrist::piece_key(color, kind, n))?;
     }
+    Ok(())
 }
 
 // A number, or `!` and the refusal's number.
-fn show(n: Numbered) {
+fn show(rt: &impl Print, n: Numbered) -> io::Result<()> {
     match n {
-        Numbered::Number(x) => {
-            io::print_decimal(STDOUT_FILENO, x as u64);
-        }
-        Numbered::Refused(e) => {
-            io::write_all(STDOUT_FILENO, b"!");
-            io::print_decimal(STDOUT_FILENO, e.number() as u64);
-        }
+        Numbered::Number(x) => print!(rt; "{x}"),
+        Numbered::Refused(e) => print!(rt; "!{}", e.number()),
     }
 }
 
 // Number, bit, row and file.
-fn square_line(n: u32) {
-    show(square::new(n));
-    io::write_all(STDOUT_FILENO, b" ");
-    show(square::bit(n));
-    io::write_all(STDOUT_FILENO, b" ");
-    show(square::row(n));
-    io::write_all(STDOUT_FILENO, b" ");
-    show(square::file(n));
-    io::write_all(STDOUT_FILENO, b"\n");
+fn square_line(rt: &impl Print, n: u32) -> io::Result<()> {
+    show(rt, square::new(n))?;
+    print!(rt; " ")?;
+    show(rt, square::bit(n))?;
+    print!(rt; " ")?;
+    show(rt, square::row(n))?;
+    print!(rt; " ")?;
+    show(rt, square::file(n))?;
+    println!(rt)
 }
 
 // Every square, and the numbers 0 and 51, which are no squares.
-fn square_lines() {
+fn square_lines(rt: &impl Print) -> io::Result<()> {
     for n in 0..=51 {
-        square_line(n);
+        square_line(rt, n)?;
     }
+    Ok(())
 }
 
-fn main() {
-    draws(0, 4);
-    draws(1234567, 2);
-    keys(Color::White, PieceKind::Man);
-    keys(Color::Black, PieceKind::Man);
-    keys(Color::White, PieceKind::King);
-    keys(Color::Black, PieceKind::King);
-    hex_line(zobrist::side_key());
-    square_lines();
+fn main(rt: HostRuntime) -> io::Result<()> {
+    draws(&rt, 0, 4)?;
+    draws(&rt, 1234567, 2)?;
+    keys(&rt, Color::White, PieceKind::Man)?;
+    keys(&rt, Color::Black, PieceKind::Man)?;
+    keys(&rt, Color::White, PieceKind::King)?;
+    keys(&rt, Color::Black, PieceKind::King)?;
+    hex_line(&rt, zobrist::side_key())?;
+    square_lines(&rt)
 }

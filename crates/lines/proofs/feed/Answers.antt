@@ -24,18 +24,18 @@ sent_fits : (s : List ℕ) (r : Sent) (n : ℕ) → SentOf s r → r ≡ sent.Wh
 sent_fits s r n h e = subst (λ (x : Sent). SentOf s x) e h
 
 pub overflow_add-full : goal.overflow_add-full
-overflow_add-full c = omega (arith, came_fits _ _ _ c.read_more.ensures.came_in c.in-Bytes.is)
+overflow_add-full g c = omega (arith, came_fits _ _ _ c.read_more.ensures.came_in c.in-Bytes.is)
 
 pub slice_bounds-write_answers-end : goal.slice_bounds-write_answers-end
-slice_bounds-write_answers-end c = omega (arith, came_fits _ _ _ c.read_more.ensures.came_in c.in-Bytes.is)
+slice_bounds-write_answers-end g c = omega (arith, came_fits _ _ _ c.read_more.ensures.came_in c.in-Bytes.is)
 
 pub slice_bounds-write_answers-end-in-Bytes : goal.slice_bounds-write_answers-end-in-Bytes
-slice_bounds-write_answers-end-in-Bytes c =
-    sym (length-take-le _ _ (omega (arith, came_fits _ _ _ c.before.before.before.before.before.before.read_more.ensures.0 c.before.before.n.given.1)))
+slice_bounds-write_answers-end-in-Bytes g c =
+    sym (length-take-le _ _ (omega (arith, came_fits _ _ _ c.read_more.ensures.came_in c.in-Bytes.is)))
 
 pub carry-have-requires : goal.carry-have-requires
-carry-have-requires c =
-    (omega (arith, came_fits _ _ _ c.before.before.before.before.before.before.before.before.before.before.before.before.before.before.read_more.ensures.0 c.before.before.before.before.before.before.before.before.before.before.n.given.1), (sent_fits _ _ _ c.write_answers.ensures c.in-Whole.is).1)
+carry-have-requires g c =
+    record { full_in_bounds = omega (arith, came_fits _ _ _ c.read_more.ensures.came_in c.in-Bytes.is); used_value = (sent_fits _ _ _ c.write_answers.ensures c.in-Whole.is).1 }
 
 pub slice_bounds-write_last-end-in-End : goal.slice_bounds-write_last-end-in-End
-slice_bounds-write_last-end-in-End c = sym (length-take-le _ _ (omega arith))
+slice_bounds-write_last-end-in-End g c = sym (length-take-le _ _ (omega arith))

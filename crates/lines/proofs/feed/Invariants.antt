@@ -18,7 +18,7 @@ use native.Mathlib.Omega.{arith}
 use Rattle.lines.proofs.feed.Given as goal
 
 abbrev pub invariant-loop-turns : goal.invariant-loop-turns
-invariant-loop-turns l = (l.have ≤ longest + 1) × (length l.buf ≡ length l.initial.buf) × (length l.out ≡ length l.initial.out) × (longest + 1 < length l.buf) × (answer_room ≤ length l.out)
+invariant-loop-turns g l = (l.have ≤ longest + 1) × (length l.buf ≡ length l.initial.buf) × (length l.out ≡ length l.initial.out) × (longest + 1 < length l.buf) × (answer_room ≤ length l.out)
 
 abbrev pub decreases-loop-turns : goal.decreases-loop-turns
-decreases-loop-turns l = l.turns
+decreases-loop-turns g l = l.turns

@@ -11,10 +11,10 @@ returns-then-same c =
     let line = c.args.line.now in
     let e = sym c.same.ensures ∙ c.if-same.true in
     let s = starts (omega (arith, laws.help_short)) c.help.ensures in
-    (s.fits, s.text ∙ laws.given_help line e)
+    record { upper_bound = s.fits; out_after = s.text ∙ laws.given_help line e }
 
 pub returns : goal.returns
 returns c =
     let line = c.args.line.now in
     let e = sym c.same.ensures ∙ c.if-same.false in
-    (c.answer_at.ensures.upper_bound, c.answer_at.ensures.out_after ∙ laws.given_line line e)
+    record { upper_bound = c.answer_at.ensures.upper_bound; out_after = c.answer_at.ensures.out_after ∙ laws.given_line line e }

@@ -6,8 +6,8 @@ use native.Mathlib.Omega.{arith}
 use Rattle.lines.proofs.last_answer.Goals as goal
 
 pub returns-then-line-eq0 : goal.returns-then-line-eq0
-returns-then-line-eq0 c = (omega arith, laws.last_none c.args.line.now c.if-line-eq0.true)
+returns-then-line-eq0 c = record { upper_bound = omega arith; out_after = laws.last_none c.args.line.now c.if-line-eq0.true }
 
 pub returns : goal.returns
 returns c =
-    (c.answer_at.ensures.upper_bound, c.answer_at.ensures.out_after ∙ laws.last_some c.args.line.now c.if-line-eq0.false)
+    record { upper_bound = c.answer_at.ensures.upper_bound; out_after = c.answer_at.ensures.out_after ∙ laws.last_some c.args.line.now c.if-line-eq0.false }

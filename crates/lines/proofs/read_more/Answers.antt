@@ -10,8 +10,8 @@ use native.Mathlib.Omega.{arith}
 use Rattle.lines.proofs.read_more.Goals as goal
 
 pub returns : goal.returns
-returns c =
+returns g c =
     let buf = c.args.buf.now in
-    let s = laws.same_buffer buf c.read_once.new.0 c.args.have (omega arith) c.read_once.auto.0 in
-    let l = laws.part_length buf c.read_once.new.0 c.args.have (omega arith) c.read_once.auto.0 in
-    (subst (λ (n : ℕ). CameIn n c.read_once.result) (l ∙ ap (λ (n : ℕ). n - c.args.have) (sym s)) c.read_once.ensures, take_put c.args.have (length buf - c.args.have) buf c.read_once.new.0 (omega arith))
+    let s = laws.same_buffer buf c.read_once.new.space c.args.have (omega arith) c.read_once.auto.space in
+    let l = laws.part_length buf c.read_once.new.space c.args.have (omega arith) c.read_once.auto.space in
+    record { came_in = subst (λ (n : ℕ). CameIn n c.read_once.result) (l ∙ ap (λ (n : ℕ). n - c.args.have) (sym s)) c.read_once.ensures; buf_unchanged = take_put c.args.have (length buf - c.args.have) buf c.read_once.new.space (omega arith) }

@@ -7,9 +7,9 @@ use native.Mathlib.Omega.{arith}
 use Rattle.lines.proofs.run.Goals as goal
 
 pub slice_bounds-answer_given-end : goal.slice_bounds-answer_given-end
-slice_bounds-answer_given-end c =
-    omega (arith, (laws.given_line _ _ _ _ c.arguments.ensures c.in-Line.is).free, c.arguments.auto.0)
+slice_bounds-answer_given-end g c =
+    omega (arith, (laws.given_line _ _ _ _ c.arguments.ensures c.in-Line.is).free, c.arguments.auto.buf)
 
 pub slice_bounds-answer_given-end-in-Line : goal.slice_bounds-answer_given-end-in-Line
-slice_bounds-answer_given-end-in-Line c =
-    let f = c.before.before.before.before.before.before.arguments in sym (length-take-le _ _ (omega (arith, (laws.given_line _ _ _ _ f.ensures c.before.before.n.given.1).free, f.auto.0)))
+slice_bounds-answer_given-end-in-Line g c =
+    sym (length-take-le _ _ (omega (arith, (laws.given_line _ _ _ _ c.arguments.ensures c.in-Line.is).free, c.arguments.auto.buf)))

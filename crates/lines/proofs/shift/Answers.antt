@@ -13,15 +13,14 @@ loop-i-init c =
     (search rules, search rules, search rules, refl, rw z, refl)
 
 pub loop-i-preserved : goal.loop-i-preserved
-loop-i-preserved c =
-    (
-      search rules,
-      search rules,
-      simp length-set (omega arith),
-      simp length-set (omega arith),
-      laws.moved c.loop-i.buf c.args.buf.now c.args.used c.loop-i.i (omega arith) (omega arith) c.loop-i.invariant.3 c.loop-i.invariant.5 c.loop-i.invariant.4,
-      laws.left c.loop-i.buf c.args.buf.now c.args.used c.loop-i.i (omega arith) (omega arith) c.loop-i.invariant.3 c.loop-i.invariant.5,
-    )
+loop-i-preserved c = (
+  search rules,
+  search rules,
+  simp length-set (omega arith),
+  simp length-set (omega arith),
+  laws.moved c.loop-i.buf c.args.buf.now c.args.used c.loop-i.i (omega arith) (omega arith) c.loop-i.invariant.3 c.loop-i.invariant.5 c.loop-i.invariant.4,
+  laws.left c.loop-i.buf c.args.buf.now c.args.used c.loop-i.i (omega arith) (omega arith) c.loop-i.invariant.3 c.loop-i.invariant.5,
+)
 
 pub returns : goal.returns
 returns c =

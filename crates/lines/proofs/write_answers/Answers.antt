@@ -13,14 +13,14 @@ use native.Mathlib.Omega.{arith}
 use Rattle.lines.proofs.write_answers.Goals as goal
 
 pub loop-at-init : goal.loop-at-init
-loop-at-init c = (search rules, whole_nil, c.answer_lines-t.ensures)
+loop-at-init g c = (search rules, whole_nil, c.answer_lines-t.ensures)
 
 pub slice_bounds-write-end-in-loop-at : goal.slice_bounds-write-end-in-loop-at
-slice_bounds-write-end-in-loop-at c = sym (length-take-le _ _ (omega arith))
+slice_bounds-write-end-in-loop-at g c = sym (length-take-le _ _ (omega arith))
 
 pub loop-at-preserved : goal.loop-at-preserved
-loop-at-preserved c =
-    let l = c.before.before.before.before.before.before.before.before.before.loop in (search rules, laws.onward_whole answer_of l.invariant.1 l.invariant.2, c.answer_lines-t-then-write.ensures)
+loop-at-preserved g c =
+    (search rules, laws.onward_whole answer_of c.loop-at.invariant.1 c.loop-at.invariant.2, c.answer_lines-t-then-write.ensures)
 
 pub returns : goal.returns
-returns c = (omega arith, laws.all_whole answer_of c.loop-at.invariant.1 c.loop-at.invariant.2 (omega arith))
+returns g c = (omega arith, laws.all_whole answer_of c.loop-at.invariant.1 c.loop-at.invariant.2 (omega arith))

@@ -13,7 +13,7 @@ use native.Mathlib.Omega.{arith}
 use Rattle.lines.proofs.write_answers.Given as goal
 
 abbrev pub invariant-loop-at : goal.invariant-loop-at
-invariant-loop-at l = (length l.out ≡ length l.initial.out) × (whole_of (take l.at l.s) ≡ l.at) × Answered answer_of l.s l.at l.out l.t.at l.t.put
+invariant-loop-at g l = (length l.out ≡ length l.initial.out) × (whole_of (take l.at l.s) ≡ l.at) × Answered answer_of l.s l.at l.out l.t.at l.t.put
 
 abbrev pub decreases-loop-at : goal.decreases-loop-at
-decreases-loop-at l = length l.s - l.at
+decreases-loop-at g l = length l.s - l.at

@@ -6,4 +6,4 @@ use native.Mathlib.Omega.{arith}
 use Rattle.lines.proofs.write_last.Goals as goal
 
 pub slice_bounds-finish-end-2 : goal.slice_bounds-finish-end-2
-slice_bounds-finish-end-2 c = sym (length-take-le _ _ (omega arith))
+slice_bounds-finish-end-2 g c = sym (length-take-le _ _ (omega arith))

@@ -1,15 +1,12 @@
 -- Word by word: what was put so far is the words so far, joined.
-use mathlib.Core.Path.{◌≡◌, refl, sym}
-use Prim.Native.Nat.{ℕ, ◌-◌, ◌≤◌}
-use lib.ListN.{length, length-replicate}
-use lib.Seq.{length-take-le}
+use mathlib.Core.Path.{◌≡◌}
+use Prim.Native.Nat.{◌-◌, ◌≤◌, ◌^◌}
+use lib.ListN.{length}
 use Rattle.frame.proofs.Joining as laws
-use borrow.Author.Rules.{rules}
-use native.Mathlib.Omega.{arith}
 use Rattle.frame.proofs.arguments.arguments.Given as goal
 
 abbrev pub invariant-loop-i : goal.invariant-loop-i
-invariant-loop-i l = (1 ≤ l.i) × (length l.buf ≡ length l.initial.buf) × (length l.word ≡ 131072) × laws.Joining l.initial.buf l.buf l.at l.i
+invariant-loop-i g l = (1 ≤ l.i) × (length l.buf ≡ length l.initial.buf) × (length l.word ≡ 131072) × laws.Joining l.initial.buf l.buf l.at l.i
 
 abbrev pub decreases-loop-i : goal.decreases-loop-i
-decreases-loop-i l = l.count - l.i
+decreases-loop-i g l = 2 ^ 64 - l.i

@@ -3,8 +3,6 @@ use mathlib.Core.Path.{ap, sym}
 use mathlib.Core.Bool.{Bool}
 use Rattle.texts.proofs.Pieces as laws
 use Rattle.frame.specs.Arguments.{next_word}
-use borrow.Author.Rules.{rules}
-use native.Mathlib.Omega.{arith}
 use Rattle.frame.proofs.arguments.join.Goals as goal
 
 pub returns-then-first : goal.returns-then-first

@@ -6,7 +6,7 @@ use native.Mathlib.Omega.{arith}
 use Rattle.handed.proofs.asked.lend.Goals as goal
 
 pub slice_bounds-write_into-end-then-n-dots : goal.slice_bounds-write_into-end-then-n-dots
-slice_bounds-write_into-end-then-n-dots c = sym (length-take-le _ _ (omega arith))
+slice_bounds-write_into-end-then-n-dots g c = sym (length-take-le _ _ (omega arith))
 
 pub slice_bounds-wrote-end-then-n-dots : goal.slice_bounds-wrote-end-then-n-dots
-slice_bounds-wrote-end-then-n-dots c = sym (length-take-le _ _ (omega arith))
+slice_bounds-wrote-end-then-n-dots g c = sym (length-take-le _ _ (omega arith))

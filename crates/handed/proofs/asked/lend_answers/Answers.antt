@@ -6,7 +6,7 @@ use native.Mathlib.Omega.{arith}
 use Rattle.handed.proofs.asked.lend_answers.Goals as goal
 
 pub slice_bounds-replay-end-then-answers-lent : goal.slice_bounds-replay-end-then-answers-lent
-slice_bounds-replay-end-then-answers-lent c = sym (length-take-le _ _ (omega arith))
+slice_bounds-replay-end-then-answers-lent g c = sym (length-take-le _ _ (omega arith))
 
 pub slice_bounds-replay-end-then-answers-lent-3 : goal.slice_bounds-replay-end-then-answers-lent-3
-slice_bounds-replay-end-then-answers-lent-3 c = sym (length-take-le _ _ (omega arith))
+slice_bounds-replay-end-then-answers-lent-3 g c = sym (length-take-le _ _ (omega arith))

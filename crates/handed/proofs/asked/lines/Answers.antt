@@ -9,14 +9,14 @@ use native.Mathlib.Omega.{arith}
 use Rattle.handed.proofs.asked.lines.Goals as goal
 
 pub slice_bounds-s-end : goal.slice_bounds-s-end
-slice_bounds-s-end c = sym (length-take-le _ _ (omega arith))
+slice_bounds-s-end g c = sym (length-take-le _ _ (omega arith))
 
 pub overflow_add-at : goal.overflow_add-at
-overflow_add-at c =
+overflow_add-at g c =
     let text = c.args.text.now in
-    omega (arith, ap length (rest text c.loop-at.at), length-drop c.loop-at.at text, c.find-n.ensures.1)
+    omega (arith, ap length (rest text c.loop-at.at), length-drop c.loop-at.at text, c.find-n.ensures.in_bounds)
 
 pub overflow_add-at-in-loop-at : goal.overflow_add-at-in-loop-at
-overflow_add-at-in-loop-at c =
+overflow_add-at-in-loop-at g c =
     let text = c.args.text.now in
-    omega (arith, ap length (rest text c.loop-at.at), length-drop c.loop-at.at text, c.find-n.ensures.1)
+    omega (arith, ap length (rest text c.loop-at.at), length-drop c.loop-at.at text, c.find-n.ensures.in_bounds)

@@ -9,7 +9,7 @@ use native.Mathlib.Omega.{arith}
 use Rattle.handed.proofs.asked.lines.Given as goal
 
 abbrev pub invariant-loop-at : goal.invariant-loop-at
-invariant-loop-at l = l.at ≤ length l.text + 1
+invariant-loop-at g l = l.at ≤ length l.text + 1
 
 abbrev pub decreases-loop-at : goal.decreases-loop-at
-decreases-loop-at l = length l.text - l.at
+decreases-loop-at g l = length l.text - l.at

@@ -6,4 +6,4 @@ use native.Mathlib.Omega.{arith}
 use Rattle.handed.proofs.show.part.Goals as goal
 
 pub slice_bounds-write-end : goal.slice_bounds-write-end
-slice_bounds-write-end c = sym (length-take-le _ _ (omega arith))
+slice_bounds-write-end g c = sym (length-take-le _ _ (omega arith))

@@ -5,7 +5,6 @@ use Prim.Native.Nat.{ℕ}
 use lib.Bits.{bit_and}
 use lib.Dec.{eqb}
 use Rattle.positions.specs.Acceptance.{accepted_sets}
-use borrow.Author.Rules.{rules}
 use Rattle.positions.proofs.position.accepted.Goals as goal
 
 pub returns : goal.returns

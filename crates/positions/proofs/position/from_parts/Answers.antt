@@ -2,7 +2,6 @@
 use mathlib.Core.Path.{sym, ap₂, ◌∙◌}
 use mathlib.Core.Bool.{◌&&◌}
 use Rattle.positions.specs.Acceptance.{from_parts_of}
-use borrow.Author.Rules.{rules}
 use Rattle.positions.proofs.position.from_parts.Goals as goal
 
 pub returns-then-squares : goal.returns-then-squares

@@ -1,6 +1,5 @@
 -- The constants are squares 31 to 50 and 1 to 20, computed.
 use Rattle.squares.specs.Computed.{computed}
-use borrow.Author.Rules.{rules}
 use Rattle.positions.proofs.position.initial.Goals as goal
 
 pub returns : goal.returns

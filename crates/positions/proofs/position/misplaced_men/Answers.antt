@@ -3,7 +3,6 @@ use mathlib.Core.Path.{sym, ap₂}
 use lib.Bits.{bit_and, bit_or}
 use Rattle.squares.proofs.Numbers.{promotion_white, promotion_black}
 use Rattle.positions.specs.Acceptance.{misplaced}
-use borrow.Author.Rules.{rules}
 use Rattle.positions.proofs.position.misplaced_men.Goals as goal
 
 pub returns : goal.returns

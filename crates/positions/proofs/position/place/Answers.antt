@@ -7,7 +7,6 @@ use Rattle.squares.specs.Squares.{first_of}
 use Rattle.squares.specs.declared.refusal.Refusal.TheVariants.{Overlap, ManOnPromotionRow}
 use Rattle.positions.specs.Acceptance.{misplaced, place_of}
 use Rattle.positions.specs.declared.position.Placed.TheVariants.{Refused, Position}
-use borrow.Author.Rules.{rules}
 use Rattle.positions.proofs.position.place.Goals as goal
 
 pub returns-then-both-ne0 : goal.returns-then-both-ne0

@@ -1,6 +1,6 @@
 -- Each turn takes the lowest square and puts in its opposite; bits that are no square go nowhere.
 use mathlib.Core.Path.{◌≡◌, sym, ap, ◌∙◌}
-use Prim.Native.Nat.{ℕ, ◌-◌, ◌*◌, ◌%◌, ◌^◌, ◌<◌}
+use Prim.Native.Nat.{ℕ, ◌-◌, ◌^◌, ◌<◌}
 use native.Mathlib.Nat.{lt_of_le_of_lt}
 use lib.Bits.{bit_and, bit_or, and_le_l, and_le_r, or_comm, or_zero_l, or_zero_r}
 use Rattle.squares.specs.Sets.{has, lowest}
@@ -13,7 +13,6 @@ use Rattle.squares.proofs.Unions.{or_assoc, union_next, union_none, union_same, 
 use Rattle.squares.proofs.Numbers.{all_is, has_all}
 use Rattle.positions.specs.Flip.{rotated}
 use Rattle.positions.proofs.Rotation.{turned_bit, turned_off}
-use borrow.Author.Rules.{rules}
 use native.Mathlib.Omega.{arith}
 use Rattle.positions.proofs.position.rotate.Invariants.{turned, Left}
 use Rattle.positions.proofs.position.rotate.Goals as goal

@@ -1,20 +1,8 @@
 -- Each turn takes the lowest square and puts in its opposite; bits that are no square go nowhere.
-use mathlib.Core.Path.{◌≡◌, sym, ap, ◌∙◌}
+use mathlib.Core.Path.{◌≡◌}
 use Prim.Native.Nat.{ℕ, ◌-◌, ◌*◌, ◌%◌, ◌^◌, ◌<◌}
-use native.Mathlib.Nat.{lt_of_le_of_lt}
-use lib.Bits.{bit_and, bit_or, and_le_l, and_le_r, or_comm, or_zero_l, or_zero_r}
-use Rattle.squares.specs.Sets.{has, lowest}
-use Rattle.squares.specs.Squares.{all, square_at_bit, single}
+use lib.Bits.{bit_or}
 use Rattle.squares.specs.Folds.{union_over}
-use Rattle.squares.proofs.Bools.{and_right}
-use Rattle.squares.proofs.Pointwise.{has_and, one_bit, member_lt}
-use Rattle.squares.proofs.Members.{lowest_in}
-use Rattle.squares.proofs.Unions.{or_assoc, union_next, union_none, union_same, union_mask}
-use Rattle.squares.proofs.Numbers.{all_is, has_all}
-use Rattle.positions.specs.Flip.{rotated}
-use Rattle.positions.proofs.Rotation.{turned_bit, turned_off}
-use borrow.Author.Rules.{rules}
-use native.Mathlib.Omega.{arith}
 use Rattle.positions.proofs.position.rotate.Given as goal
 
 -- the opposite bit, as the code writes it

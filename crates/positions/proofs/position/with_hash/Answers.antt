@@ -3,7 +3,6 @@ use mathlib.Core.Path.{ap}
 use Prim.Native.Nat.{ℕ}
 use Rattle.squares.specs.declared.piece.Color.{Color}
 use Rattle.positions.specs.declared.position.Position.{Position}
-use borrow.Author.Rules.{rules}
 use Rattle.positions.proofs.position.with_hash.Goals as goal
 
 abbrev make : ℕ → ℕ → ℕ → Color → ℕ → Position

@@ -10,7 +10,7 @@ returns-in-Outcome c = pieces.adds_as (sym (ap judged_word c.in-Outcome.is)) c.p
 
 pub returns-in-Going : goal.returns-in-Going
 returns-in-Going c =
-    pieces.adds_as (sym (ap judged_word c.before.before.before.before.before.enum_told.given.1)) c.put.ensures
+    pieces.adds_as (sym (ap judged_word c.in-Going.is)) c.put.ensures
 
 pub returns-in-Refused : goal.returns-in-Refused
 returns-in-Refused c = pieces.adds_as (sym (ap judged_word c.in-Refused.is)) (pieces.adds_none _ _)

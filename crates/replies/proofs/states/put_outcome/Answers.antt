@@ -12,16 +12,16 @@ returns-in-NoMoves c =
 
 pub returns-in-Repetition : goal.returns-in-Repetition
 returns-in-Repetition c =
-    pieces.adds_as (sym (ap (λ (t : Termination). ending_word t c.args.o.winner) c.before.before.before.before.before.enum-told2.given.1)) c.put.ensures
+    pieces.adds_as (sym (ap (λ (t : Termination). ending_word t c.args.o.winner) c.in-Repetition.is)) c.put.ensures
 
 pub returns-in-TwentyFiveMoves : goal.returns-in-TwentyFiveMoves
 returns-in-TwentyFiveMoves c =
-    pieces.adds_as (sym (ap (λ (t : Termination). ending_word t c.args.o.winner) c.before.before.before.before.before.enum-told3.given.1)) c.put-in-TwentyFiveMoves.ensures
+    pieces.adds_as (sym (ap (λ (t : Termination). ending_word t c.args.o.winner) c.in-TwentyFiveMoves.is)) c.put-in-TwentyFiveMoves.ensures
 
 pub returns-in-SixteenMoves : goal.returns-in-SixteenMoves
 returns-in-SixteenMoves c =
-    pieces.adds_as (sym (ap (λ (t : Termination). ending_word t c.args.o.winner) c.before.before.before.before.before.enum-told4.given.1)) c.put-in-SixteenMoves.ensures
+    pieces.adds_as (sym (ap (λ (t : Termination). ending_word t c.args.o.winner) c.in-SixteenMoves.is)) c.put-in-SixteenMoves.ensures
 
 pub returns-in-FiveMoves : goal.returns-in-FiveMoves
 returns-in-FiveMoves c =
-    pieces.adds_as (sym (ap (λ (t : Termination). ending_word t c.args.o.winner) c.before.before.before.before.before.enum-told5.given.1)) c.put-in-FiveMoves.ensures
+    pieces.adds_as (sym (ap (λ (t : Termination). ending_word t c.args.o.winner) c.in-FiveMoves.is)) c.put-in-FiveMoves.ensures

@@ -10,4 +10,4 @@ pub returns : goal.returns
 returns c =
     let p = c.args.p in
     let is : c.evaluate.result ≡ evaluate_of default p = c.evaluate.ensures ∙ ap (λ (w : Classical). evaluate_of w p) c.new.ensures in
-    (is, ap limited is ∙ evaluate_limited p)
+    record { value = is; result_value = ap limited is ∙ evaluate_limited p }

@@ -7,13 +7,13 @@ use Rattle.scores.proofs.eval.guards.Goals as goal
 
 pub returns-then-kings-eq0 : goal.returns-then-kings-eq0
 returns-then-kings-eq0 c =
-    (
-      guards_some c.args.color (board_of c.args.p) c.not.result c.kings.result c.not.ensures c.kings.ensures
+    record {
+      value = guards_some c.args.color (board_of c.args.p) c.not.result c.kings.result c.not.ensures c.kings.ensures
           c.men.result c.guard_squares.result c.count.result
-          c.if-kings-eq0.true c.men.ensures c.guard_squares.ensures c.count.ensures,
-      count_le _ _ c.count.ensures,
-    )
+          c.if-kings-eq0.true c.men.ensures c.guard_squares.ensures c.count.ensures;
+      upper_bound = count_le _ _ c.count.ensures;
+    }
 
 pub returns-else-kings-eq0 : goal.returns-else-kings-eq0
 returns-else-kings-eq0 c =
-    (guards_none c.args.color (board_of c.args.p) c.not.result c.kings.result c.not.ensures c.kings.ensures c.if-kings-eq0.false, omega arith)
+    record { value = guards_none c.args.color (board_of c.args.p) c.not.result c.kings.result c.not.ensures c.kings.ensures c.if-kings-eq0.false; upper_bound = omega arith }

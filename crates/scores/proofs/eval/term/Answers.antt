@@ -6,8 +6,8 @@ use Rattle.scores.proofs.eval.term.Goals as goal
 
 pub overflow_mul-result : goal.overflow_mul-result
 overflow_mul-result c =
-    fits (times_of 10000 5760 c.args.weight c.args.number (within_le 10000 c.args.weight c.requires.0) c.requires.1 (lit< tt) (lit< tt)) (lit< tt)
+    fits (times_of 10000 5760 c.args.weight c.args.number (within_le 10000 c.args.weight c.requires.weight_value) c.requires.number_bound (lit< tt) (lit< tt)) (lit< tt)
 
 pub returns : goal.returns
 returns c =
-    read (times_of 10000 5760 c.args.weight c.args.number (within_le 10000 c.args.weight c.requires.0) c.requires.1 (lit< tt) (lit< tt)) (lit< tt)
+    read (times_of 10000 5760 c.args.weight c.args.number (within_le 10000 c.args.weight c.requires.weight_value) c.requires.number_bound (lit< tt) (lit< tt)) (lit< tt)

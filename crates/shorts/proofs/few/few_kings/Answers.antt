@@ -1,15 +1,12 @@
 -- Each turn sets the list onto the lowest king left and adds its captures, if it has a jump: one step of the fold.
-use borrow.Author.Rules.{rules}
 use mathlib.Core.Path.{refl, sym, ◌∙◌}
-use mathlib.Core.Logic.{⊎_elim}
-use mathlib.Core.List.{foldl}
 use native.Mathlib.Omega.{arith}
-use Rattle.squares.specs.Sets.{members}
 use Rattle.squares.proofs.Pointwise.{one_bit}
-use Rattle.squares.proofs.Loops.{Left, cleared, next_lt, turn, done}
-use Rattle.shorts.specs.Few.{king_short, few_kings_of}
+use Rattle.squares.proofs.Loops.{cleared, next_lt, turn, done}
+use Rattle.shorts.specs.Few.{few_kings_of}
 use Rattle.shorts.proofs.Onto.{king_none, king_some}
 use Rattle.shorts.proofs.few.few_kings.Goals as goal
+use Rattle.shorts.proofs.few.few_kings.Goals.{then-king_open, else-king_open}
 
 pub loop-left-init : goal.loop-left-init
 loop-left-init c = record { fold = refl; fits = c.ranges.kings.fits }
@@ -27,8 +24,10 @@ pub loop-left-preserved : goal.loop-left-preserved
 loop-left-preserved c =
     let one = one_bit _ (next_lt _ c.loop-left.invariant (omega arith)) in
     turn _ c.loop-left.invariant (omega arith)
-    (⊎_elim (λ w. w.2 ∙ king_some c.args.them c.args.empty c.loop-left.t _ _ one w.1.result w.1.ensures)
-    (λ w. w.1 ∙ king_none c.args.them c.args.empty c.loop-left.t _ _ one (sym c.king_open.ensures ∙ w.0.left)) c.if-king_open.branch)
+    (elim c.if-king_open.branch [
+      | then-king_open w ↦ w.t-is ∙ king_some c.args.them c.args.empty c.loop-left.t _ _ one w.king-t.result w.king-t.ensures
+      | else-king_open w ↦ w.t-is ∙ king_none c.args.them c.args.empty c.loop-left.t _ _ one (sym c.king_open.ensures ∙ w.if-king_open.false)
+    ])
 
 pub returns : goal.returns
 unfolding few_kings_of

@@ -2,13 +2,11 @@
 -- has no room, by the long search. Either is one step of the fold.
 use borrow.Author.Rules.{rules}
 use mathlib.Core.Path.{◌≡◌, refl, sym, ap, ◌∙◌}
-use mathlib.Core.Logic.{⊎_elim}
-use mathlib.Core.List.{foldl}
 use native.Mathlib.Omega.{arith}
 use lib.ListN.{length}
-use Rattle.squares.specs.Sets.{members}
+use Rattle.squares.specs.Sets.{lowest}
 use Rattle.squares.proofs.Pointwise.{one_bit}
-use Rattle.squares.proofs.Loops.{Left, cleared, next_lt, turn, done}
+use Rattle.squares.proofs.Loops.{cleared, next_lt, turn, done}
 use Rattle.captures.specs.Kings.{king_captures, kings_captures_of}
 use Rattle.captures.specs.declared.movegen.Captures.{Captures}
 use Rattle.captures.proofs.Shut.{king_shut}
@@ -16,6 +14,7 @@ use Rattle.squares.proofs.Lengths.{length_of_map}
 use Rattle.captures.proofs.Loops.{king_turn}
 use Rattle.shorts.proofs.Turns.{king_few, king_full}
 use Rattle.shorts.proofs.pieces.kings_captures.Goals as goal
+use Rattle.shorts.proofs.pieces.kings_captures.Goals.{then-king_open+then-found, then-king_open+else-found, else-king_open}
 
 pub loop-left-init : goal.loop-left-init
 loop-left-init c =
@@ -37,9 +36,13 @@ loop-left-preserved c =
     let s = c.loop-left.s in
     let one = one_bit _ (next_lt _ c.loop-left.invariant.0 (omega arith)) in
     let full = c.loop-left.invariant.1 in
-    let is = ⊎_elim (λ w. w.5 ∙ king_turn e s w.4.result _ _ one w.4.ensures)
-    (⊎_elim (λ w. w.5 ∙ w.4.ensures ∙ king_few e s _ _ one full w.1.result w.2.result w.1.ensures w.3.left w.2.ensures)
-    (λ w. w.1 ∙ king_shut e s _ _ one (sym c.king_open.ensures ∙ w.0.left))) c.if-king_open.branch in
+    let is : c.if-king_open.s ≡ king_captures e s (lowest c.loop-left.left) =
+    elim c.if-king_open.branch [
+      | then-king_open+then-found w ↦ w.s-is ∙ king_turn e s w.king-s.result _ _ one w.king-s.ensures
+      | then-king_open+else-found w ↦
+          w.s-is ∙ w.merge-s.ensures ∙ king_few e s _ _ one full w.new.result w.king-found.result w.new.ensures w.if-found.false w.king-found.ensures
+      | else-king_open w ↦ w.s-is ∙ king_shut e s _ _ one (sym c.king_open.ensures ∙ w.if-king_open.false)
+    ] in
     (turn _ c.loop-left.invariant.0 (omega arith) is, ap (λ (x : Captures). length x.moves) is ∙ king_full e s _ full)
 
 pub returns : goal.returns

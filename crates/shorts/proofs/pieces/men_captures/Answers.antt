@@ -2,13 +2,11 @@
 -- has no room, by the long search. Either is one step of the fold.
 use borrow.Author.Rules.{rules}
 use mathlib.Core.Path.{◌≡◌, refl, sym, ap, ◌∙◌}
-use mathlib.Core.Logic.{⊎_elim}
-use mathlib.Core.List.{foldl}
 use native.Mathlib.Omega.{arith}
 use lib.ListN.{length}
-use Rattle.squares.specs.Sets.{members}
+use Rattle.squares.specs.Sets.{lowest}
 use Rattle.squares.proofs.Pointwise.{one_bit}
-use Rattle.squares.proofs.Loops.{Left, cleared, next_lt, turn, done}
+use Rattle.squares.proofs.Loops.{cleared, next_lt, turn, done}
 use Rattle.captures.specs.Men.{man_captures, men_captures_of}
 use Rattle.captures.specs.declared.movegen.Captures.{Captures}
 use Rattle.captures.proofs.Shut.{man_shut}
@@ -16,6 +14,7 @@ use Rattle.squares.proofs.Lengths.{length_of_map}
 use Rattle.captures.proofs.Loops.{man_turn}
 use Rattle.shorts.proofs.Turns.{man_few, man_full}
 use Rattle.shorts.proofs.pieces.men_captures.Goals as goal
+use Rattle.shorts.proofs.pieces.men_captures.Goals.{then-man_open+then-few, then-man_open+else-few, else-man_open}
 
 pub loop-left-init : goal.loop-left-init
 loop-left-init c =
@@ -37,9 +36,13 @@ loop-left-preserved c =
     let s = c.loop-left.s in
     let one = one_bit _ (next_lt _ c.loop-left.invariant.0 (omega arith)) in
     let full = c.loop-left.invariant.1 in
-    let is = ⊎_elim (λ w. w.5 ∙ man_turn e s w.4.result _ _ one w.4.ensures)
-    (⊎_elim (λ w. w.5 ∙ w.4.ensures ∙ man_few e s _ _ one full w.1.result w.2.result w.1.ensures w.3.left w.2.ensures)
-    (λ w. w.1 ∙ man_shut e s _ _ one (sym c.man_open.ensures ∙ w.0.left))) c.if-man_open.branch in
+    let is : c.if-man_open.s ≡ man_captures e s (lowest c.loop-left.left) =
+    elim c.if-man_open.branch [
+      | then-man_open+then-few w ↦ w.s-is ∙ man_turn e s w.man-s.result _ _ one w.man-s.ensures
+      | then-man_open+else-few w ↦
+          w.s-is ∙ w.merge-s.ensures ∙ man_few e s _ _ one full w.new.result w.man-few.result w.new.ensures w.if-few.false w.man-few.ensures
+      | else-man_open w ↦ w.s-is ∙ man_shut e s _ _ one (sym c.man_open.ensures ∙ w.if-man_open.false)
+    ] in
     (turn _ c.loop-left.invariant.0 (omega arith) is, ap (λ (x : Captures). length x.moves) is ∙ man_full e s _ full)
 
 pub returns : goal.returns

@@ -1,5 +1,5 @@
 -- The set of one square meets the set exactly where the square belongs to it.
-use Rattle.std.proofs.Common.{ℕ, not, eqb, ap, ◌∙◌, rules}
+use Rattle.std.proofs.Common.{ℕ, not, eqb, ap, ◌∙◌}
 use lib.Bits.{bit_and}
 use Rattle.squares.proofs.Numbers.{single_test}
 use Rattle.squares.proofs.bitboard.contains.Goals as goal

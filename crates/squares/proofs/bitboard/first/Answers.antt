@@ -1,5 +1,4 @@
 -- The trailing zeros of the squares of the set are its lowest bit.
-use Rattle.std.proofs.Common.{rules}
 use Rattle.squares.specs.Squares.{first_of}
 use Rattle.squares.proofs.Numbers.{all_is}
 use Rattle.squares.proofs.bitboard.first.Goals as goal

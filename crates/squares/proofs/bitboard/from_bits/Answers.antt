@@ -1,5 +1,5 @@
 -- The set is tested once, and answered or refused.
-use Rattle.std.proofs.Common.{sym, ◌∙◌, rules}
+use Rattle.std.proofs.Common.{sym, ◌∙◌}
 use Rattle.squares.specs.Squares.{from_bits_of}
 use Rattle.squares.proofs.bitboard.from_bits.Goals as goal
 

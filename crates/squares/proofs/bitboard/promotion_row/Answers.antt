@@ -1,5 +1,5 @@
 -- Each constant is the row, computed.
-use Rattle.std.proofs.Common.{sym, rules}
+use Rattle.std.proofs.Common.{sym}
 use Rattle.squares.proofs.Numbers.{promotion_white, promotion_black}
 use Rattle.squares.proofs.bitboard.promotion_row.Goals as goal
 

@@ -1,5 +1,5 @@
 -- Within 1 to 50 the code writes the definition.
-use Rattle.std.proofs.Common.{sym, ◌∙◌, arith, rules}
+use Rattle.std.proofs.Common.{sym, ◌∙◌, arith}
 use Rattle.squares.specs.Squares.{of_square, bit_of}
 use Rattle.squares.proofs.Numbers.{square_range}
 use Rattle.squares.proofs.square.bit.Goals as goal

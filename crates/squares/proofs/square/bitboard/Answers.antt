@@ -1,5 +1,5 @@
 -- The bit is below 64, so the shift loses nothing.
-use Rattle.std.proofs.Common.{◌+◌, ◌-◌, ◌/◌, sym, ◌∙◌, arith, rules}
+use Rattle.std.proofs.Common.{◌+◌, ◌-◌, ◌/◌, sym, ◌∙◌, arith}
 use Rattle.squares.specs.Squares.{bit_of, single}
 use Rattle.squares.proofs.Pointwise.{one_bit}
 use Rattle.squares.proofs.Numbers.{square_range, single_is}

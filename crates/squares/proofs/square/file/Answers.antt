@@ -1,5 +1,5 @@
 -- A square's file, by the same formula.
-use Rattle.std.proofs.Common.{sym, ◌∙◌, arith, rules}
+use Rattle.std.proofs.Common.{sym, ◌∙◌, arith}
 use Rattle.squares.specs.Squares.{of_square}
 use Rattle.squares.proofs.Numbers.{square_range, square_file}
 use Rattle.squares.proofs.square.file.Goals as goal

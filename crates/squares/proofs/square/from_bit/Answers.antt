@@ -1,5 +1,4 @@
 -- The test is the definition of a bit of the board, and the formula that of its number.
-use Rattle.std.proofs.Common.{rules}
 use Rattle.squares.specs.Squares.{square_at_bit, on_board}
 use Rattle.squares.proofs.square.from_bit.Goals as goal
 

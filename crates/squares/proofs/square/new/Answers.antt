@@ -1,5 +1,5 @@
 -- A number is tested to be a square's.
-use Rattle.std.proofs.Common.{sym, ◌∙◌, rules}
+use Rattle.std.proofs.Common.{sym, ◌∙◌}
 use Rattle.squares.specs.Squares.{of_square}
 use Rattle.squares.proofs.square.new.Goals as goal
 

@@ -1,5 +1,5 @@
 -- A square's row is d / 5.
-use Rattle.std.proofs.Common.{sym, ◌∙◌, arith, rules}
+use Rattle.std.proofs.Common.{sym, ◌∙◌, arith}
 use Rattle.squares.specs.Squares.{of_square}
 use Rattle.squares.proofs.Numbers.{square_range, square_row}
 use Rattle.squares.proofs.square.row.Goals as goal

@@ -1,5 +1,5 @@
 -- The key of a set of one square.
-use Rattle.std.proofs.Common.{ℕ, ap, ◌∙◌, rules}
+use Rattle.std.proofs.Common.{ℕ, ap, ◌∙◌}
 use Rattle.squares.specs.Keys.{set_key_of, piece_key_of}
 use Rattle.squares.proofs.zobrist.piece_key.Goals as goal
 

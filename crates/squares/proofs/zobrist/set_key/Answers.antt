@@ -1,6 +1,6 @@
 -- Each turn takes the lowest square's key; what is left is the exclusive or over the rest. The table is tested once against its rule.
 -- A set without squares has the key 0.
-use Rattle.std.proofs.Common.{◌≡◌, ℕ, ◌+◌, ◌-◌, ◌*◌, ◌^◌, ◌<◌, List, get_or, sym, refl, ap, ◌∙◌, ap₂, lt_of_le_of_lt, arith, rules}
+use Rattle.std.proofs.Common.{◌≡◌, ℕ, ◌+◌, ◌-◌, ◌*◌, ◌^◌, ◌<◌, List, get_or, sym, refl, ap, ◌∙◌, ap₂, lt_of_le_of_lt, arith}
 use lib.Bits.{bit_and, bit_xor, and_le_l, and_le_r, xor_comm, xor_zero_l, xor_zero_r}
 use Rattle.squares.specs.Sets.{lowest}
 use Rattle.squares.specs.Folds.{xor_over}
@@ -15,7 +15,6 @@ use Rattle.squares.proofs.Members.{lowest_lt}
 use Rattle.squares.proofs.Numbers.{all_is}
 use Rattle.squares.proofs.zobrist.set_key.Invariants.{keyed, Left}
 use Rattle.squares.proofs.zobrist.set_key.Goals as goal
-use Rattle.squares.proofs.zobrist.set_key.Goals.{In-loop-left}
 
 -- one turn
 turn : {table : List ℕ} {from left key whole : ℕ} → Left table from left key whole → 0 < left → left < 2 ^ 54
@@ -64,23 +63,17 @@ in_table : (c : Color) (k : PieceKind) (from left : ℕ) → from ≡ block c k 
 in_table c k from left e p h =
     let l = lowest_lt 64 left (omega arith) (omega arith) in (l, omega (arith, block_lt c k))
 
-module _ (c : In-loop-left) where
-  entry : (lowest c.loop-left.left < 64) × (64 * c.index-from.result + lowest c.loop-left.left < 256)
-  entry =
-      in_table c.args.color c.args.kind c.index-from.result c.loop-left.left
-      c.index-from.ensures c.loop-left-test.true c.loop-left.invariant.1
-
 pub overflow_cast-bit : goal.overflow_cast-bit
-overflow_cast-bit c = omega (arith, (entry (goal.at.overflow_cast-bit c).In-loop-left-unread).0)
-
-pub overflow_add-key : goal.overflow_add-key
-overflow_add-key c = omega (arith, (entry (goal.at.overflow_add-key c).In-loop-left-unread).1)
+overflow_cast-bit c =
+    omega (arith, (in_table c.args.color c.args.kind c.index-from.result c.loop-left.left c.index-from.ensures c.loop-left-test.true c.loop-left.invariant.1).0)
 
 pub offset_bounds-keys-from : goal.offset_bounds-keys-from
-offset_bounds-keys-from c = omega (arith, (entry (goal.at.offset_bounds-keys-from c).In-loop-left-unread).1)
+offset_bounds-keys-from c =
+    omega (arith, (in_table c.args.color c.args.kind c.index-from.result c.loop-left.left c.index-from.ensures c.loop-left-test.true c.loop-left.invariant.1).1)
 
 pub bounds-keys-from : goal.bounds-keys-from
-bounds-keys-from c = (entry (goal.at.bounds-keys-from c).In-loop-left-unread).1
+bounds-keys-from c =
+    (in_table c.args.color c.args.kind c.index-from.result c.loop-left.left c.index-from.ensures c.loop-left-test.true c.loop-left.invariant.1).1
 
 pub loop-left-smaller : goal.loop-left-smaller
 loop-left-smaller c = omega (arith, and_le_r c.loop-left.left (c.loop-left.left - 1))

@@ -1,18 +1,8 @@
 -- Each turn takes the lowest square's key; what is left is the exclusive or over the rest. The table is tested once against its rule.
 -- A set without squares has the key 0.
-use Rattle.std.proofs.Common.{◌≡◌, ℕ, ◌+◌, ◌-◌, ◌*◌, ◌^◌, ◌<◌, List, get_or, sym, refl, ap, ◌∙◌, ap₂, lt_of_le_of_lt, arith, rules}
-use lib.Bits.{bit_and, bit_xor, and_le_l, and_le_r, xor_comm, xor_zero_l, xor_zero_r}
-use Rattle.squares.specs.Sets.{lowest}
+use Rattle.std.proofs.Common.{◌≡◌, ℕ, ◌+◌, ◌^◌, ◌<◌, List, get_or}
+use lib.Bits.{bit_xor}
 use Rattle.squares.specs.Folds.{xor_over}
-use Rattle.squares.specs.Keys.{advance, scramble, output, outputs, keys, block, set_key_of}
-use Rattle.squares.specs.declared.piece.Color.{Color}
-use Rattle.squares.specs.declared.piece.Color.TheVariants.{White, Black}
-use Rattle.squares.specs.declared.piece.PieceKind.{PieceKind}
-use Rattle.squares.specs.declared.piece.PieceKind.TheVariants.{Man, King}
-use Rattle.squares.proofs.Folds.{xor_next, xor_none, xor_assoc}
-use Rattle.squares.proofs.Keys.{table_key}
-use Rattle.squares.proofs.Members.{lowest_lt}
-use Rattle.squares.proofs.Numbers.{all_is}
 use Rattle.squares.proofs.zobrist.set_key.Given as goal
 
 -- the exclusive or of a table's entries from `from` on, at the members of s

@@ -1,5 +1,5 @@
 -- Each step of the code is one of the published algorithm.
-use Rattle.std.proofs.Common.{◌≡◌, ℕ, ◌+◌, ◌*◌, ◌/◌, ◌%◌, ◌^◌, rules}
+use Rattle.std.proofs.Common.{◌≡◌, ℕ, ◌+◌, ◌*◌, ◌/◌, ◌%◌, ◌^◌}
 use lib.Bits.{bit_xor}
 use Rattle.squares.specs.Keys.{splitmix64_of, advance, scramble, output}
 use Rattle.squares.specs.declared.zobrist.Drawn.{Drawn}
@@ -14,4 +14,4 @@ drawn s n y z e f g = rw (g, f, e)
 pub returns : goal.returns
 returns c =
     drawn c.args.state c.wrapping_add_u64-next.result c.wrapping_mul-y.result c.wrapping_mul-z.result
-    c.wrapping_add_u64-next.ensures c.wrapping_mul-y.ensures c.wrapping_mul-z.ensures
+    c.wrapping_add_u64-next.ensures.value c.wrapping_mul-y.ensures c.wrapping_mul-z.ensures

@@ -1,5 +1,5 @@
 -- The product of the halves, but for what leaves 64 bits: the high halves' product drops out.
-use Rattle.std.proofs.Common.{ℕ, ◌+◌, ◌*◌, ◌/◌, ◌%◌, ◌^◌, ap, ◌∙◌, arith, rules}
+use Rattle.std.proofs.Common.{ℕ, ◌+◌, ◌*◌, ◌/◌, ◌%◌, ◌^◌, ap, ◌∙◌, arith}
 use Rattle.squares.proofs.Product.{below, product}
 use Rattle.squares.proofs.zobrist.wrapping_mul.Goals as goal
 
@@ -14,6 +14,6 @@ overflow_mul-al-2 c = record { fits = below (c.args.a % 4294967296) (c.args.b % 
 
 pub returns : goal.returns
 returns c =
-    c.wrapping_add_u64.ensures
-    ∙ ap (λ (m : ℕ). (c.args.a % 4294967296 * (c.args.b % 4294967296) + (m * 2 ^ 32) % 2 ^ 64) % 2 ^ 64) c.wrapping_add_u64-middle.ensures
+    c.wrapping_add_u64.ensures.value
+    ∙ ap (λ (m : ℕ). (c.args.a % 4294967296 * (c.args.b % 4294967296) + (m * 2 ^ 32) % 2 ^ 64) % 2 ^ 64) c.wrapping_add_u64-middle.ensures.value
     ∙ product c.args.a c.args.b

@@ -22,17 +22,11 @@ slice_bounds-result-end c = sym (length-take-le _ _ (omega arith))
 
 pub returns-else-is_cut : goal.returns-else-is_cut
 returns-else-is_cut c =
-    let a = c.before.before.before.before.before.before.before.args in
-    let s = a.s.now in
-    let l = c.before.before.before.before.before.loop in
-    sym (l.invariant.1 ∙ laws.end_keep (cuts a.blanks a.c) s l.e (omega arith) (omega arith) (sym c.before.before.is_cut.ensures ∙ c.before.if1.false))
+    sym (c.loop-e.invariant.1 ∙ laws.end_keep (cuts c.args.blanks c.args.c) c.args.s.now c.loop-e.e (omega arith) (omega arith) (sym c.is_cut.ensures ∙ c.if-is_cut.false))
 
 pub slice_bounds-result-end-2 : goal.slice_bounds-result-end-2
 slice_bounds-result-end-2 c = sym (length-take-le _ _ (omega arith))
 
 pub returns : goal.returns
 returns c =
-    let a = c.before.before.before.before.args in
-    let s = a.s.now in
-    let l = c.before.before.loop in
-    sym (l.invariant.1 ∙ laws.end_none (cuts a.blanks a.c) s l.e (omega arith))
+    sym (c.loop-e.invariant.1 ∙ laws.end_none (cuts c.args.blanks c.args.c) c.args.s.now c.loop-e.e (omega arith))

@@ -15,7 +15,7 @@ pub returns-then-out-s : goal.returns-then-out-s
 unfolding emit_of emitted
 returns-then-out-s c =
     let h = lt-leb (length c.args.s.now) (length c.args.out.now) (omega arith) in
-    (simp h, simp h)
+    record { value = simp h; out_after = simp h }
 
 pub loop-i-init : goal.loop-i-init
 loop-i-init c = (search rules, search rules, refl, refl)
@@ -33,4 +33,7 @@ returns c =
     let o = c.args.out.now in
     let e : c.loop-i.i ≡ length s = omega arith in
     let t = le-leb (length s) (length o) (omega arith) in
-    (simp t (ap Length e), simp t (c.loop-i.invariant.3 ∙ laws.write_done s o c.loop-i.i e))
+    record {
+      value = simp t (ap Length e);
+      out_after = simp t (c.loop-i.invariant.3 ∙ laws.write_done s o c.loop-i.i e);
+    }

@@ -13,5 +13,5 @@ slice_bounds-result-end c = sym (length-take-le _ _ (omega arith))
 
 pub returns : goal.returns
 returns c =
-    let s = c.before.before.before.args.s.now in
-    ap (λ (n : ℕ). take n s) c.before.find.ensures.0 ∙ sym (laws.up_to_is c.before.before.before.args.c s)
+    let s = c.args.s.now in
+    ap (λ (n : ℕ). take n s) c.find-n.ensures.0 ∙ sym (laws.up_to_is c.args.c s)

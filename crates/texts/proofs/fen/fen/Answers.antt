@@ -27,8 +27,11 @@ returns-then-sound c =
     let s = sym c.sound.ensures ∙ c.if-sound.true in
     let h = le-leb (length (fen_text (board_of p))) 200 (fen_fits p s) in
     let t = (fen_starts p s refl c.put_fen-n.ensures).text in
-    (rw (s, h) (c.emit.ensures.value ∙ ap (λ (x : List ℕ). emit_of x o) t), rw (s, h) (c.emit.ensures.out_after ∙ ap (λ (x : List ℕ). emitted x o) t))
+    record {
+      value = rw (s, h) (c.emit.ensures.value ∙ ap (λ (x : List ℕ). emit_of x o) t);
+      out_after = rw (s, h) (c.emit.ensures.out_after ∙ ap (λ (x : List ℕ). emitted x o) t);
+    }
 
 pub returns : goal.returns
 unfolding fen_of fen_lent
-returns c = let s = sym c.sound.ensures ∙ c.if-sound.false in (rw s, rw s)
+returns c = let s = sym c.sound.ensures ∙ c.if-sound.false in record { value = rw s; out_after = rw s }

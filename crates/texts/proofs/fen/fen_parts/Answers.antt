@@ -11,8 +11,8 @@ slice_bounds-trim-end c = sym (length-take-le _ _ (omega arith))
 
 pub returns-in-Side : goal.returns-in-Side
 returns-in-Side c =
-    c.fields.ensures ∙ sym (laws.fen_open c.before.before.before.before.before.before.before.before.before.before.before.args.s.now c.before.before.before.before.before.before.before.before.before.body.result.now c.trim.result.now c.before.before.before.before.before.before.before.before.find.result c.side.result c.before.before.before.before.before.before.before.before.before.body.ensures c.before.before.before.before.before.before.before.before.find.ensures.0 c.trim.ensures c.side.ensures ∙ rw (c.in-Side.is, ← c.begun.ensures))
+    c.fields.ensures ∙ sym (laws.fen_open c.args.s.now c.body-t.result.now c.trim.result.now c.find-n.result c.side.result c.body-t.ensures c.find-n.ensures.0 c.trim.ensures c.side.ensures ∙ rw (c.in-Side.is, ← c.begun.ensures))
 
 pub returns-in-Refused : goal.returns-in-Refused
 returns-in-Refused c =
-    sym (laws.fen_open c.before.before.before.before.before.before.before.before.args.s.now c.before.before.before.before.before.before.body.result.now c.trim.result.now c.before.before.before.before.before.find.result c.side.result c.before.before.before.before.before.before.body.ensures c.before.before.before.before.before.find.ensures.0 c.trim.ensures c.side.ensures ∙ rw c.in-Refused.is)
+    sym (laws.fen_open c.args.s.now c.body-t.result.now c.trim.result.now c.find-n.result c.side.result c.body-t.ensures c.find-n.ensures.0 c.trim.ensures c.side.ensures ∙ rw c.in-Refused.is)

@@ -21,8 +21,11 @@ returns-then-sound c =
     let o = c.args.out.now in
     let s = sym c.sound.ensures ∙ c.if-sound.true in
     let t = (hub_starts _ refl c.put_hub-n.ensures).text in
-    (rw s (c.emit.ensures.value ∙ ap (λ (x : List ℕ). emit_of x o) t), rw s (c.emit.ensures.out_after ∙ ap (λ (x : List ℕ). emitted x o) t))
+    record {
+      value = rw s (c.emit.ensures.value ∙ ap (λ (x : List ℕ). emit_of x o) t);
+      out_after = rw s (c.emit.ensures.out_after ∙ ap (λ (x : List ℕ). emitted x o) t);
+    }
 
 pub returns : goal.returns
 unfolding hub_of hub_lent
-returns c = let s = sym c.sound.ensures ∙ c.if-sound.false in (rw s, rw s)
+returns c = let s = sym c.sound.ensures ∙ c.if-sound.false in record { value = rw s; out_after = rw s }

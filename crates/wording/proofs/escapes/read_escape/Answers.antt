@@ -36,4 +36,4 @@ returns-in-120 c =
 
 pub returns-in_default : goal.returns-in_default
 returns-in_default c =
-    let s = c.args.s.now in let r = c.in_default.rest in laws.escaped s _ (sym (laws.escape_other s c.if-s-eq0.false r.0.0.0.0.0.1 r.0.0.0.0.1 r.0.0.0.1 r.0.0.1 r.0.1 r.1))
+    let s = c.args.s.now in let r = c.in_default.in_default-own.rest in laws.escaped s _ (sym (laws.escape_other s c.if-s-eq0.false r.0.0.0.0.0.1 r.0.0.0.0.1 r.0.0.0.1 r.0.0.1 r.0.1 r.1))

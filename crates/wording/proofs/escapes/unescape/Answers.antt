@@ -6,18 +6,17 @@ use lib.ListN.{length}
 use Rattle.wording.proofs.Escaped as laws
 use Rattle.wording.specs.Escapes.{escape_of, is_plain, plain}
 use Rattle.texts.proofs.Cuts.{rest}
-use borrow.Author.Tests.{not-true, not-false}
 use borrow.Author.Rules.{rules}
 use native.Mathlib.Omega.{arith}
 use Rattle.wording.proofs.escapes.unescape.Goals as goal
 
 pub returns-then-not-is_plain : goal.returns-then-not-is_plain
 returns-then-not-is_plain c =
-    laws.undid_none c.args.s.now c.args.out.now (sym c.is_plain.ensures ∙ not-true _ c.if-not-is_plain.true)
+    laws.undid_none c.args.s.now c.args.out.now (sym c.is_plain.ensures ∙ c.if-not-is_plain.true)
 
 pub loop-i-init : goal.loop-i-init
 loop-i-init c =
-    (search rules, refl, sym c.is_plain.ensures ∙ not-false _ c.if-not-is_plain.false, laws.undoing_start c.args.s.now c.args.out.now)
+    (search rules, refl, sym c.is_plain.ensures ∙ c.if-not-is_plain.false, laws.undoing_start c.args.s.now c.args.out.now)
 
 pub overflow_add-i-in-Byte : goal.overflow_add-i-in-Byte
 overflow_add-i-in-Byte c =

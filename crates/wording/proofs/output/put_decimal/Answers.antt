@@ -7,4 +7,4 @@ use Rattle.wording.proofs.output.put_decimal.Goals as goal
 pub returns : goal.returns
 returns c =
     let n = c.args.n in
-    laws.adds_as (decimal_is n c.decimal-k.result _ c.ranges.n.fits c.decimal-k.ensures.len.0 c.decimal-k.ensures.len.1) c.put.ensures
+    laws.adds_as (decimal_is n c.decimal-k.result _ c.ranges.n.fits c.decimal-k.ensures.len c.decimal-k.ensures.digits) c.put.ensures

@@ -7,4 +7,4 @@ use Rattle.wording.proofs.output.put_hex.Goals as goal
 pub returns : goal.returns
 returns c =
     let n = c.args.n in
-    laws.adds_as (hex_is n c.hex-k.result _ c.ranges.n.fits c.hex-k.ensures.len.0 c.hex-k.ensures.len.1) c.put.ensures
+    laws.adds_as (hex_is n c.hex-k.result _ c.ranges.n.fits c.hex-k.ensures.len c.hex-k.ensures.digits) c.put.ensures

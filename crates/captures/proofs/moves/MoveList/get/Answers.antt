@@ -14,6 +14,6 @@ returns-then-i-lt-MAX_MOVES c = refl
 pub returns : goal.returns
 unfolding get_of
 returns c =
-    let l = c.args.t1.moves in
+    let l = c.args.self.moves in
     let h : length l ≡ 256 = search (rules, length_of_map) in
     sym (get_or-eq_default l blank (omega arith))

@@ -2,7 +2,6 @@
 use mathlib.Core.Path.{ap₂}
 use mathlib.Core.Bool.{◌&&◌}
 use Rattle.positions.specs.Moves.{squares_of}
-use borrow.Author.Rules.{rules}
 use Rattle.positions.proofs.moves.Move.on_board.Goals as goal
 
 pub returns : goal.returns

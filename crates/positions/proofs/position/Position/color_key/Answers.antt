@@ -4,7 +4,6 @@ use lib.Bits.{bit_xor}
 use Rattle.squares.specs.Keys.{set_key_of}
 use Rattle.squares.specs.declared.piece.PieceKind.TheVariants.{Man, King}
 use Rattle.positions.specs.Hash.{color_key}
-use borrow.Author.Rules.{rules}
 use Rattle.positions.proofs.position.Position.color_key.Goals as goal
 
 pub returns : goal.returns

@@ -5,7 +5,6 @@ use Rattle.squares.specs.declared.piece.Color.{Color}
 use Rattle.squares.specs.declared.piece.Color.TheVariants.{White, Black}
 use Rattle.positions.specs.Boards.{board_of}
 use Rattle.positions.specs.Hash.{color_key, side_hash, hash_of}
-use borrow.Author.Rules.{rules}
 use Rattle.positions.proofs.position.Position.compute_hash.Goals as goal
 
 pub returns-in-White : goal.returns-in-White

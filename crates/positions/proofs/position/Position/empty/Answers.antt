@@ -3,7 +3,6 @@ use mathlib.Core.Path.{ap, ◌∙◌}
 use Rattle.squares.specs.Sets.{without}
 use Rattle.squares.specs.Squares.{all}
 use Rattle.positions.specs.Boards.{empty}
-use borrow.Author.Rules.{rules}
 use Rattle.positions.proofs.position.Position.empty.Goals as goal
 
 pub returns : goal.returns

@@ -8,7 +8,6 @@ use Rattle.positions.specs.Hash.{position_of}
 use Rattle.positions.specs.Flip.{rotated, flip, flipped_of}
 use Rattle.positions.specs.declared.position.Position.{Position}
 use Rattle.positions.specs.declared.position.Placed.TheVariants as placed
-use borrow.Author.Rules.{rules}
 use Rattle.positions.proofs.position.Position.flipped.Goals as goal
 
 flips : (p : Position) {w b k : ℕ} {s : Color} {r : Position}

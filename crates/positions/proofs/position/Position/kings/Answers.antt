@@ -2,7 +2,6 @@
 use mathlib.Core.Path.{ap}
 use Prim.Native.Nat.{ℕ}
 use lib.Bits.{bit_and}
-use borrow.Author.Rules.{rules}
 use Rattle.positions.proofs.position.Position.kings.Goals as goal
 
 pub returns : goal.returns

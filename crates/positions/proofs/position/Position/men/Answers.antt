@@ -2,7 +2,6 @@
 use mathlib.Core.Path.{ap, ◌∙◌}
 use Prim.Native.Nat.{ℕ}
 use Rattle.squares.specs.Sets.{without}
-use borrow.Author.Rules.{rules}
 use Rattle.positions.proofs.position.Position.men.Goals as goal
 
 pub returns : goal.returns

@@ -2,7 +2,6 @@
 use mathlib.Core.Path.{sym, ap, ◌∙◌}
 use Rattle.squares.specs.declared.piece.Color.TheVariants.{White, Black}
 use Rattle.positions.specs.Boards.{piece_at_of, standing_of}
-use borrow.Author.Rules.{rules}
 use Rattle.positions.proofs.position.Position.piece_at.Goals as goal
 
 pub returns-then-contains : goal.returns-then-contains

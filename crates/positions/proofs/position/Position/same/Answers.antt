@@ -3,7 +3,6 @@ use mathlib.Core.Path.{ap}
 use mathlib.Core.Bool.{Bool, ◌&&◌}
 use lib.Dec.{eqb}
 use Rattle.positions.specs.Boards.{same_board}
-use borrow.Author.Rules.{rules}
 use Rattle.positions.proofs.position.Position.same.Goals as goal
 
 pub returns : goal.returns

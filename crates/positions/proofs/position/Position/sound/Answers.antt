@@ -4,7 +4,6 @@ use mathlib.Core.Bool.{Bool, ◌&&◌}
 use Prim.Native.Nat.{ℕ}
 use lib.Dec.{eqb}
 use Rattle.positions.specs.Acceptance.{sound, accepted}
-use borrow.Author.Rules.{rules}
 use Rattle.positions.proofs.position.Position.sound.Goals as goal
 
 pub returns : goal.returns

@@ -10,17 +10,17 @@ use Rattle.scores.proofs.eval.Classical.evaluate.Goals as goal
 
 pub side_score-requires : goal.side_score-requires
 unfolding sound
-side_score-requires c = (sym c.before.fits2.ensures ∙ c.if-fits.true, and_left _ _ (sym c.sound.ensures ∙ c.if-sound.true))
+side_score-requires c = record { self_value = sym c.fits.ensures ∙ c.if-fits.true; p_value = and_left _ _ (sym c.sound.ensures ∙ c.if-sound.true) }
 
 pub returns-then-fits : goal.returns-then-fits
 returns-then-fits c =
     scored_of c.args.self c.args.p c.sound.result c.sound.ensures
-    c.before.before.fits2.result c.before.before.fits2.ensures c.if-sound.true _ c.if-fits.true (read c.side_score.ensures (lit< tt)).is
+    c.fits.result c.fits.ensures c.if-sound.true _ c.if-fits.true (read c.side_score.ensures (lit< tt)).is
 
 pub returns-else-fits : goal.returns-else-fits
 returns-else-fits c =
     refused_10 c.args.self c.args.p c.sound.result c.sound.ensures
-    c.before.fits2.result c.before.fits2.ensures c.if-sound.true c.if-fits.false
+    c.fits.result c.fits.ensures c.if-sound.true c.if-fits.false
 
 pub returns-else-sound : goal.returns-else-sound
 returns-else-sound c = refused_12 c.args.self c.args.p c.sound.result c.sound.ensures c.if-sound.false

@@ -10,11 +10,11 @@ use Rattle.scores.proofs.eval.Classical.material.Goals as goal
 
 pub term-requires : goal.term-requires
 term-requires c =
-    (held_within 10000 c.args.self.man (lit< tt) (weights_of_lem c.args.self c.requires).man, count_le _ _ c.count.ensures)
+    record { weight_value = held_within 10000 c.args.self.man (lit< tt) (weights_of_lem c.args.self c.requires).man; number_bound = count_le _ _ c.count.ensures }
 
 pub term-requires-2 : goal.term-requires-2
 term-requires-2 c =
-    (held_within 10000 c.args.self.king (lit< tt) (weights_of_lem c.args.self c.requires).king, count_le _ _ c.count-2.ensures)
+    record { weight_value = held_within 10000 c.args.self.king (lit< tt) (weights_of_lem c.args.self c.requires).king; number_bound = count_le _ _ c.count-2.ensures }
 
 pub overflow_add-result : goal.overflow_add-result
 overflow_add-result c = fits (add_of_lem c.term.ensures c.term-2.ensures (lit< tt) (lit< tt)) (lit< tt)

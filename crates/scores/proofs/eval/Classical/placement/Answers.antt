@@ -17,18 +17,18 @@ use Rattle.scores.proofs.eval.Classical.placement.Goals as goal
 
 pub term-requires : goal.term-requires
 term-requires c =
-    (held_within 10000 c.args.self.advance (lit< tt) (weights_of_lem c.args.self c.requires.0).advance, c.rows_advanced.ensures.upper_bound)
+    record { weight_value = held_within 10000 c.args.self.advance (lit< tt) (weights_of_lem c.args.self c.requires.self_value).advance; number_bound = c.rows_advanced.ensures.upper_bound }
 
 pub term-requires-2 : goal.term-requires-2
 term-requires-2 c =
-    (held_within 10000 c.args.self.center (lit< tt) (weights_of_lem c.args.self c.requires.0).center, count_le _ _ c.count.ensures)
+    record { weight_value = held_within 10000 c.args.self.center (lit< tt) (weights_of_lem c.args.self c.requires.self_value).center; number_bound = count_le _ _ c.count.ensures }
 
 pub overflow_add-result : goal.overflow_add-result
 overflow_add-result c = fits (add_of_lem c.term.ensures c.term-2.ensures (lit< tt) (lit< tt)) (lit< tt)
 
 pub term-requires-3 : goal.term-requires-3
 term-requires-3 c =
-    (held_within 10000 c.args.self.guard (lit< tt) (weights_of_lem c.args.self c.requires.0).guard, c.guards.ensures.upper_bound)
+    record { weight_value = held_within 10000 c.args.self.guard (lit< tt) (weights_of_lem c.args.self c.requires.self_value).guard; number_bound = c.guards.ensures.upper_bound }
 
 pub overflow_add-result-2 : goal.overflow_add-result-2
 overflow_add-result-2 c =
@@ -39,12 +39,12 @@ pub returns : goal.returns
 unfolding placement_of
 returns c =
     let w = c.args.self in
-    let fit = weights_of_lem w c.requires.0 in
+    let fit = weights_of_lem w c.requires.self_value in
     let men = men_of c.args.color (board_of c.args.p) in
     read (add_of_lem (add_of_lem
     (of_term w.advance _ _ _ fit.advance
     (c.rows_advanced.ensures.value ∙ ap (λ (s : ℕ). sum_over (advanced c.args.color) (bit_and s all)) c.men-men.ensures
-    ∙ ap (sum_over (advanced c.args.color)) (and_all men (men_squares c.args.color (board_of c.args.p) (accepted_says (board_of c.args.p) c.requires.1))))
+    ∙ ap (sum_over (advanced c.args.color)) (and_all men (men_squares c.args.color (board_of c.args.p) (accepted_says (board_of c.args.p) c.requires.p_value))))
     c.term.ensures)
     (of_term w.center _ _ _ fit.center
     (c.count.ensures ∙ ap₂ (λ (s k : ℕ). size (bit_and s k)) c.men-men.ensures (sym center_is)) c.term-2.ensures)

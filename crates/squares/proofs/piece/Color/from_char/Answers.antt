@@ -14,4 +14,4 @@ returns-in-66 c = rw c.in-66.is
 
 pub returns-in_default : goal.returns-in_default
 unfolding color_from_char_of
-returns-in_default c = rw (ne_eqb _ (code "W") c.in_default.rest.0.1, ne_eqb _ (code "B") c.in_default.rest.1)
+returns-in_default c = rw (ne_eqb _ (code "W") c.in_default.in_default-own.rest.0.1, ne_eqb _ (code "B") c.in_default.in_default-own.rest.1)

@@ -1,5 +1,4 @@
 -- A refusal's number, or 0.
-use Rattle.std.proofs.Common.{rules}
 use Rattle.squares.proofs.refusal.Answer.number.Goals as goal
 
 pub returns-in-Done : goal.returns-in-Done

@@ -1,5 +1,4 @@
 -- Each variant's arm gives the number that docs/REFUSALS.md gives it.
-use Rattle.std.proofs.Common.{rules}
 use Rattle.squares.proofs.refusal.Refusal.number.Goals as goal
 
 pub returns-in-TextTooLong : goal.returns-in-TextTooLong

@@ -1,5 +1,4 @@
 -- Each variant's arm gives the square that it carries, or 0.
-use Rattle.std.proofs.Common.{rules}
 use Rattle.squares.proofs.refusal.Refusal.square.Goals as goal
 
 pub returns-in-TextTooLong : goal.returns-in-TextTooLong
