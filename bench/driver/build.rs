@@ -1,4 +1,4 @@
-//! Names the files of dame-rs that the library takes, and the object that the program links.
+//! Names the files of dame-rs that the library takes, and the library that the program links.
 use std::env;
 use std::fmt::Write;
 use std::fs;
@@ -23,7 +23,7 @@ fn main() {
     }
     fs::write(Path::new(&env::var("OUT_DIR").unwrap()).join("modules.rs"), text).unwrap();
 
-    let object = var("CORE_OBJECT", "the path of core.o, which bench/build makes");
-    println!("cargo:rerun-if-changed={object}");
-    println!("cargo:rustc-link-arg-bins={object}");
+    let library = var("CORE_LIBRARY", "the path of libbench.a, which bench/build makes");
+    println!("cargo:rerun-if-changed={library}");
+    println!("cargo:rustc-link-arg-bins={library}");
 }

@@ -45,7 +45,7 @@ fn depth_count(name: &str, boards: &Boards, depth: u32) -> Entry {
         format!("perft {depth}, {name}"),
         ps.len(),
         move || sum(&ps, |p| perft(p, black_box(depth))),
-        move || core::perft(&numbers, u64::from(depth)),
+        move || core::perft(&numbers, depth),
     )
 }
 

@@ -1,6 +1,6 @@
 -- A slide, as its loop takes it.
 use mathlib.Core.Path.{◌≡◌, refl, sym, ap, ◌∙◌}
-use Prim.Native.Nat.{ℕ, zero, suc, ◌-◌, ◌<◌, ◌^◌}
+use Prim.Native.Nat.{ℕ, zero, suc, ◌<◌, ◌^◌}
 use lib.Bits.{bit_and}
 use borrow.Author.Tests.{eq-eqb, ne_eqb}
 use Rattle.squares.specs.Directions.{Direction, shifted}

@@ -1,12 +1,9 @@
 -- The loop asks the four directions in turn.
-use mathlib.Core.Path.{◌≡◌, sym, ap, ◌∙◌}
+use mathlib.Core.Path.{◌≡◌}
 use mathlib.Core.Bool.{false}
 use Prim.Native.Nat.{◌≤◌, ◌-◌}
-use native.Mathlib.Omega.{arith}
 use Rattle.captures.specs.Walks.{any_up_to}
 use Rattle.captures.specs.Open.{king_jump}
-use Rattle.captures.proofs.Some.{up_found, up_none, up_on}
-use borrow.Author.Rules.{rules}
 use Rattle.captures.proofs.movegen.king_open.Given as goal
 
 abbrev pub invariant-loop-d : goal.invariant-loop-d

@@ -1,7 +1,6 @@
 -- The code writes the definition.
 use mathlib.Core.Path.{refl}
 use Rattle.captures.specs.Open.{man_jump}
-use borrow.Author.Rules.{rules}
 use Rattle.captures.proofs.movegen.man_jump.Goals as goal
 
 pub returns : goal.returns

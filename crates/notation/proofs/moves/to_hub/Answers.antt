@@ -24,8 +24,11 @@ unfolding to_hub_of to_hub_lent
 returns-then-on_board c =
     let s = sym c.on_board.ensures ∙ c.if-on_board.true in
     let t = (move_starts c.args.m s refl c.put_move-n.ensures).text in
-    (rw s (c.emit.ensures.value ∙ ap (λ (x : List ℕ). emit_of x c.args.out.now) t), rw s (c.emit.ensures.out_after ∙ ap (λ (x : List ℕ). emitted x c.args.out.now) t))
+    record {
+      value = rw s (c.emit.ensures.value ∙ ap (λ (x : List ℕ). emit_of x c.args.out.now) t);
+      out_after = rw s (c.emit.ensures.out_after ∙ ap (λ (x : List ℕ). emitted x c.args.out.now) t);
+    }
 
 pub returns : goal.returns
 unfolding to_hub_of to_hub_lent
-returns c = let s = sym c.on_board.ensures ∙ c.if-on_board.false in (rw s, rw s)
+returns c = let s = sym c.on_board.ensures ∙ c.if-on_board.false in record { value = rw s; out_after = rw s }

@@ -26,14 +26,13 @@ overflow_add-at-in-loop-at c =
     omega (arith, part_fits c.args.c c.args.s.now c.loop-at.at _ (omega arith) c.up_to-text.ensures)
 
 pub loop-at-preserved : goal.loop-at-preserved
-loop-at-preserved c =
-    (
-      omega (arith, part_fits c.args.c c.args.s.now c.loop-at.at _ (omega arith) c.up_to-text.ensures),
-      (
-        omega (arith, c.loop-at.invariant.1.0, ap (λ (h : Said). h.count) c.heard_square-h.ensures ∙ one_more c.loop-at.h _),
-        c.loop-at.invariant.1.1 ∙ heard_turn c.args.c c.args.s.now c.loop-at.at _ c.loop-at.h _ (omega arith) c.up_to-text.ensures c.read_square.ensures ∙ rw (c.in-Number.is, ← c.heard_square-h.ensures),
-      ),
-    )
+loop-at-preserved c = (
+  omega (arith, part_fits c.args.c c.args.s.now c.loop-at.at _ (omega arith) c.up_to-text.ensures),
+  (
+    omega (arith, c.loop-at.invariant.1.0, ap (λ (h : Said). h.count) c.heard_square-h.ensures ∙ one_more c.loop-at.h _),
+    c.loop-at.invariant.1.1 ∙ heard_turn c.args.c c.args.s.now c.loop-at.at _ c.loop-at.h _ (omega arith) c.up_to-text.ensures c.read_square.ensures ∙ rw (c.in-Number.is, ← c.heard_square-h.ensures),
+  ),
+)
 
 pub returns : goal.returns
 returns c =

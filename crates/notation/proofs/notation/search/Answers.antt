@@ -12,19 +12,19 @@ use borrow.Author.Rules.{rules}
 use Rattle.notation.proofs.notation.search.Goals as goal
 
 pub loop-i-init : goal.loop-i-init
-loop-i-init c = (search_none (fits c.args.h c.args.hub) c.args.t1.moves, omega arith)
+loop-i-init c = (search_none (fits c.args.h c.args.hub) c.args.list.moves, omega arith)
 
 pub returns-then-len-i : goal.returns-then-len-i
 returns-then-len-i c =
-    let e : c.args.t1.len ≡ c.loop-i.i = omega arith in
-    c.loop-i.invariant.0 ∙ sym (ap (λ (n : ℕ). choice_of (keep (fits c.args.h c.args.hub) (take n c.args.t1.moves))) e)
+    let e : c.args.list.len ≡ c.loop-i.i = omega arith in
+    c.loop-i.invariant.0 ∙ sym (ap (λ (n : ℕ). choice_of (keep (fits c.args.h c.args.hub) (take n c.args.list.moves))) e)
 
 pub loop-i-preserved : goal.loop-i-preserved
 loop-i-preserved c =
-    let h : length c.args.t1.moves ≡ 256 = search (rules, length_of_map) in
-    (search_turn (fits c.args.h c.args.hub) c.args.t1.moves c.loop-i.i blank _ _ _ (omega arith) c.loop-i.invariant.0 c.before.fits2.ensures c.counted-found.ensures, (omega arith, omega arith))
+    let h : length c.args.list.moves ≡ 256 = search (rules, length_of_map) in
+    (search_turn (fits c.args.h c.args.hub) c.args.list.moves c.loop-i.i blank _ _ _ (omega arith) c.loop-i.invariant.0 c.fits.ensures c.counted-found.ensures, (omega arith, omega arith))
 
 pub returns : goal.returns
 returns c =
-    let h : length c.args.t1.moves ≡ 256 = search (rules, length_of_map) in
-    c.loop-i.invariant.0 ∙ search_all (fits c.args.h c.args.hub) c.args.t1.moves c.args.t1.len c.loop-i.i (omega arith) (omega arith)
+    let h : length c.args.list.moves ≡ 256 = search (rules, length_of_map) in
+    c.loop-i.invariant.0 ∙ search_all (fits c.args.h c.args.hub) c.args.list.moves c.args.list.len c.loop-i.i (omega arith) (omega arith)

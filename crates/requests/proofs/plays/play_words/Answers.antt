@@ -25,8 +25,7 @@ loop-i-smaller c =
 
 pub loop-i-preserved : goal.loop-i-preserved
 loop-i-preserved c =
-    let s = c.args.s.now in
-    (
+    let s = c.args.s.now in (
       omega arith,
       search rules,
       λ new end a. c.loop-i.invariant.2 new end

@@ -20,30 +20,27 @@ loop-row-init c = (search rules, search rules, law.whole _)
 pub returns-then-same : goal.returns-then-same
 unfolding help_text
 returns-then-same c =
-    let l = c.before.before.before.before.before.before.before.loop in
-    let name = c.before.before.before.before.before.before.before.before.before.args.name.now in
-    let f = c.first.ensures ∙ ap first_word (cuts.rest help_text l.at) in
+    let name = c.args.name.now in
+    let f = c.first.ensures ∙ ap first_word (cuts.rest help_text c.loop-row.at) in
     c.request_at.ensures
-    ∙ sym (law.here name help_text l.row l.at c.before.before.before.before.before.before.loop-test.true l.invariant.2 (ap (same_text name) (sym f) ∙ sym c.same.ensures ∙ c.if-same.true))
+    ∙ sym (law.here name help_text c.loop-row.row c.loop-row.at c.loop-row-test.true c.loop-row.invariant.2 (ap (same_text name) (sym f) ∙ sym c.same.ensures ∙ c.if-same.true))
 
 pub overflow_sub-at : goal.overflow_sub-at
 unfolding help_text
 overflow_sub-at c =
-    let l = c.before.before.before.before.before.before.before.loop in
-    let a = c.after_first.ensures ∙ ap (after_first 10) (cuts.rest help_text l.at) in
-    omega (arith, ap length a, suffixes.after_fits 10 help_text l.at)
+    let a = c.after_first.ensures ∙ ap (after_first 10) (cuts.rest help_text c.loop-row.at) in
+    omega (arith, ap length a, suffixes.after_fits 10 help_text c.loop-row.at)
 
 pub loop-row-preserved : goal.loop-row-preserved
 unfolding help_text
 loop-row-preserved c =
-    let l = c.before.before.before.before.before.before.before.loop in
-    let name = c.before.before.before.before.before.before.before.before.before.args.name.now in
-    let f = c.first.ensures ∙ ap first_word (cuts.rest help_text l.at) in
-    let a = c.after_first.ensures ∙ ap (after_first 10) (cuts.rest help_text l.at) in (
+    let name = c.args.name.now in
+    let f = c.first.ensures ∙ ap first_word (cuts.rest help_text c.loop-row.at) in
+    let a = c.after_first.ensures ∙ ap (after_first 10) (cuts.rest help_text c.loop-row.at) in (
       search rules,
       omega arith,
-      law.next name help_text l.row l.at c.before.before.before.before.before.before.loop-test.true l.invariant.2 (ap (same_text name) (sym f) ∙ sym c.same.ensures ∙ c.if-same.false)
-          ∙ ap (λ (x : List ℕ). law.rows_of name (l.row + 1) (drop (length help_text - length x) help_text) (rows - (l.row + 1))) (sym a),
+      law.next name help_text c.loop-row.row c.loop-row.at c.loop-row-test.true c.loop-row.invariant.2 (ap (same_text name) (sym f) ∙ sym c.same.ensures ∙ c.if-same.false)
+          ∙ ap (λ (x : List ℕ). law.rows_of name (c.loop-row.row + 1) (drop (length help_text - length x) help_text) (rows - (c.loop-row.row + 1))) (sym a),
     )
 
 pub returns : goal.returns

@@ -1,6 +1,5 @@
 -- The men's captures, then the kings'.
 use mathlib.Core.Path.{◌≡◌, ap, ◌∙◌}
-use borrow.Author.Rules.{rules}
 use Rattle.shorts.specs.declared.short.Short.{Short}
 use Rattle.shorts.specs.Few.{few_men_of, few_kings_of, few_captures_of}
 use Rattle.shorts.proofs.few.few_captures.Goals as goal

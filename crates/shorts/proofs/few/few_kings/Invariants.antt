@@ -1,14 +1,8 @@
 -- Each turn sets the list onto the lowest king left and adds its captures, if it has a jump: one step of the fold.
-use borrow.Author.Rules.{rules}
-use mathlib.Core.Path.{refl, sym, ◌∙◌}
-use mathlib.Core.Logic.{⊎_elim}
 use mathlib.Core.List.{foldl}
-use native.Mathlib.Omega.{arith}
 use Rattle.squares.specs.Sets.{members}
-use Rattle.squares.proofs.Pointwise.{one_bit}
-use Rattle.squares.proofs.Loops.{Left, cleared, next_lt, turn, done}
-use Rattle.shorts.specs.Few.{king_short, few_kings_of}
-use Rattle.shorts.proofs.Onto.{king_none, king_some}
+use Rattle.squares.proofs.Loops.{Left}
+use Rattle.shorts.specs.Few.{king_short}
 use Rattle.shorts.proofs.few.few_kings.Given as goal
 
 abbrev pub invariant-loop-left : goal.invariant-loop-left

@@ -1,12 +1,9 @@
 -- Each turn sets the list onto the lowest man left and adds its captures, if it has a jump: one step of the fold.
-use borrow.Author.Rules.{rules}
 use mathlib.Core.Path.{refl, sym, ◌∙◌}
-use mathlib.Core.List.{foldl}
 use native.Mathlib.Omega.{arith}
-use Rattle.squares.specs.Sets.{members}
 use Rattle.squares.proofs.Pointwise.{one_bit}
-use Rattle.squares.proofs.Loops.{Left, cleared, next_lt, turn, done}
-use Rattle.shorts.specs.Few.{man_short, few_men_of}
+use Rattle.squares.proofs.Loops.{cleared, next_lt, turn, done}
+use Rattle.shorts.specs.Few.{few_men_of}
 use Rattle.shorts.proofs.Onto.{man_none, man_some}
 use Rattle.shorts.proofs.few.few_men.Goals as goal
 use Rattle.shorts.proofs.few.few_men.Goals.{then-man_open, else-man_open}

@@ -2,12 +2,11 @@
 -- has no room, by the long search. Either is one step of the fold.
 use borrow.Author.Rules.{rules}
 use mathlib.Core.Path.{◌≡◌, refl, sym, ap, ◌∙◌}
-use mathlib.Core.List.{foldl}
 use native.Mathlib.Omega.{arith}
 use lib.ListN.{length}
 use Rattle.squares.specs.Sets.{lowest}
 use Rattle.squares.proofs.Pointwise.{one_bit}
-use Rattle.squares.proofs.Loops.{Left, cleared, next_lt, turn, done}
+use Rattle.squares.proofs.Loops.{cleared, next_lt, turn, done}
 use Rattle.captures.specs.Kings.{king_captures, kings_captures_of}
 use Rattle.captures.specs.declared.movegen.Captures.{Captures}
 use Rattle.captures.proofs.Shut.{king_shut}

@@ -1,20 +1,11 @@
 -- Each turn sets the search onto the lowest king left and records its captures, if it has a jump: by the short list, or, where that
 -- has no room, by the long search. Either is one step of the fold.
-use borrow.Author.Rules.{rules}
-use mathlib.Core.Path.{◌≡◌, refl, sym, ap, ◌∙◌}
-use mathlib.Core.Logic.{⊎_elim}
+use mathlib.Core.Path.{◌≡◌}
 use mathlib.Core.List.{foldl}
-use native.Mathlib.Omega.{arith}
 use lib.ListN.{length}
 use Rattle.squares.specs.Sets.{members}
-use Rattle.squares.proofs.Pointwise.{one_bit}
-use Rattle.squares.proofs.Loops.{Left, cleared, next_lt, turn, done}
-use Rattle.captures.specs.Kings.{king_captures, kings_captures_of}
-use Rattle.captures.specs.declared.movegen.Captures.{Captures}
-use Rattle.captures.proofs.Shut.{king_shut}
-use Rattle.squares.proofs.Lengths.{length_of_map}
-use Rattle.captures.proofs.Loops.{king_turn}
-use Rattle.shorts.proofs.Turns.{king_few, king_full}
+use Rattle.squares.proofs.Loops.{Left}
+use Rattle.captures.specs.Kings.{king_captures}
 use Rattle.shorts.proofs.pieces.kings_captures.Given as goal
 
 abbrev pub invariant-loop-left : goal.invariant-loop-left

@@ -1,16 +1,16 @@
 -- Each turn adds the next move of the short list by the rule, in place: one step of the fold.
 use mathlib.Core.Path.{◌≡◌, refl, sym, ap, ◌∙◌}
 use mathlib.Core.Bool.{Bool, ◌||◌}
-use Prim.Native.Nat.{◌≤◌, ◌<◌, ◌-◌}
+use Prim.Native.Nat.{◌<◌}
 use native.Mathlib.Omega.{arith}
-use lib.ListN.{length, take, get_or}
+use lib.ListN.{length, get_or}
 use borrow.Author.Rules.{rules}
-use Rattle.captures.specs.Lists.{no_moves, listed, blank, push_of}
+use Rattle.captures.specs.Lists.{no_moves, blank, push_of}
 use Rattle.squares.proofs.Lengths.{length_of_map}
 use Rattle.captures.proofs.Listed.{listed_none}
 use Rattle.captures.proofs.Recorded.{added_anew, added_there, added_stored, added_marked}
 use Rattle.shorts.proofs.Absorbed.{add_few}
-use Rattle.shorts.proofs.Merged.{looked, Merging, merging_none, merging_step, merging_end, seen_more}
+use Rattle.shorts.proofs.Merged.{looked, merging_none, merging_step, merging_end, seen_more}
 use Rattle.shorts.proofs.pieces.merge.Goals as goal
 use Rattle.shorts.proofs.pieces.merge.Goals.{then-not-count-best+then-best-count, then-not-count-best+else-best-count+else-loop-j-test+then-not-there+then-len-lt-MAX_MOVES, then-not-count-best+else-best-count+else-loop-j-test+then-not-there+else-len-lt-MAX_MOVES, then-not-count-best+else-best-count+else-loop-j-test+else-not-there, else-not-count-best}
 

@@ -1,18 +1,9 @@
 -- Each turn adds the next move of the short list by the rule, in place: one step of the fold.
-use mathlib.Core.Path.{◌≡◌, refl, sym, ap, ◌∙◌}
-use mathlib.Core.Logic.{⊎_elim}
-use mathlib.Core.Bool.{Bool, ◌||◌}
-use Prim.Native.Nat.{◌≤◌, ◌<◌, ◌-◌}
-use native.Mathlib.Omega.{arith}
-use lib.ListN.{length, take, get_or}
-use borrow.Author.Rules.{rules}
-use borrow.Author.Tests.{not-true, not-false}
-use Rattle.captures.specs.Lists.{no_moves, listed, blank, push_of}
-use Rattle.squares.proofs.Lengths.{length_of_map}
-use Rattle.captures.proofs.Listed.{listed_none}
-use Rattle.captures.proofs.Recorded.{added_anew, added_there, added_stored, added_marked}
-use Rattle.shorts.proofs.Absorbed.{add_few}
-use Rattle.shorts.proofs.Merged.{looked, Merging, merging_none, merging_step, merging_end, seen_more}
+use mathlib.Core.Path.{◌≡◌}
+use Prim.Native.Nat.{◌≤◌, ◌-◌}
+use lib.ListN.{take}
+use Rattle.captures.specs.Lists.{listed}
+use Rattle.shorts.proofs.Merged.{Merging}
 use Rattle.shorts.proofs.pieces.merge.Given as goal
 
 -- the entries before j are looked through

@@ -1,5 +1,4 @@
 -- The code writes the definition, over the entries of an empty list.
-use borrow.Author.Rules.{rules}
 use Rattle.captures.proofs.movegen.Captures.new.Goals as goal
 
 pub returns : goal.returns

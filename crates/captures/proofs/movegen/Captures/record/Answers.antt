@@ -1,5 +1,4 @@
 -- Each return is one case of the definition: too few, more than before, found already, one more, no room for one more.
-use borrow.Author.Rules.{rules}
 use mathlib.Core.Path.{◌≡◌, ap₂, ◌∙◌}
 use mathlib.Core.Bool.{true, false}
 use Rattle.positions.specs.Moves.{move}

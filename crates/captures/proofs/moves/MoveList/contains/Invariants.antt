@@ -1,13 +1,9 @@
 -- The walk stops at the first entry that is the move; before it no entry was, and past `len` none is looked at.
-use borrow.Author.Rules.{rules}
-use native.Mathlib.Omega.{arith}
-use mathlib.Core.Path.{◌≡◌, sym, ap, ◌∙◌}
+use mathlib.Core.Path.{◌≡◌}
 use mathlib.Core.Bool.{false}
-use Prim.Native.Nat.{ℕ, ◌≤◌, ◌-◌}
-use lib.ListN.{take, length}
-use Rattle.captures.specs.Lists.{listed, blank}
-use Rattle.squares.proofs.Lengths.{length_of_map}
-use Rattle.captures.proofs.Listed.{listed_none, listed_more, listed_at, listed_all}
+use Prim.Native.Nat.{◌≤◌, ◌-◌}
+use lib.ListN.{take}
+use Rattle.captures.specs.Lists.{listed}
 use Rattle.captures.proofs.moves.MoveList.contains.Given as goal
 
 abbrev pub invariant-loop-i : goal.invariant-loop-i

@@ -1,5 +1,4 @@
 -- Where there is room the store is the definition's; a full list stays.
-use borrow.Author.Rules.{rules}
 use borrow.Author.Tests.{le-ltb, lt-ltb}
 use Rattle.captures.specs.Lists.{push_of}
 use Rattle.captures.proofs.moves.MoveList.push.Goals as goal

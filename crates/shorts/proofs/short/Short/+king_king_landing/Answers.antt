@@ -1,14 +1,13 @@
 -- `king` and `king_landing` end: a jump leaves fewer untaken enemies, and a first landing passes to `king` one step below.
 -- Each records what `king_endings` lists.
 use mathlib.Core.Path.{sym, ◌∙◌}
-use Rattle.std.proofs.Common.{rules, arith, true, false, ◌<◌, ◌*◌, bit_and, bit_or}
-use Rattle.squares.specs.Sets.{size, without}
+use Rattle.std.proofs.Common.{rules, arith, true, false, ◌<◌}
 use Rattle.squares.specs.Directions.{direction_at}
 use Rattle.squares.proofs.Pointwise.{and_lt}
 use Rattle.squares.proofs.Shifts.{shifted_lt}
 use Rattle.captures.specs.Kings.{skip_of}
 use Rattle.shorts.specs.Noted.{note_short}
-use Rattle.captures.proofs.Steps.{rank, ray_falls}
+use Rattle.captures.proofs.Steps.{ray_falls}
 use Rattle.captures.proofs.Fewer.{jump_fewer}
 use Rattle.captures.proofs.Kings.{jumped, ray_start, ray_first, ray_step, walked_none, walked_skip, walked_ray, walked_out, walked_end}
 use Rattle.shorts.proofs.short.Short.+king_king_landing.Goals as goal

@@ -1,6 +1,5 @@
 -- `man` ends, since each jump leaves fewer untaken enemies, and records what `man_endings` lists.
-use Rattle.std.proofs.Common.{rules, arith, ◌<◌, ◌^◌, bit_and, bit_or}
-use Rattle.squares.specs.Sets.{size, without}
+use Rattle.std.proofs.Common.{rules, arith, ◌<◌, ◌^◌}
 use Rattle.shorts.specs.Noted.{note_short}
 use Rattle.captures.proofs.Fewer.{jump_fewer}
 use Rattle.captures.proofs.Men.{walked_none, walked_past, walked_jump, walked_out, walked_end, man_ends, jumped}
