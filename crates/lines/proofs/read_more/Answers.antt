@@ -14,4 +14,4 @@ returns g c =
     let buf = c.args.buf.now in
     let s = laws.same_buffer buf c.read_once.new.space c.args.have (omega arith) c.read_once.auto.space in
     let l = laws.part_length buf c.read_once.new.space c.args.have (omega arith) c.read_once.auto.space in
-    record { came_in = subst (λ (n : ℕ). CameIn n c.read_once.result) (l ∙ ap (λ (n : ℕ). n - c.args.have) (sym s)) c.read_once.ensures; buf_unchanged = take_put c.args.have (length buf - c.args.have) buf c.read_once.new.space (omega arith) }
+    record { came_in = subst (λ (n : ℕ). CameIn n c.read_once.result) (l ∙ ap (λ (n : ℕ). n - c.args.have) (sym s)) c.read_once.ensures.came_in; buf_unchanged = take_put c.args.have (length buf - c.args.have) buf c.read_once.new.space (omega arith) }
