@@ -36,6 +36,7 @@ use Rattle.games.specs.Play.{fresh_of, not_begun, new_of, moved_of, refused_play
 use Rattle.games.specs.declared.game.Game.{Game}
 use Rattle.games.specs.declared.game.Judged.TheVariants as judged
 use Rattle.games.specs.declared.game.Played.{Played}
+use Rattle.games.proofs.BookPlay.{meets, next_of, accepted_listed}
 use Rattle.games.proofs.Stands.{Stands, begun_stands, now_sound, now_accepted, same_outcome, room, moved_stands}
 use Rattle.games.proofs.Tests.{squares_agree}
 use Rattle.games.proofs.Valid.{alone_last}
@@ -50,32 +51,6 @@ module _ (g : Game) (m : Move) (v : valid g ≡ true) where
   play_is q o e f =
       ap (λ (t : Bool). cond t (told (squares_of m) (ended (judged_of g)) (reached_of g m (after_of (last_of g) m))) (refused_play g BadGame)) v
       ∙ ap₂ (λ (s t : Bool). told s t (reached_of g m (after_of (last_of g) m))) e f
-
--- ---- the book's play, case by case
-module _ (b : Book) (m : Move) where
-  abbrev met : Bool → Bool → Bool → Bool → ℕ
-  met q o n l = cond (not q) 11 (cond o 14 (cond n 17 (cond (not l) 15 0)))
-
-  meets : (q o n l : Bool) → on_the_board m ≡ q → over (book_outcome b) ≡ o → ltb 256 (length (legal (standing b))) ≡ n → listed (legal (standing b)) m ≡ l
-      → book_answer b m ≡ met q o n l
-  unfolding book_answer
-  meets q o n l e f h k = ap₂ (λ (x y : Bool). met x y (ltb 256 (length (legal (standing b)))) (listed (legal (standing b)) m)) e f ∙ ap₂ (λ (x y : Bool). met q o x y) h k
-
-  next_of : (t : Bool) → eqb (book_answer b m) 0 ≡ t → book_next b m ≡ cond t (book_played b m) b
-  unfolding book_next
-  next_of t e = ap (λ (t : Bool). cond t (book_played b m) b) e
-
-  -- an accepted record is one of the legal moves
-  accepted_listed : book_answer b m ≡ 0 → listed (legal (standing b)) m ≡ true
-  unfolding book_answer
-  accepted_listed e = go (on_the_board m) (over (book_outcome b)) (ltb 256 (length (legal (standing b)))) (listed (legal (standing b)) m) e
-    where
-      go : (q o n l : Bool) → ◌≡◌ {A = ℕ} (cond (not q) 11 (cond o 14 (cond n 17 (cond (not l) 15 0)))) 0 → l ≡ true
-      go q o n true z = refl
-      go false o n false z = absurd (omega arith)
-      go true true n false z = absurd (omega arith)
-      go true false true false z = absurd (omega arith)
-      go true false false false z = absurd (omega arith)
 
 over_told : (v : Verdict) → ended (told_as v) ≡ over v
 over_told goes_on = refl

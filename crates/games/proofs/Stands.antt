@@ -31,6 +31,7 @@ use Rattle.games.specs.Play.{alone_of, fresh_of, appended_of, moved_of}
 use Rattle.games.specs.declared.game.Game.{Game}
 use Rattle.games.proofs.Boards.{last_snoc, Each, each_none, each_one, each_append, each_from, times_append, times_none, times_boards}
 use Rattle.games.proofs.Moves.{man_agrees, promotion_agrees, taking_agrees, men_add, kings_add, Measured, falls, stays, measured}
+use Rattle.games.proofs.Counters.{second_agrees}
 use Rattle.games.proofs.Tests.{outcome_agrees}
 use Rattle.games.proofs.Valid.{valid_says, material_fits, alone_window, alone_last, alone_long, alone_first, alone_second, alone_valid, more_window, more_last, more_long, more_first, more_second, more_valid}
 
@@ -103,17 +104,6 @@ module _ (start : Board) (g : Game) (b : Book) (r : Stands start g b) where
       ∙ sym (ap₂ (λ (p : Board) (n : ℕ). told_as (first_to_hold (tests_at p n b.first b.second))) r.last stood_is)
 
 -- ---- an accepted play
--- a count that stops at 32 is one more
-one_more : (n : ℕ) → min 32 (min 32 n + 1) ≡ min 32 (n + 1)
-one_more n = go (leb 32 n) refl
-  where
-    go : (t : Bool) → leb 32 n ≡ t → min 32 (min 32 n + 1) ≡ min 32 (n + 1)
-    go true e =
-        let l = leb-true 32 n e in
-        let k : 32 ≤ n + 1 = omega arith in
-        ap (λ (k : ℕ). min 32 (k + 1)) (min-eq_left l) ∙ sym (min-eq_left k)
-    go false e = let l = leb-false 32 n e in let k : n ≤ 32 = omega arith in ap (λ (k : ℕ). min 32 (k + 1)) (min-eq_right k)
-
 -- no outcome leaves room for one more position
 pub room : (p : Board) (n f s : ℕ) → ended (judge p n f s) ≡ false → f < 50
 unfolding judge
@@ -158,14 +148,8 @@ module _ (start : Board) (g : Game) (b : Book) (r : Stands start g b) (m : Move)
 
   -- the second counter
   new_second : material_after (standing b) m g.material ≡ min 32 (book_played b m).second
-  unfolding material_after book_played
-  new_second =
-      ap₂ (λ (x z : Bool). cond (x || z) 0 (min 32 (g.material + 1))) (taking_agrees (standing b) m a y) (promotion_agrees (standing b) m a y)
-      ∙ go (takes m || is_promotion (standing b) m)
-    where
-      go : (t : Bool) → cond t 0 (min 32 (g.material + 1)) ≡ min 32 (cond t 0 (b.second + 1))
-      go true = refl
-      go false = ap (λ (k : ℕ). min 32 (k + 1)) r.second ∙ one_more b.second
+  unfolding book_played
+  new_second = second_agrees (standing b) m g.material b.second r.second (taking_agrees (standing b) m a y) (promotion_agrees (standing b) m a y)
 
   -- the first count, by the game's word for it
   new_first : (book_played b m).first ≡ cond (irreversible (standing b) m) 0 (b.first + 1)

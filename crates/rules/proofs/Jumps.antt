@@ -11,7 +11,6 @@ use mathlib.Core.List.Memᴰ.{tail}
 use mathlib.Core.List.{List, [], map, Memᴰ as Member}
 use lib.Bits.{or_lt}
 use lib.Pow.{pow-lt}
-use borrow.Author.Tests.{not-true}
 use Rattle.squares.specs.declared.piece.PieceKind.{PieceKind}
 use Rattle.squares.specs.declared.piece.PieceKind.TheVariants.{Man, King}
 use Rattle.squares.specs.Directions.{Direction, up_left, up_right, down_left, down_right, next}
@@ -23,6 +22,7 @@ use Rattle.positions.specs.Boards.{Board, own, enemy}
 use Rattle.rules.proofs.Boards.{own_lt, wide, enemy_lt, space_lt, enemy_blocks}
 use Rattle.rules.specs.Ordered.{directions, ray, last, blocker, target, hop, jumps_over, man_landings, jumps_along, jumps, count}
 use Rattle.rules.specs.Rules.{BitMove, bit_move, space, Target, Jump, man_jump, king_jump, Fair}
+use Rattle.rules.proofs.Targets.{of_target}
 use Rattle.rules.proofs.Lists.{in_concat_map, of_concat_map, in_map, of_map}
 use Rattle.squares.proofs.Cases.{size_falls}
 use Rattle.rules.proofs.Ray.{of_ray, last_ray, in_ray, last_is}
@@ -33,10 +33,6 @@ all_directions up_left = head refl
 all_directions up_right = tail (head refl)
 all_directions down_left = tail (tail (head refl))
 all_directions down_right = tail (tail (tail (head refl)))
-
-pub of_target : (b : Board) (t o : ℕ) → target b t o ≡ true → Target b t o
-unfolding target
-of_target b t o e = record { enemy = and_left _ _ e; untaken = not-true (has t o) (and_right (has (enemy b) o) (not (has t o)) e) }
 
 to_target : (b : Board) (t o : ℕ) → Target b t o → target b t o ≡ true
 unfolding target

@@ -26,7 +26,8 @@ use Rattle.rules.specs.Ordered.{directions, ray, last, blocker, target, hop, jum
 use Rattle.rules.specs.Rules.{BitMove, bit_move, space, Glide, rest, step, Flight, Target, Fair}
 use Rattle.rules.proofs.Bounded.{bounded, view, note_in, fold_seen}
 use Rattle.rules.proofs.Fold.{Found, found, note, fold_law}
-use Rattle.rules.proofs.Jumps.{of_target, over_yes, over_no, Good, good, grows}
+use Rattle.rules.proofs.Targets.{of_target}
+use Rattle.rules.proofs.Jumps.{over_yes, over_no, Good, good, grows}
 use Rattle.rules.proofs.Lists.{of_map}
 use Rattle.rules.proofs.Paths.{starts}
 use Rattle.rules.proofs.Ray.{ray_on, of_ray, last_is}
