@@ -3,7 +3,6 @@ use mathlib.Core.Path.{◌≡◌, ◌∙◌}
 use Prim.Native.Nat.{◌<◌, ◌^◌}
 use native.Mathlib.Omega.{arith}
 use lib.IntN.{ℤ, nat_abs}
-use borrow.Author.Rules.{rules}
 use Rattle.positions.specs.Boards.{board_of}
 use Rattle.scores.specs.Score.{within}
 use mathlib.Core.Bool.{true, false}
