@@ -138,10 +138,14 @@ module _ {left mid old now : Option (List ℕ)} {carried : List ℕ} (j : Feedin
             (subst (λ (p : List ℕ). Begins (j.written ++ t) (output_of answer_of (p ++ []))) same (stop_law (j.stop runs.last [] t (runs.at_last n (length l) l (take-length l))) [] refl));
       }
 
-  pub fed_last : (after new : Option (List ℕ)) (r : Ended) → Keeps mid after → IsAtEnd after → PutAtEnd now new (last_answer answer_of carried) r → FedTo left after old new r
-  fed_last after new ended.Whole kept end h = fed_whole after new kept end h
-  fed_last after new ended.Read kept end h = absurd h
-  fed_last after new ended.Write kept end h = fed_cut after new kept end h.0 h.1
+  fed_end : (after new : Option (List ℕ)) (r : Ended) → Keeps mid after → IsAtEnd after → PutAtEnd now new (last_answer answer_of carried) r → FedTo left after old new r
+  fed_end after new ended.Whole kept end h = fed_whole after new kept end h
+  fed_end after new ended.Read kept end h = absurd h
+  fed_end after new ended.Write kept end h = fed_cut after new kept end h.0 h.1
+
+  pub fed_last : (after new : Option (List ℕ)) (line : List ℕ) (r : Ended) → line ≡ carried → Keeps mid after → IsAtEnd after
+      → PutAtEnd now new (last_answer answer_of line) r → FedTo left after old new r
+  fed_last after new line r e kept end h = fed_end after new r kept end (subst (λ (x : List ℕ). PutAtEnd now new (last_answer answer_of x) r) e h)
 
   -- ---- a read that fails
   pub fed_read : (after : Option (List ℕ)) → Keeps mid after → FedTo left after old now ended.Read

@@ -66,9 +66,8 @@ pub returns-in-End : goal.returns-in-End
 returns-in-End g c =
     let have = c.loop-turns.have in
     let space : 0 < length (drop have c.read_more.new.buf) = omega (arith, length-drop have c.read_more.new.buf, c.read_more.auto.buf, c.loop-turns.invariant.0, c.loop-turns.invariant.3) in
-    turns.fed_last c.loop-turns.invariant.5 _ _ c.write_last.result c.in-End.ensures.came_from.0 (c.in-End.ensures.came_from.1 space)
-    (subst (λ (x : List ℕ). PutAtEnd (g.W.Write.contents c.loop-turns.to) (g.W.Write.contents c.write_last.new.to) (last_answer answer_of x) c.write_last.result)
-    c.read_more.ensures.buf_unchanged c.write_last.ensures)
+    turns.fed_last c.loop-turns.invariant.5 _ _ _ c.write_last.result c.read_more.ensures.buf_unchanged c.in-End.ensures.came_from.0 (c.in-End.ensures.came_from.1 space)
+    c.write_last.ensures
 
 pub returns-in-Failed : goal.returns-in-Failed
 returns-in-Failed g c = turns.fed_read c.loop-turns.invariant.5 _ c.in-Failed.ensures.came_from
