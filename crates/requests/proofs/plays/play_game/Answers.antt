@@ -1,7 +1,6 @@
 -- The game begun, then every word.
 use Rattle.texts.proofs.Pieces as pieces
 use Rattle.requests.proofs.PlayLaws as laws
-use borrow.Author.Rules.{rules}
 use Rattle.requests.proofs.plays.play_game.Goals as goal
 
 pub returns : goal.returns
