@@ -1,6 +1,6 @@
 -- What the answer of a read means, and what the buffer contains after reads.
 use Rattle.std.specs.Prelude.{ℕ, zero, suc, ◌≤◌, ◌<◌, ◌≡◌, List, [], ◌∷◌, ◌++◌, false, length, take, drop, Result, Ok, Err}
-use Rattle.core.specs.declared.option.Option.{Option}
+use Rattle.std.specs.declared.option.Option.{Option}
 use Rattle.std.specs.Io.KnownBytes.{Consumes, Keeps, IsAtEnd}
 use Rattle.texts.specs.Bytes.{holds}
 use Rattle.frame.specs.declared.input.Came.{Came}

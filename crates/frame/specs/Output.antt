@@ -1,6 +1,6 @@
 -- How a run ends, and what a writer got.
 use Rattle.std.specs.Prelude.{ℕ, List, Bool, true, false, take}
-use Rattle.core.specs.declared.option.Option.{Option}
+use Rattle.std.specs.declared.option.Option.{Option}
 use Rattle.std.specs.Io.KnownBytes.{Appends}
 use Rattle.frame.specs.declared.output.Ended.{Ended}
 use Rattle.frame.specs.declared.output.Ended.TheVariants as ended

@@ -1,4 +1,5 @@
 pub mod LineLaws
 pub mod OutputLaws
 pub mod StepLaws
+pub mod SomeRuns
 pub mod RunLaws

@@ -1,13 +1,13 @@
 -- Whole lines and the line after them, one after the other.
 use Prim.Native.Nat.{ℕ, zero, suc, ◌+◌, ◌≤◌, ◌<◌}
 use mathlib.Core.Path.{◌≡◌, refl, ap, sym, ◌∙◌}
-use mathlib.Core.List.{List, [], ◌∷◌, ◌++◌, append_assoc}
+use mathlib.Core.List.{List, [], ◌∷◌, ◌++◌}
 use mathlib.Core.Bool.{Bool, true, false, cond}
 use native.Mathlib.Omega.{arith}
-use lib.ListN.{length, take, drop, length-append}
-use lib.Seq.{take_all, take-append-add, length-take-le}
-use lib.Dec.{eqb, ltb, leb}
-use borrow.Author.Tests.{lt-ltb, leb-true, leb-false}
+use lib.ListN.{length, take, drop}
+use lib.Seq.{take-append-add}
+use lib.Dec.{eqb, ltb}
+use borrow.Author.Tests.{lt-ltb}
 use Rattle.texts.specs.Bytes.{is, index_of, cons_head, parts_at}
 use Rattle.line_laws.specs.Lines.{lines_of, whole_of, whole_lines}
 

@@ -5,12 +5,13 @@ use mathlib.Core.Path.{◌≡◌, refl, ap, sym, ◌∙◌}
 use mathlib.Core.List.{List, [], ◌∷◌, ◌++◌, append_assoc, append-nil}
 use native.Mathlib.Omega.{arith}
 use lib.ListN.{length, take, drop, take-append-drop, length-drop}
-use lib.Seq.{drop-drop, length-take-le, take-length, take-append-add}
+use lib.Seq.{drop-drop, length-take-le, take-append-add}
 use Rattle.line_laws.specs.Lines.{output_of, whole_of, whole_lines, open_line, carried_of, last_answer, turns_output, together, Cut}
 use Rattle.line_laws.specs.Steps.{between, Answered}
 use Rattle.line_laws.specs.Runs as runs
 use Rattle.line_laws.specs.Runs.{Writes, Run, Fault, CutWrites, Stopped, Follows, Begins}
-use Rattle.line_laws.proofs.LineLaws.{whole_le, whole_append, whole_part, open_part, none_whole, open_take}
+use Rattle.line_laws.proofs.LineLaws.{whole_le, whole_append, whole_part, open_part, none_whole}
+use Rattle.line_laws.proofs.SomeRuns.{carried_open}
 use Rattle.line_laws.proofs.OutputLaws.{output_nil, output_append, open_output, kept_output, kept_whole}
 
 whole_length : (s : List ℕ) → whole_of (whole_lines s) ≡ length (whole_lines s)
@@ -74,29 +75,8 @@ module _ (step : List ℕ → List ℕ) where
   cut_law s (runs.fails {to = to} n put out a) = begins_as (sym (step_output s a)) (begins_more (output_of step (whole_lines (drop to s))) (begins_take n (take put out)))
   cut_law s (runs.CutWrites.more put out a w) = begins_as (sym (step_output s a)) (begins_onto (take put out) (cut_law s w))
 
-  -- every turn can be one step
-  step_all : (s : List ℕ) → Answered step s 0 (output_of step (whole_lines s)) (whole_of s) (length (output_of step (whole_lines s)))
-  unfolding whole_lines
-  step_all s =
-      let z : whole_of s - 0 ≡ whole_of s = omega arith in
-      record {
-        onward = omega arith;
-        inside = whole_le s;
-        whole = ap (λ (n : ℕ). whole_of (take n s)) z ∙ whole_part s ∙ sym z;
-        fits = omega arith;
-        answers = take-length (output_of step (whole_lines s)) ∙ ap (λ (n : ℕ). output_of step (take n s)) (sym z);
-        goes_on = λ e. e;
-      }
-
-  writes_all : (s : List ℕ) → Writes step s 0 (take (length (output_of step (whole_lines s))) (output_of step (whole_lines s)) ++ [])
-  writes_all s = let a = output_of step (whole_lines s) in runs.Writes.more (length a) a (step_all s) (runs.none (open_part s))
-
   -- ---- the runs
   module _ (most : ℕ) where
-    carried_open : (s : List ℕ) → whole_of (carried_of most s) ≡ 0
-    unfolding carried_of open_line
-    carried_open s = open_take (most + 1) (drop (whole_of s) s) (open_part s)
-
     run_turns : {carried : List ℕ} {pieces : List (List ℕ)} {written : List ℕ} → Run step most carried pieces written → written ≡ turns_output step most carried pieces
     unfolding turns_output
     run_turns (runs.end put out e) = e
@@ -104,38 +84,6 @@ module _ (step : List ℕ → List ℕ) where
         let s = carried ++ piece in
         ap (λ (x : List ℕ). x ++ rest) (writes_law s w)
         ∙ ap (λ (x : List ℕ). output_of step (whole_lines s) ++ x) (run_turns r ∙ ap (λ (x : List ℕ). turns_output step most x pieces) e)
-
-    -- there is a run for every list of pieces
-    pub run_some : (carried : List ℕ) (pieces : List (List ℕ)) → (written : List ℕ) × Run step most carried pieces written
-    run_some carried [] = let a = last_answer step carried in (take (length a) a, runs.end (length a) a (take-length a))
-    run_some carried (piece ∷ pieces) =
-        let s = carried ++ piece in
-        let c = carried_of most s in
-        let a = output_of step (whole_lines s) in
-        let r = run_some (take (length c) c) pieces in
-        ((take (length a) a ++ []) ++ r.0, runs.Run.turn (length c) c (writes_all s) (take-length c) r.1)
-
-    -- a read can fail after any pieces, and a write at any of its bytes
-    pub read_stops : (carried : List ℕ) (pieces : List (List ℕ)) → (written : List ℕ) × Stopped step most runs.read carried pieces written
-    read_stops carried [] = ([], runs.at_read)
-    read_stops carried (piece ∷ pieces) =
-        let s = carried ++ piece in
-        let c = carried_of most s in
-        let a = output_of step (whole_lines s) in
-        let r = read_stops (take (length c) c) pieces in
-        ((take (length a) a ++ []) ++ r.0, runs.Stopped.turn (length c) c (writes_all s) (take-length c) r.1)
-
-    pub write_stops : (n : ℕ) (carried piece : List ℕ) (pieces : List (List ℕ)) → (written : List ℕ) × Stopped step most runs.write carried (piece ∷ pieces) written
-    write_stops n carried piece [] =
-        let s = carried ++ piece in
-        let a = output_of step (whole_lines s) in
-        (take n (take (length a) a), runs.at_write (runs.fails n (length a) a (step_all s)))
-    write_stops n carried piece (next ∷ pieces) =
-        let s = carried ++ piece in
-        let c = carried_of most s in
-        let a = output_of step (whole_lines s) in
-        let r = write_stops n (take (length c) c) next pieces in
-        ((take (length a) a ++ []) ++ r.0, runs.Stopped.turn (length c) c (writes_all s) (take-length c) r.1)
 
     -- ---- what the runs write, where a line that is too long has the answer of its first bytes
     module _ (cut : Cut step most) where
@@ -156,7 +104,7 @@ module _ (step : List ℕ → List ℕ) where
       turns_from carried [] e = last_output carried e
       turns_from carried (piece ∷ pieces) e =
           let s = carried ++ piece in
-          ap (λ (o : List ℕ). output_of step (whole_lines s) ++ o) (turns_from (carried_of most s) pieces (carried_open s))
+          ap (λ (o : List ℕ). output_of step (whole_lines s) ++ o) (turns_from (carried_of most s) pieces (carried_open most s))
           ∙ turn_output s (together pieces)
           ∙ ap (output_of step) (append_assoc carried piece (together pieces))
 
@@ -185,7 +133,7 @@ module _ (step : List ℕ → List ℕ) where
           (ap (λ (o : List ℕ). o ++ output_of step (take kept buffer ++ y)) (writes_law s w)
           ∙ ap (λ (c : List ℕ). output_of step (whole_lines s) ++ output_of step (c ++ y)) a
           ∙ turn_output s y ∙ ap (output_of step) (joined_turn carried piece (together pieces) x))
-          (begins_onto written (stop_from r (ap whole_of a ∙ carried_open s) x h))
+          (begins_onto written (stop_from r (ap whole_of a ∙ carried_open most s) x h))
 
       -- what was written is a beginning of the output for the input that was read, however that input goes on
       pub stop_law : {f : Fault} {pieces : List (List ℕ)} {written : List ℕ} → Stopped step most f [] pieces written
@@ -212,7 +160,7 @@ module _ (step : List ℕ → List ℕ) where
       read_from (runs.Stopped.turn {carried = carried} {piece = piece} {written = written} {rest = rest} {pieces = pieces} kept buffer w a r) e =
           let s = carried ++ piece in
           ap (λ (o : List ℕ). o ++ rest) (writes_law s w)
-          ∙ ap (λ (o : List ℕ). output_of step (whole_lines s) ++ o) (read_from r (ap whole_of a ∙ carried_open s) ∙ ap (λ (c : List ℕ). output_of step (whole_lines (c ++ together pieces))) a)
+          ∙ ap (λ (o : List ℕ). output_of step (whole_lines s) ++ o) (read_from r (ap whole_of a ∙ carried_open most s) ∙ ap (λ (c : List ℕ). output_of step (whole_lines (c ++ together pieces))) a)
           ∙ turn_whole s (together pieces)
           ∙ ap (λ (o : List ℕ). output_of step (whole_lines o)) (append_assoc carried piece (together pieces))
 

@@ -1,3 +1,4 @@
 pub mod Moved
 pub mod RunLaws
 pub mod Buffers
+pub mod Turns

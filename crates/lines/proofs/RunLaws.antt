@@ -16,6 +16,7 @@ use Rattle.line_laws.specs.Runs.{Run, Fault, Stopped, Follows, Begins}
 use Rattle.line_laws.specs.Runs as runs
 use Rattle.line_laws.proofs.OutputLaws.{one_line}
 use Rattle.line_laws.proofs.RunLaws as laws
+use Rattle.line_laws.proofs.SomeRuns as some
 use Rattle.lines.specs.Given.{given_output}
 use Rattle.lines.proofs.Buffers.{given_line}
 
@@ -45,7 +46,7 @@ run_law r = laws.run_law answer_of longest answer_cut r
 
 -- there is a run for every list of pieces
 pub run_some : (carried : List ℕ) (pieces : List (List ℕ)) → (written : List ℕ) × Run answer_of longest carried pieces written
-run_some carried pieces = laws.run_some answer_of longest carried pieces
+run_some carried pieces = some.run_some answer_of longest carried pieces
 
 -- what a run that stops has written is a beginning of the output for the input that it read, however that input goes on
 pub stop_law : {f : Fault} {pieces : List (List ℕ)} {written : List ℕ} → Stopped answer_of longest f [] pieces written
@@ -59,10 +60,10 @@ read_stop_law r = laws.read_stop_law answer_of longest answer_cut r
 
 -- a read can fail after any pieces, and a write at any of its bytes
 pub read_stops : (carried : List ℕ) (pieces : List (List ℕ)) → (written : List ℕ) × Stopped answer_of longest runs.read carried pieces written
-read_stops carried pieces = laws.read_stops answer_of longest carried pieces
+read_stops carried pieces = some.read_stops answer_of longest carried pieces
 
 pub write_stops : (n : ℕ) (carried piece : List ℕ) (pieces : List (List ℕ)) → (written : List ℕ) × Stopped answer_of longest runs.write carried (piece ∷ pieces) written
-write_stops n carried piece pieces = laws.write_stops answer_of longest n carried piece pieces
+write_stops n carried piece pieces = some.write_stops answer_of longest n carried piece pieces
 
 -- ---- the arguments, given as one line
 

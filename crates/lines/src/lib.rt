@@ -4,25 +4,28 @@
 // arguments, these are one request, joined by single spaces: its answer is written, and standard input is not read. The
 // argument `--help` alone writes the help.
 //
-// No contract says what the outside gets, since those of read and write do not. So nearly all of the work is in
-// functions that only fill buffers, and their contracts say which bytes the buffers contain then: `answer_lines` puts
-// answers into the output buffer, `carry` keeps the line that is not whole yet, `last_answer` answers it at the end
-// of the input, and `given_answer` answers the arguments. The other functions read, call these, and write what these
-// put into the buffer.
+// No contract says what standard input delivers or what standard output gets, since those of their read and write do
+// not. So all of the work is in functions over a reader and a writer. Where the bytes of these are known, the contract
+// of `feed` says what is written: the output for the whole input, however the input is cut into reads; and where a read
+// or a write fails, a beginning of it (`FedTo`). What is written for arguments is `given_output`.
 //
-// What is written in this way, turn by turn, is the output for the whole input, however the input is cut into reads
-// (law `run_law`). What a run has written when a read or a write fails is a beginning of that output (`stop_law`,
-// `read_stop_law`). The laws are those of the crate line_laws, with `answer_of` for the answer to a line.
-// What is written for arguments is what is written for an input of that line alone (`given_law`).
+// The functions below `feed` that only fill buffers say which bytes the buffers contain then: `answer_lines` puts
+// answers into the output buffer, `carry` keeps the line that is not whole yet, `last_answer` answers it at the end
+// of the input, and `given_answer` answers the arguments.
+//
+// The laws on runs are those of the crate line_laws, with `answer_of` for the answer to a line (`run_law`, `stop_law`,
+// `read_stop_law`). What is written for arguments is what is written for an input of that line alone (`given_law`).
 #![tactic(auto)]
 
 ghost use Rattle.std.specs.Prelude.{◌≡◌, [], ◌∷◌, ◌++◌, ◌≤◌, ◌<◌, ◌-◌, ◌+◌, min, length, take, drop};
 ghost use Rattle.requests.specs.Requests.{longest, answer_room, answer_of};
-ghost use Rattle.frame.specs.Input.{CameIn};
+ghost use Rattle.frame.specs.Input.{CameIn, CameFrom};
+ghost use Rattle.frame.specs.Output.{PutAtEnd};
 ghost use Rattle.line_laws.specs.Lines.{whole_of, carried_of, last_answer};
 ghost use Rattle.line_laws.specs.Steps.{Answered};
-ghost use Rattle.lines.specs.Steps.{SentOf};
+ghost use Rattle.lines.specs.Steps.{SentOf, SentTo};
 ghost use Rattle.lines.specs.Given.{given_output};
+ghost use Rattle.lines.specs.Fed.{FedTo, Ran};
 
 use frame::arguments::Given;
 use frame::input::Came;
@@ -134,6 +137,7 @@ fn carry(buf: &mut [u8], used: usize, full: usize) -> usize
 fn read_more<R: Read>(from: &mut R, buf: &mut [u8], have: usize) -> Came
     requires { have < length buf.old }
     ensures came_in { CameIn (length buf.new - have) result }
+    ensures came_from { CameFrom (R.remaining from.old) (R.remaining from.new) (drop have buf.new) result }
     ensures buf_unchanged { take have buf.new ≡ take have buf.old }
 {
     input::read_once(from, &mut buf[have..])
@@ -142,7 +146,8 @@ fn read_more<R: Read>(from: &mut R, buf: &mut [u8], have: usize) -> Came
 // Writes the answers to the whole lines of s. It stops at the first write that fails.
 fn write_answers<W: Write>(to: &mut W, s: &[u8], out: &mut [u8]) -> Sent
     requires { answer_room ≤ length out.old }
-    ensures { SentOf s.now result }
+    ensures sent { SentOf s.now result }
+    ensures sent_to { SentTo (W.contents to.old) (W.contents to.new) s.now result }
 {
     let mut at = 0;
     let mut t = answer_lines(s, 0, out);
@@ -161,6 +166,7 @@ fn write_answers<W: Write>(to: &mut W, s: &[u8], out: &mut [u8]) -> Sent
 // At the end of the input: writes the answer to the last line, which has no line feed, if there is such a line.
 fn write_last<W: Write>(to: &mut W, line: &[u8], out: &mut [u8]) -> Ended
     requires { answer_room ≤ length out.old }
+    ensures { PutAtEnd (W.contents to.old) (W.contents to.new) (last_answer answer_of line.now) result }
 {
     let put = last_answer(line, out);
     output::finish(to, &out[..put])
@@ -168,8 +174,9 @@ fn write_last<W: Write>(to: &mut W, line: &[u8], out: &mut [u8]) -> Ended
 
 // Each turn reads once and answers the lines that are whole then. After a read or a write that fails, nothing more is
 // answered or written. After u64::MAX turns, which no run reaches, it ends as if a read had failed.
-fn feed<R: Read, W: Write>(from: &mut R, to: &mut W, buf: &mut [u8], out: &mut [u8]) -> Ended
+pub fn feed<R: Read, W: Write>(from: &mut R, to: &mut W, buf: &mut [u8], out: &mut [u8]) -> Ended
     requires { (longest + 1 < length buf.old) × (answer_room ≤ length out.old) }
+    ensures { FedTo (R.remaining from.old) (R.remaining from.new) (W.contents to.old) (W.contents to.new) result }
 {
     let mut have = 0;
     let mut turns = u64::MAX;
@@ -214,6 +221,7 @@ fn given_answer(line: &[u8], out: &mut [u8]) -> usize
 // Writes the answer to the arguments, given as one line. Standard input is not read.
 fn answer_given<W: Write>(to: &mut W, line: &[u8], out: &mut [u8]) -> Ended
     requires { answer_room ≤ length out.old }
+    ensures { PutAtEnd (W.contents to.old) (W.contents to.new) (given_output line.now) result }
 {
     let put = given_answer(line, out);
     output::finish(to, &out[..put])
@@ -222,7 +230,7 @@ fn answer_given<W: Write>(to: &mut W, line: &[u8], out: &mut [u8]) -> Ended
 // Answers the arguments, or standard input where there are none. The buffer `line` has one byte more than the longest
 // line. So arguments that leave no byte of it free are a line that is too long, and so is the whole buffer: all lines
 // that are too long have one answer (law `given_long`).
-fn run<E: Env, R: Read, W: Write>(
+pub fn run<E: Env, R: Read, W: Write>(
     rt: &E,
     from: &mut R,
     to: &mut W,
@@ -231,6 +239,7 @@ fn run<E: Env, R: Read, W: Write>(
     out: &mut [u8],
 ) -> Ended
     requires { (longest + 1 < length buf.old) × (answer_room ≤ length out.old) }
+    ensures { Ran line.old line.new (R.remaining from.old) (R.remaining from.new) (W.contents to.old) (W.contents to.new) result }
 {
     match arguments::arguments(rt, line) {
         Given::Line(n) => answer_given(to, &line[..n], out),

@@ -16,7 +16,6 @@ use Rattle.positions.specs.Moves.{squares_of}
 use Rattle.positions.specs.declared.moves.Move.{Move}
 use Rattle.positions.specs.declared.position.Position.{Position}
 use Rattle.positions.proofs.Accepts.{sound_says}
-use Rattle.texts.specs.Bytes.{is}
 use Rattle.texts.specs.Lent.{emit_of, emitted}
 use Rattle.texts.specs.Fen.{fen_text, fen_of, fen_lent}
 use Rattle.texts.specs.Hub.{hub_text, hub_of, hub_lent}
@@ -26,7 +25,6 @@ use Rattle.texts.proofs.FenLength.{fen_short}
 use Rattle.texts.proofs.HubTrip.{hub_length}
 use Rattle.notation.specs.MoveText.{move_text, to_hub_of, to_hub_lent}
 use Rattle.notation.proofs.MoveTexts.{move_short}
-use Rattle.wording.specs.Escapes.{text}
 use Rattle.replies.specs.Answers.{fen_word, hub_word, move_word}
 
 -- ---- a text in lent space that is long enough

@@ -49,7 +49,6 @@ use Rattle.games.specs.declared.game.Begun.{Begun}
 use Rattle.games.specs.declared.game.Game.{Game}
 use Rattle.games.specs.declared.game.Judged.{Judged}
 use Rattle.games.specs.declared.game.Judged.TheVariants as judged
-use Rattle.games.specs.declared.game.Outcome.{Outcome}
 use Rattle.games.specs.declared.game.Played.{Played}
 use Rattle.games.specs.declared.game.Termination.{Termination}
 use Rattle.games.specs.declared.game.Termination.TheVariants.{NoMoves, Repetition, TwentyFiveMoves, SixteenMoves, FiveMoves}

@@ -31,7 +31,7 @@ use Rattle.movegen.specs.declared.movegen.Tested.TheVariants as tested
 use Rattle.movegen.specs.declared.perft.Counted.{Counted}
 use Rattle.movegen.specs.declared.perft.Counted.TheVariants as counted
 use Rattle.games.specs.Play.{new_of, outcome_of}
-use Rattle.texts.specs.Bytes.{bytes, is, index_of}
+use Rattle.texts.specs.Bytes.{is, index_of}
 use Rattle.texts.proofs.Cuts.{after_is}
 use Rattle.wording.specs.Numbers.{unsigned_of, set_of}
 use Rattle.wording.specs.declared.numbers.Parsed.{Parsed}

@@ -1,5 +1,5 @@
 -- The table of the requests, row by row: as the program reads it, it is the table of the definitions.
-use Prim.Native.Nat.{ℕ, zero, suc, ◌<◌, ◌≤◌, ◌-◌, ◌+◌}
+use Prim.Native.Nat.{ℕ, zero, suc, ◌<◌, ◌-◌, ◌+◌}
 use mathlib.Core.Path.{◌≡◌, refl, ap, sym, ◌∙◌}
 use mathlib.Core.List.{List, [], ◌∷◌, map}
 use mathlib.Core.Bool.{true, false, cond}
@@ -7,7 +7,7 @@ use native.Mathlib.Omega.{arith}
 use native.Mathlib.Numerals.{add-one}
 use lib.ListN.{length, drop, get_or}
 use Rattle.wording.specs.Words.{same_text, first_word}
-use Rattle.texts.specs.Bytes.{bytes, up_to, after_or, after_first}
+use Rattle.texts.specs.Bytes.{up_to, after_or, after_first}
 use Rattle.requests.specs.Requests.{Row, requests, rows, help_text, request_of, request_at}
 use Rattle.requests.specs.declared.requests.Request.{Request}
 use Rattle.requests.specs.declared.requests.Request.TheVariants as request

@@ -1,6 +1,6 @@
 -- The code's constants are the squares of docs/RULES.md, "Score"; the rows that men have advanced, by row and by square; and the score's bound.
 use mathlib.Core.Path.{◌≡◌, refl, sym, ap, ap₂, ◌∙◌}
-use Prim.Native.Nat.{ℕ, ◌*◌, ◌≤◌, ◌<◌, ◌^◌}
+use Prim.Native.Nat.{ℕ, ◌≤◌, ◌<◌, ◌^◌}
 use native.Mathlib.Omega.{arith}
 use mathlib.Core.Bool.{Bool, true, not, cond, ◌&&◌, ◌||◌, and_assoc}
 use lib.Dec.{eqb, leb}

@@ -1,14 +1,14 @@
 -- The texts that `given_of` takes are those that `decimal` writes: what is written is read back, and what is read was so written.
 use Prim.Native.Nat.{ℕ, zero, suc, ◌+◌, ◌*◌, ◌/◌, ◌%◌, ◌^◌, ◌≤◌, ◌<◌}
-use mathlib.Core.Path.{◌≡◌, refl, sym, ap, ap₂, ◌∙◌, subst}
+use mathlib.Core.Path.{◌≡◌, refl, sym, ap, ap₂, ◌∙◌}
 use mathlib.Core.Bool.{Bool, true, false, cond, ◌&&◌}
 use mathlib.Core.List.{List, [], ◌∷◌, ◌++◌, append_assoc, append-nil}
 use native.Mathlib.Nat.{pow-suc, div-lt_iff_lt-mul}
 use native.Mathlib.Omega.{arith}
 use lib.Dec.{eqb, leb, ltb}
 use lib.ListN.{length, get_or, length-append, get_or-append}
-use borrow.Author.Tests.{eqb-true, eqb-false, ltb-true, ltb-false, lt-ltb, le-ltb, leb-true, le-leb}
-use Rattle.squares.proofs.Bools.{and_left, and_right}
+use borrow.Author.Tests.{eqb-true, eqb-false, ltb-true, ltb-false, lt-ltb, le-ltb, le-leb}
+use Rattle.squares.proofs.Bools.{and_left}
 use Rattle.io.specs.Digits.{hex_digit_ascii, last_digits}
 use Rattle.wording.specs.Numbers.{digit_of, value_from, number_in, needless, given_of}
 use Rattle.wording.specs.Output.{places, decimal}

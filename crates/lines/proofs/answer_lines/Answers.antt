@@ -15,7 +15,7 @@ loop-out-init c = (refl, laws.start answer_of c.args.s.now c.args.from c.args.ou
 
 pub returns-then-n-rest : goal.returns-then-n-rest
 returns-then-n-rest c =
-    laws.finished answer_of c.args.s.now c.args.from c.loop-out.out c.loop-out.at c.loop-out.put c.loop-out.invariant.1 _ (rest c.args.s.now c.loop-out.at) c.find-n.result c.find-n.ensures.value c.if-n-rest.true
+    laws.finished answer_of c.args.s.now c.args.from c.loop-out.out c.loop-out.at c.loop-out.put c.loop-out.invariant.1 _ (rest c.args.s.now c.loop-out.at) c.find-n.result c.find-n.ensures.0 c.if-n-rest.true
 
 pub slice_bounds-answer_at-end : goal.slice_bounds-answer_at-end
 slice_bounds-answer_at-end c = sym (length-take-le _ _ (omega arith))
@@ -23,7 +23,7 @@ slice_bounds-answer_at-end c = sym (length-take-le _ _ (omega arith))
 pub loop-out-preserved : goal.loop-out-preserved
 loop-out-preserved c = (
   search rules,
-  laws.answered answer_of c.args.s.now c.args.from c.loop-out.out c.loop-out.at c.loop-out.put c.loop-out.invariant.1 _ (rest c.args.s.now c.loop-out.at) c.find-n.result c.find-n.ensures.value c.answer_at-put.new.out c.answer_at-put.result (omega arith) c.answer_at-put.ensures.upper_bound c.answer_at-put.ensures.out_after,
+  laws.answered answer_of c.args.s.now c.args.from c.loop-out.out c.loop-out.at c.loop-out.put c.loop-out.invariant.1 _ (rest c.args.s.now c.loop-out.at) c.find-n.result c.find-n.ensures.0 c.answer_at-put.new.out c.answer_at-put.result (omega arith) c.answer_at-put.ensures.upper_bound c.answer_at-put.ensures.out_after,
 )
 
 pub returns : goal.returns

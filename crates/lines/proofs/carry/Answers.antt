@@ -3,7 +3,6 @@ use Prim.Native.Nat.{◌≤◌}
 use lib.ListN.{take, length-take}
 use Rattle.line_laws.proofs.LineLaws.{whole_le}
 use Rattle.lines.proofs.Buffers as laws
-use borrow.Author.Rules.{rules}
 use native.Mathlib.Omega.{arith}
 use Rattle.lines.proofs.carry.Goals as goal
 

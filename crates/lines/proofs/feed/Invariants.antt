@@ -2,7 +2,8 @@
 use mathlib.Core.Path.{◌≡◌, sym, subst}
 use mathlib.Core.List.{List}
 use Prim.Native.Nat.{ℕ, ◌+◌, ◌≤◌, ◌<◌}
-use lib.ListN.{length}
+use lib.ListN.{length, take}
+use Rattle.lines.proofs.Turns.{Feeding}
 use lib.Seq.{length-take-le}
 use Rattle.requests.specs.Requests.{longest, answer_room}
 use Rattle.line_laws.specs.Lines.{whole_of}
@@ -18,7 +19,7 @@ use native.Mathlib.Omega.{arith}
 use Rattle.lines.proofs.feed.Given as goal
 
 abbrev pub invariant-loop-turns : goal.invariant-loop-turns
-invariant-loop-turns g l = (l.have ≤ longest + 1) × (length l.buf ≡ length l.initial.buf) × (length l.out ≡ length l.initial.out) × (longest + 1 < length l.buf) × (answer_room ≤ length l.out)
+invariant-loop-turns g l = (l.have ≤ longest + 1) × (length l.buf ≡ length l.initial.buf) × (length l.out ≡ length l.initial.out) × (longest + 1 < length l.buf) × (answer_room ≤ length l.out) × Feeding (g.R.Read.remaining l.initial.from) (g.R.Read.remaining l.from) (g.W.Write.contents l.initial.to) (g.W.Write.contents l.to) (take l.have l.buf)
 
 abbrev pub decreases-loop-turns : goal.decreases-loop-turns
 decreases-loop-turns g l = l.turns

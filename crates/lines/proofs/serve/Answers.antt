@@ -23,8 +23,5 @@ pub run-requires : goal.run-requires
 run-requires g c =
     (fits (replicate 131072 0) 131072 (longest + 2) (length-replicate {A = ℕ} 131072 0) (omega arith), fits (replicate 1572864 0) 1572864 answer_room (length-replicate {A = ℕ} 1572864 0) (omega arith))
 
-pub report-requires : goal.report-requires
-report-requires g c = tt
-
 pub returns : goal.returns
 returns g c = tt

@@ -1,10 +1,7 @@
 -- Each byte moves to a lower place, and those that are still to move stay.
-use mathlib.Core.Path.{◌≡◌, refl, ap, sym, ◌∙◌}
-use Prim.Native.Nat.{ℕ, ◌≤◌, ◌-◌}
-use lib.ListN.{length, take, drop, length-set}
-use native.Mathlib.Omega.{arith}
-use Rattle.lines.proofs.Moved as laws
-use borrow.Author.Rules.{rules}
+use mathlib.Core.Path.{◌≡◌}
+use Prim.Native.Nat.{◌≤◌, ◌-◌}
+use lib.ListN.{length, take, drop}
 use Rattle.lines.proofs.shift.Given as goal
 
 abbrev pub invariant-loop-i : goal.invariant-loop-i

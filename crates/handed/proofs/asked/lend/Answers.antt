@@ -1,7 +1,6 @@
 -- The part is lent only where it is not longer than the dots.
 use mathlib.Core.Path.{sym}
 use lib.Seq.{length-take-le}
-use borrow.Author.Rules.{rules}
 use native.Mathlib.Omega.{arith}
 use Rattle.handed.proofs.asked.lend.Goals as goal
 

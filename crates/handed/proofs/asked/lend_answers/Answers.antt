@@ -1,7 +1,6 @@
 -- The parts are lent only where they are not longer than the whole.
 use mathlib.Core.Path.{sym}
 use lib.Seq.{length-take-le}
-use borrow.Author.Rules.{rules}
 use native.Mathlib.Omega.{arith}
 use Rattle.handed.proofs.asked.lend_answers.Goals as goal
 

@@ -1,11 +1,6 @@
 -- Line by line, the last with or without its line feed.
-use mathlib.Core.Path.{ap, sym}
 use Prim.Native.Nat.{◌≤◌, ◌-◌, ◌+◌}
-use lib.ListN.{length, length-drop}
-use lib.Seq.{length-take-le}
-use Rattle.texts.proofs.Cuts.{rest}
-use borrow.Author.Rules.{rules}
-use native.Mathlib.Omega.{arith}
+use lib.ListN.{length}
 use Rattle.handed.proofs.asked.lines.Given as goal
 
 abbrev pub invariant-loop-at : goal.invariant-loop-at

@@ -1,9 +1,7 @@
 -- Number by number; the length stays.
 use Prim.Native.Nat.{◌≤◌, ◌-◌}
 use mathlib.Core.Path.{◌≡◌}
-use lib.ListN.{length, length-set}
-use borrow.Author.Rules.{rules}
-use native.Mathlib.Omega.{arith}
+use lib.ListN.{length}
 use Rattle.handed.proofs.asked.listed.Given as goal
 
 abbrev pub invariant-loop-i : goal.invariant-loop-i

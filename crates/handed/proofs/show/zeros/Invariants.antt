@@ -1,6 +1,5 @@
 -- The index stays below 256, the length of the array, and no more counts are 0 than were looked at.
 use Prim.Native.Nat.{◌-◌, ◌≤◌}
-use borrow.Author.Rules.{rules}
 use Rattle.handed.proofs.show.zeros.Given as goal
 
 abbrev pub invariant-loop-i : goal.invariant-loop-i

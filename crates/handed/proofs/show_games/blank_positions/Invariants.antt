@@ -1,6 +1,5 @@
 -- The index stays below 51, the length of the array, and no more entries are blank than were looked at.
 use Prim.Native.Nat.{◌-◌, ◌≤◌}
-use borrow.Author.Rules.{rules}
 use Rattle.handed.proofs.show_games.blank_positions.Given as goal
 
 abbrev pub invariant-loop-i : goal.invariant-loop-i

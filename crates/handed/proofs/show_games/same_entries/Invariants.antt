@@ -1,6 +1,5 @@
 -- The index stays below 51, the length of both arrays; nothing else is asked.
 use Prim.Native.Nat.{◌-◌, ◌≤◌}
-use borrow.Author.Rules.{rules}
 use Rattle.handed.proofs.show_games.same_entries.Given as goal
 
 abbrev pub invariant-loop-i : goal.invariant-loop-i

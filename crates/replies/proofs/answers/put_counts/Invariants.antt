@@ -1,13 +1,9 @@
 -- Move by move, each with its count.
-use mathlib.Core.Path.{◌≡◌, refl, ap}
+use mathlib.Core.Path.{◌≡◌}
 use Prim.Native.Nat.{◌≤◌, ◌-◌}
 use lib.ListN.{length}
-use Rattle.texts.proofs.Pieces as laws
-use Rattle.replies.proofs.Listing as listing
 use Rattle.replies.specs.Answers.{counts_text}
 use Rattle.texts.specs.Lent.{Adds}
-use borrow.Author.Rules.{rules}
-use native.Mathlib.Omega.{arith}
 use Rattle.replies.proofs.answers.put_counts.Given as goal
 
 abbrev pub invariant-loop-i : goal.invariant-loop-i

@@ -3,7 +3,6 @@ use mathlib.Core.Path.{refl, sym}
 use Rattle.replies.proofs.Told as told
 use Rattle.texts.proofs.Pieces as laws
 use lib.Seq.{length-take-le}
-use borrow.Author.Rules.{rules}
 use Rattle.replies.proofs.answers.put_hub.Goals as goal
 
 pub slice_bounds-space-end : goal.slice_bounds-space-end

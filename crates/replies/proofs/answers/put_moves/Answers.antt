@@ -1,11 +1,8 @@
 -- Move by move.
-use mathlib.Core.Path.{◌≡◌, refl, ap}
-use Prim.Native.Nat.{◌≤◌, ◌-◌}
-use lib.ListN.{length}
+use mathlib.Core.Path.{refl, ap}
 use Rattle.texts.proofs.Pieces as laws
 use Rattle.replies.proofs.Listing as listing
 use Rattle.replies.specs.Answers.{moves_text}
-use Rattle.texts.specs.Lent.{Adds}
 use borrow.Author.Rules.{rules}
 use native.Mathlib.Omega.{arith}
 use Rattle.replies.proofs.answers.put_moves.Goals as goal

@@ -1,5 +1,4 @@
 -- A fixed text.
-use borrow.Author.Rules.{rules}
 use Rattle.replies.proofs.answers.put_ok.Goals as goal
 
 pub returns : goal.returns

@@ -1,5 +1,4 @@
 -- A set, then a space.
-use borrow.Author.Rules.{rules}
 use Rattle.texts.proofs.Pieces as laws
 use Rattle.replies.specs.Answers as told
 use Rattle.replies.proofs.answers.put_set.Goals as goal

@@ -1,5 +1,4 @@
 -- The FEN, then the hash; or the refusal.
-use borrow.Author.Rules.{rules}
 use Rattle.texts.proofs.Pieces as laws
 use Rattle.replies.proofs.answers.tell_after.Goals as goal
 

@@ -2,7 +2,6 @@
 use mathlib.Core.Path.{ap}
 use mathlib.Core.List.{[], ◌∷◌}
 use Prim.Native.Nat.{ℕ}
-use borrow.Author.Rules.{rules}
 use Rattle.texts.proofs.Pieces as laws
 use Rattle.replies.specs.Answers as told
 use Rattle.replies.proofs.answers.tell_bits.Goals as goal

@@ -1,5 +1,4 @@
 -- A count, or the refusal.
-use borrow.Author.Rules.{rules}
 use Rattle.texts.proofs.Pieces as laws
 use Rattle.replies.proofs.answers.tell_counted.Goals as goal
 

@@ -1,5 +1,4 @@
 -- How many moves, then each with its count; or the refusal.
-use borrow.Author.Rules.{rules}
 use Rattle.texts.proofs.Pieces as laws
 use Rattle.replies.specs.Answers as told
 use Rattle.replies.proofs.answers.tell_divided.Goals as goal

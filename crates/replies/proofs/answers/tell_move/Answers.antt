@@ -1,5 +1,4 @@
 -- Piece by piece.
-use borrow.Author.Rules.{rules}
 use Rattle.texts.proofs.Pieces as laws
 use Rattle.replies.specs.Answers as told
 use Rattle.replies.proofs.answers.tell_move.Goals as goal

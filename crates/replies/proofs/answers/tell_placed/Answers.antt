@@ -1,5 +1,4 @@
 -- A position, or the refusal.
-use borrow.Author.Rules.{rules}
 use Rattle.replies.proofs.answers.tell_placed.Goals as goal
 
 pub returns-in-Position : goal.returns-in-Position

@@ -2,7 +2,6 @@
 use mathlib.Core.Path.{ap, sym}
 use Rattle.texts.proofs.Pieces as pieces
 use Rattle.replies.specs.States.{count_word}
-use borrow.Author.Rules.{rules}
 use Rattle.replies.proofs.states.put_count.Goals as goal
 
 pub returns-in-Count : goal.returns-in-Count

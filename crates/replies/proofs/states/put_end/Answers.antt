@@ -2,7 +2,6 @@
 use mathlib.Core.Path.{ap}
 use Rattle.texts.proofs.Pieces as pieces
 use Rattle.replies.specs.States.{stand_word, moves_word, end_text}
-use borrow.Author.Rules.{rules}
 use Rattle.replies.proofs.states.put_end.Goals as goal
 
 pub returns : goal.returns

@@ -3,7 +3,6 @@ use mathlib.Core.Path.{ap, sym}
 use Rattle.texts.proofs.Pieces as pieces
 use Rattle.replies.specs.States.{length_word, moves_word}
 use Rattle.squares.specs.declared.refusal.Answer.{Answer}
-use borrow.Author.Rules.{rules}
 use Rattle.replies.proofs.states.put_listed.Goals as goal
 
 pub returns-in-Done : goal.returns-in-Done

@@ -3,7 +3,6 @@ use mathlib.Core.Path.{ap, sym}
 use Rattle.texts.proofs.Pieces as pieces
 use Rattle.replies.specs.States.{ending_word}
 use Rattle.games.specs.declared.game.Termination.{Termination}
-use borrow.Author.Rules.{rules}
 use Rattle.replies.proofs.states.put_outcome.Goals as goal
 
 pub returns-in-NoMoves : goal.returns-in-NoMoves

@@ -2,7 +2,6 @@
 use mathlib.Core.Path.{ap}
 use Rattle.texts.proofs.Pieces as pieces
 use Rattle.replies.specs.States.{count_word, plies_text}
-use borrow.Author.Rules.{rules}
 use Rattle.replies.proofs.states.put_plies.Goals as goal
 
 pub returns : goal.returns

@@ -2,7 +2,6 @@
 use mathlib.Core.Path.{ap, sym}
 use Rattle.texts.proofs.Pieces as pieces
 use Rattle.replies.specs.States.{stand_word}
-use borrow.Author.Rules.{rules}
 use Rattle.replies.proofs.states.put_stand.Goals as goal
 
 pub returns-in-Position : goal.returns-in-Position

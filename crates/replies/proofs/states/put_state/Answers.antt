@@ -2,7 +2,6 @@
 use mathlib.Core.Path.{ap}
 use Rattle.texts.proofs.Pieces as pieces
 use Rattle.replies.specs.States.{judged_word, count_word, state_text}
-use borrow.Author.Rules.{rules}
 use Rattle.replies.proofs.states.put_state.Goals as goal
 
 pub returns : goal.returns

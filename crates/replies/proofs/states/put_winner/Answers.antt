@@ -3,7 +3,6 @@ use mathlib.Core.Path.{ap, sym, ◌∙◌}
 use Rattle.texts.proofs.Pieces as pieces
 use Rattle.replies.specs.States.{winner_word}
 use Rattle.games.specs.declared.game.Winner.TheVariants as winner
-use borrow.Author.Rules.{rules}
 use Rattle.replies.proofs.states.put_winner.Goals as goal
 
 pub returns-in-White : goal.returns-in-White

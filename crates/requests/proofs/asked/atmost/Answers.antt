@@ -1,6 +1,5 @@
 -- The limit, then the position.
 use Rattle.requests.specs.Asked as asked
-use borrow.Author.Rules.{rules}
 use Rattle.requests.proofs.asked.atmost.Goals as goal
 
 pub returns-in-Value : goal.returns-in-Value

@@ -1,5 +1,4 @@
 -- The sets, or the refusal.
-use borrow.Author.Rules.{rules}
 use Rattle.requests.proofs.asked.bits.Goals as goal
 
 pub returns-in-Position : goal.returns-in-Position

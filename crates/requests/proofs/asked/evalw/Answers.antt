@@ -1,7 +1,6 @@
 -- Six words; the weights, then the position.
 use borrow.Author.Tests.{eq-eqb, ne_eqb}
 use Rattle.requests.specs.Asked as asked
-use borrow.Author.Rules.{rules}
 use Rattle.requests.proofs.asked.evalw.Goals as goal
 
 pub returns-then-blanks-ne5 : goal.returns-then-blanks-ne5

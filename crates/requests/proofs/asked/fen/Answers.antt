@@ -1,5 +1,4 @@
 -- What is written of a position.
-use borrow.Author.Rules.{rules}
 use Rattle.requests.proofs.asked.fen.Goals as goal
 
 pub returns : goal.returns

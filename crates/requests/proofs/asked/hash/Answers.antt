@@ -1,5 +1,4 @@
 -- The hash, or the refusal.
-use borrow.Author.Rules.{rules}
 use Rattle.requests.proofs.asked.hash.Goals as goal
 
 pub returns-in-Position : goal.returns-in-Position

@@ -1,5 +1,4 @@
 -- The Hub text, or the refusal.
-use borrow.Author.Rules.{rules}
 use Rattle.requests.proofs.asked.hub.Goals as goal
 
 pub returns-in-Position : goal.returns-in-Position

@@ -2,7 +2,6 @@
 use mathlib.Core.Path.{ap}
 use Rattle.texts.proofs.Pieces as pieces
 use Rattle.replies.specs.Answers as told
-use borrow.Author.Rules.{rules}
 use Rattle.requests.proofs.asked.moves.Goals as goal
 
 pub returns-in-Position : goal.returns-in-Position

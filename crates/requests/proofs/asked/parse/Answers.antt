@@ -1,5 +1,4 @@
 -- The position, then the move.
-use borrow.Author.Rules.{rules}
 use Rattle.requests.proofs.asked.parse.Goals as goal
 
 pub returns-in-Move : goal.returns-in-Move

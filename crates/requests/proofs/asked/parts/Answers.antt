@@ -1,6 +1,5 @@
 -- Four words.
 use borrow.Author.Tests.{eq-eqb, ne_eqb}
-use borrow.Author.Rules.{rules}
 use Rattle.requests.specs.Asked as asked
 use Rattle.requests.proofs.asked.parts.Goals as goal
 

@@ -5,7 +5,6 @@ use Rattle.wording.specs.Numbers.{AtMost}
 use Rattle.wording.specs.declared.numbers.Parsed.{Parsed}
 use Rattle.texts.proofs.Pieces as pieces
 use Rattle.replies.specs.Answers as told
-use borrow.Author.Rules.{rules}
 use Rattle.requests.proofs.asked.perft.Goals as goal
 
 pub overflow_cast-n : goal.overflow_cast-n

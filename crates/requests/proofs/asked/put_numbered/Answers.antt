@@ -1,6 +1,5 @@
 -- The number, if there is one.
 use Rattle.texts.proofs.Pieces as pieces
-use borrow.Author.Rules.{rules}
 use Rattle.requests.proofs.asked.put_numbered.Goals as goal
 
 pub returns-in-Number : goal.returns-in-Number

@@ -1,6 +1,5 @@
 -- Three sets, then the side.
 use mathlib.Core.Path.{ap}
-use borrow.Author.Rules.{rules}
 use Rattle.texts.proofs.Pieces as laws
 use Rattle.replies.specs.Answers as told
 use Rattle.requests.specs.Asked as asked

@@ -1,6 +1,5 @@
 -- One letter.
 use mathlib.Core.Path.{sym, ◌∙◌}
-use borrow.Author.Rules.{rules}
 use Rattle.requests.proofs.Sides as law
 use Rattle.requests.proofs.asked.side.Goals as goal
 

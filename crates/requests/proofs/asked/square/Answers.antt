@@ -2,7 +2,6 @@
 use mathlib.Core.Path.{ap}
 use Rattle.texts.proofs.Pieces as pieces
 use Rattle.requests.specs.Asked as asked
-use borrow.Author.Rules.{rules}
 use Rattle.requests.proofs.asked.square.Goals as goal
 
 pub returns-in-Number : goal.returns-in-Number

@@ -1,10 +1,7 @@
 -- Word by word.
-use mathlib.Core.Path.{◌≡◌, refl, sym, ◌∙◌}
-use Prim.Native.Nat.{◌≤◌, ◌-◌}
-use lib.ListN.{length, drop}
+use mathlib.Core.Path.{refl, sym, ◌∙◌}
 use Rattle.requests.proofs.PlayLaws as laws
 use Rattle.texts.proofs.Cuts as cuts
-use Rattle.requests.specs.Plays.{all_records, words_of}
 use borrow.Author.Rules.{rules}
 use native.Mathlib.Omega.{arith}
 use Rattle.requests.proofs.plays.all_records.Goals as goal

@@ -1,7 +1,6 @@
 -- Reading it says so.
 use mathlib.Core.Path.{ap, sym, ◌∙◌}
 use Rattle.requests.specs.Plays.{is_move, is_record_of}
-use borrow.Author.Rules.{rules}
 use Rattle.requests.proofs.plays.is_record.Goals as goal
 
 pub returns-in-Move : goal.returns-in-Move

@@ -4,7 +4,6 @@ use Rattle.games.specs.Play.{outcome_of}
 use Rattle.games.specs.declared.game.Begun.{Begun}
 use Rattle.texts.proofs.Pieces as pieces
 use Rattle.replies.specs.States.{judged_word}
-use borrow.Author.Rules.{rules}
 use Rattle.requests.proofs.plays.outcome.Goals as goal
 
 pub returns-in-Position : goal.returns-in-Position

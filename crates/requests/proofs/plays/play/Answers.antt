@@ -1,5 +1,4 @@
 -- The game, or the refusal.
-use borrow.Author.Rules.{rules}
 use Rattle.requests.proofs.plays.play.Goals as goal
 
 pub returns-in-Position : goal.returns-in-Position

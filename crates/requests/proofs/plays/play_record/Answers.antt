@@ -2,7 +2,6 @@
 use mathlib.Core.Path.{ap, sym, ◌∙◌}
 use Rattle.gametexts.specs.Texts.{beside}
 use Rattle.requests.specs.Plays.{play_move, play_record_of}
-use borrow.Author.Rules.{rules}
 use Rattle.requests.proofs.plays.play_record.Goals as goal
 
 pub returns-in-Move : goal.returns-in-Move

@@ -3,7 +3,6 @@ use mathlib.Core.Path.{refl, sym}
 use lib.Seq.{length-take-le}
 use Rattle.requests.proofs.Readings as readings
 use Rattle.requests.proofs.PlayLaws as laws
-use borrow.Author.Rules.{rules}
 use Rattle.requests.proofs.plays.play_text.Goals as goal
 
 pub slice_bounds-play_str-end : goal.slice_bounds-play_str-end

@@ -2,7 +2,6 @@
 use mathlib.Core.Path.{ap, sym, ◌∙◌}
 use Rattle.requests.specs.Plays.{play_word_of}
 use Rattle.requests.specs.declared.plays.Given.{Given}
-use borrow.Author.Rules.{rules}
 use Rattle.requests.proofs.plays.play_word.Goals as goal
 
 pub returns-in-Text : goal.returns-in-Text

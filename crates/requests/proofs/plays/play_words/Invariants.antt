@@ -1,15 +1,10 @@
 -- Word by word: what is written of the words that are left ends what is written of all.
-use mathlib.Core.Path.{◌≡◌, refl}
+use mathlib.Core.Path.{◌≡◌}
 use Prim.Native.Nat.{ℕ, ◌≤◌, ◌-◌}
 use mathlib.Core.List.{List}
 use lib.ListN.{length, drop}
-use Rattle.texts.proofs.Pieces as pieces
-use Rattle.requests.proofs.PlayLaws as laws
-use Rattle.texts.proofs.Cuts as cuts
 use Rattle.requests.specs.Plays.{game_text, words_of}
 use Rattle.texts.specs.Lent.{Adds}
-use borrow.Author.Rules.{rules}
-use native.Mathlib.Omega.{arith}
 use Rattle.requests.proofs.plays.play_words.Given as goal
 
 abbrev pub invariant-loop-i : goal.invariant-loop-i

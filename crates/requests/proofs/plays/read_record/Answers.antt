@@ -4,7 +4,6 @@ use Rattle.requests.proofs.PlayLaws as laws
 use Rattle.texts.specs.Bytes.{up_to, after_first}
 use Rattle.wording.specs.Numbers.{AtMost, unsigned_of, set_of}
 use Rattle.wording.specs.declared.numbers.Parsed.{Parsed}
-use borrow.Author.Rules.{rules}
 use native.Mathlib.Omega.{arith}
 use Rattle.requests.proofs.plays.read_record.Goals as goal
 

@@ -1,6 +1,5 @@
 -- The game, a record that cannot be read, or the refusal.
 use mathlib.Core.Path.{sym, ◌∙◌}
-use borrow.Author.Rules.{rules}
 use Rattle.requests.proofs.plays.record.Goals as goal
 
 pub returns-then-all_records : goal.returns-then-all_records

@@ -3,7 +3,6 @@ use mathlib.Core.Path.{ap}
 use Rattle.texts.proofs.Pieces as pieces
 use Rattle.requests.specs.Plays.{record_told}
 use Rattle.wording.specs.Output.{decimal}
-use borrow.Author.Rules.{rules}
 use Rattle.requests.proofs.plays.tell_record.Goals as goal
 
 pub returns : goal.returns

@@ -6,7 +6,6 @@ use Rattle.texts.proofs.Pieces as pieces
 use Rattle.replies.specs.Answers.{move_word}
 use Rattle.requests.specs.Plays.{text_answer, text_told}
 use Rattle.replies.specs.States.{state_text}
-use borrow.Author.Rules.{rules}
 use Rattle.requests.proofs.plays.tell_text.Goals as goal
 
 pub returns-in-Done : goal.returns-in-Done

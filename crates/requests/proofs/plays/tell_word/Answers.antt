@@ -3,7 +3,6 @@ use mathlib.Core.Path.{ap, sym}
 use Rattle.texts.proofs.Pieces as pieces
 use Rattle.requests.specs.Plays.{word_told}
 use Rattle.requests.specs.declared.plays.Given.{Given}
-use borrow.Author.Rules.{rules}
 use Rattle.requests.proofs.plays.tell_word.Goals as goal
 
 pub returns-in-Text : goal.returns-in-Text

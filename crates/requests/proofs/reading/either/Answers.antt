@@ -2,7 +2,6 @@
 use lib.ListN.{length}
 use borrow.Author.Tests.{eq-eqb, ne_eqb}
 use Rattle.requests.specs.Reading.{either_of}
-use borrow.Author.Rules.{rules}
 use Rattle.requests.proofs.reading.either.Goals as goal
 
 pub returns-then-text-ne51 : goal.returns-then-text-ne51

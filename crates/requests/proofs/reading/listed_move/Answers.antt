@@ -2,7 +2,6 @@
 use mathlib.Core.Path.{refl, sym}
 use lib.Seq.{length-take-le}
 use Rattle.requests.proofs.Readings as readings
-use borrow.Author.Rules.{rules}
 use Rattle.requests.proofs.reading.listed_move.Goals as goal
 
 pub slice_bounds-parse_move-end : goal.slice_bounds-parse_move-end

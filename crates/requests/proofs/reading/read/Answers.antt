@@ -1,5 +1,4 @@
 -- By the form.
-use borrow.Author.Rules.{rules}
 use Rattle.requests.proofs.reading.read.Goals as goal
 
 pub returns-in-Fen : goal.returns-in-Fen

@@ -1,5 +1,4 @@
 -- By the request.
-use borrow.Author.Rules.{rules}
 use Rattle.requests.proofs.requests.answer_request.Goals as goal
 
 pub returns-in-Fen : goal.returns-in-Fen

@@ -3,7 +3,6 @@ use mathlib.Core.Path.{ap, ◌∙◌}
 use Rattle.requests.specs.Reading.{position_in}
 use Rattle.requests.specs.Requests.{first_position}
 use Rattle.requests.specs.declared.reading.Form.TheVariants as form
-use borrow.Author.Rules.{rules}
 use Rattle.requests.proofs.requests.first.Goals as goal
 
 pub returns : goal.returns

@@ -2,7 +2,6 @@
 use mathlib.Core.Path.{refl}
 use Rattle.texts.proofs.Pieces as pieces
 use Rattle.requests.specs.Requests.{help_text}
-use borrow.Author.Rules.{rules}
 use Rattle.requests.proofs.requests.help.Goals as goal
 
 pub returns : goal.returns

@@ -1,6 +1,5 @@
 -- The requests of the table, in its order.
 use Rattle.requests.proofs.Table as law
-use borrow.Author.Rules.{rules}
 use Rattle.requests.proofs.requests.request_at.Goals as goal
 
 pub returns : goal.returns

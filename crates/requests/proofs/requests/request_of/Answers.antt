@@ -1,6 +1,6 @@
 -- Row by row: the text that is left begins with the name of the row.
-use Prim.Native.Nat.{ℕ, ◌+◌, ◌-◌, ◌≤◌}
-use mathlib.Core.Path.{◌≡◌, sym, ap, ◌∙◌}
+use Prim.Native.Nat.{ℕ, ◌+◌, ◌-◌}
+use mathlib.Core.Path.{sym, ap, ◌∙◌}
 use mathlib.Core.List.{List}
 use native.Mathlib.Omega.{arith}
 use lib.ListN.{length, drop}
@@ -8,7 +8,7 @@ use borrow.Author.Rules.{rules}
 use Rattle.texts.proofs.Cuts as cuts
 use Rattle.texts.specs.Bytes.{after_first}
 use Rattle.wording.specs.Words.{same_text, first_word}
-use Rattle.requests.specs.Requests.{rows, help_text, request_of}
+use Rattle.requests.specs.Requests.{rows, help_text}
 use Rattle.requests.proofs.Suffixes as suffixes
 use Rattle.requests.proofs.Table as law
 use Rattle.requests.proofs.requests.request_of.Goals as goal

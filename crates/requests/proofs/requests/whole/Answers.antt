@@ -1,6 +1,5 @@
 -- The whole argument is read.
 use Rattle.requests.specs.Requests.{whole_position}
-use borrow.Author.Rules.{rules}
 use Rattle.requests.proofs.requests.whole.Goals as goal
 
 pub returns : goal.returns

@@ -1,6 +1,5 @@
 -- Both by definition, a colour each.
 use mathlib.Core.Path.{refl}
-use borrow.Author.Rules.{rules}
 use Rattle.scores.specs.Score.{ahead_of}
 use Rattle.scores.proofs.eval.ahead.Goals as goal
 

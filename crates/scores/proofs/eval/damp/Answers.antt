@@ -3,20 +3,15 @@ use mathlib.Core.Path.{◌≡◌, ◌∙◌}
 use Prim.Native.Nat.{◌<◌, ◌^◌}
 use native.Mathlib.Omega.{arith}
 use lib.IntN.{ℤ, nat_abs}
-use borrow.Author.Rules.{rules}
 use Rattle.positions.specs.Boards.{board_of}
 use Rattle.scores.specs.Score.{within}
 use mathlib.Core.Bool.{true, false}
-use Rattle.scores.proofs.Integers.{within_le, held_is, eighth_fits, eighth_read}
+use Rattle.scores.proofs.Integers.{within_le, held_is, eighth_read}
 use Rattle.scores.proofs.Scores.{damped_test}
 use Rattle.scores.proofs.eval.damp.Goals as goal
 
 below : (s : ℤ) → within 576000000 s ≡ true → nat_abs s < 2 ^ 31
 below s e = omega (arith, within_le 576000000 s e)
-
--- ??
--- div-result : tie.Need-nonzero-div-result
--- div-result c = (omega arith, eighth_fits c.before.before.before.args.score (below _ c.before.before.before.requires))
 
 pub returns-then-white-black : goal.returns-then-white-black
 returns-then-white-black c =

@@ -1,6 +1,5 @@
 -- The same with the default weights, whose scores are limited.
 use mathlib.Core.Path.{◌≡◌, ap, ◌∙◌}
-use borrow.Author.Rules.{rules}
 use Rattle.scores.specs.Score.{default, evaluate_of, limited}
 use Rattle.scores.specs.declared.eval.Classical.{Classical}
 use Rattle.scores.proofs.ScoreBounds.{evaluate_limited}

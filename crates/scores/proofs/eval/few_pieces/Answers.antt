@@ -1,5 +1,4 @@
 -- The definition, part by part.
-use borrow.Author.Rules.{rules}
 use Rattle.positions.specs.Boards.{board_of}
 use Rattle.scores.proofs.Scores.{few_test}
 use Rattle.scores.proofs.eval.few_pieces.Goals as goal

@@ -1,6 +1,5 @@
 -- The constants are the squares 47 to 49 and 2 to 4, computed.
 use mathlib.Core.Path.{sym}
-use borrow.Author.Rules.{rules}
 use Rattle.scores.proofs.Scores.{white_guard, black_guard}
 use Rattle.scores.proofs.eval.guard_squares.Goals as goal
 

@@ -1,6 +1,5 @@
 -- Where the opponent has no king, the men on the guard squares are counted.
 use native.Mathlib.Omega.{arith}
-use borrow.Author.Rules.{rules}
 use Rattle.positions.specs.Boards.{board_of}
 use Rattle.scores.proofs.Scores.{count_le, guards_none, guards_some}
 use Rattle.scores.proofs.eval.guards.Goals as goal

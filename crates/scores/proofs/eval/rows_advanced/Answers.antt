@@ -1,11 +1,10 @@
 -- After n turns the sum is that of the first n rows; after ten, each square has been counted in its row.
 use mathlib.Core.Path.{◌≡◌, sym, ap, ap₂, ◌∙◌}
-use Prim.Native.Nat.{ℕ, ◌+◌, ◌-◌, ◌*◌, ◌≤◌, ◌<◌}
+use Prim.Native.Nat.{ℕ, ◌+◌, ◌*◌, ◌≤◌, ◌<◌}
 use native.Mathlib.Omega.{arith}
 use lib.Bits.{bit_and}
 use lib.ListN.{get_or}
 use Rattle.squares.specs.declared.piece.Color.{Color}
-use borrow.Author.Rules.{rules}
 use Rattle.squares.specs.Sets.{size}
 use Rattle.scores.specs.Score.{ahead_of}
 use Rattle.scores.proofs.Advances.{row_table, row_set, row_at, by_rows, by_rows_none, by_rows_next, by_rows_is, row_le}

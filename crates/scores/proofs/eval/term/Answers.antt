@@ -1,6 +1,5 @@
 -- 10,000 times 5,760 fits an i32.
 use lib.Dec.{lit<}
-use borrow.Author.Rules.{rules}
 use Rattle.scores.proofs.Integers.{times_of, within_le, fits, read}
 use Rattle.scores.proofs.eval.term.Goals as goal
 

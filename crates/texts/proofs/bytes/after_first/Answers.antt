@@ -2,7 +2,6 @@
 use mathlib.Core.Path.{◌∙◌}
 use Prim.Native.Nat.{◌+◌}
 use Rattle.texts.proofs.Cuts as laws
-use borrow.Author.Rules.{rules}
 use Rattle.texts.proofs.bytes.after_first.Goals as goal
 
 pub returns-then-n-s : goal.returns-then-n-s

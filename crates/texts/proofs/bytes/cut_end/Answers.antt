@@ -1,7 +1,5 @@
 -- The bytes after the place are all removed; the first from the end that is not removed ends the rest.
-use mathlib.Core.Path.{◌≡◌, ap, sym, ◌∙◌}
-use Prim.Native.Nat.{◌≤◌}
-use lib.ListN.{length, take}
+use mathlib.Core.Path.{ap, sym, ◌∙◌}
 use lib.Seq.{length-take-le, take-length}
 use Rattle.texts.proofs.Cuts as laws
 use Rattle.texts.specs.Bytes.{cuts, trim_end}

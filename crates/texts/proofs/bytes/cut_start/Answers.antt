@@ -1,9 +1,7 @@
 -- The bytes before the place are all taken; the first that is not begins the rest.
-use mathlib.Core.Path.{◌≡◌, refl, sym, ◌∙◌}
-use Prim.Native.Nat.{◌≤◌, ◌-◌}
-use lib.ListN.{length, drop}
+use mathlib.Core.Path.{refl, sym, ◌∙◌}
 use Rattle.texts.proofs.Cuts as laws
-use Rattle.texts.specs.Bytes.{cuts, trim_start}
+use Rattle.texts.specs.Bytes.{cuts}
 use borrow.Author.Rules.{rules}
 use native.Mathlib.Omega.{arith}
 use Rattle.texts.proofs.bytes.cut_start.Goals as goal

@@ -1,11 +1,8 @@
 -- The bytes before the place are all taken; the first that is not begins the rest.
-use mathlib.Core.Path.{◌≡◌, refl, sym, ◌∙◌}
+use mathlib.Core.Path.{◌≡◌}
 use Prim.Native.Nat.{◌≤◌, ◌-◌}
 use lib.ListN.{length, drop}
-use Rattle.texts.proofs.Cuts as laws
 use Rattle.texts.specs.Bytes.{cuts, trim_start}
-use borrow.Author.Rules.{rules}
-use native.Mathlib.Omega.{arith}
 use Rattle.texts.proofs.bytes.cut_start.Given as goal
 
 abbrev pub invariant-loop-i : goal.invariant-loop-i

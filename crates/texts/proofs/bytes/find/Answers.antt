@@ -1,10 +1,6 @@
 -- No byte before the place is c.
-use mathlib.Core.Path.{◌≡◌}
-use Prim.Native.Nat.{◌≤◌, ◌-◌, ◌+◌}
-use lib.ListN.{length, drop}
 use Rattle.texts.proofs.Cuts as laws
-use Rattle.texts.specs.Bytes.{is, index_of}
-use borrow.Author.Rules.{rules}
+use Rattle.texts.specs.Bytes.{is}
 use native.Mathlib.Omega.{arith}
 use Rattle.texts.proofs.bytes.find.Goals as goal
 

@@ -2,10 +2,7 @@
 use mathlib.Core.Path.{◌≡◌}
 use Prim.Native.Nat.{◌≤◌, ◌-◌, ◌+◌}
 use lib.ListN.{length, drop}
-use Rattle.texts.proofs.Cuts as laws
 use Rattle.texts.specs.Bytes.{is, index_of}
-use borrow.Author.Rules.{rules}
-use native.Mathlib.Omega.{arith}
 use Rattle.texts.proofs.bytes.find.Given as goal
 
 abbrev pub invariant-loop-i : goal.invariant-loop-i

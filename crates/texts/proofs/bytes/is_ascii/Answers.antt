@@ -1,9 +1,6 @@
 -- Every byte before the place was at most 127; the first above it decides.
-use mathlib.Core.Path.{◌≡◌, refl, sym, ◌∙◌}
-use Prim.Native.Nat.{◌≤◌, ◌-◌}
-use lib.ListN.{length, drop}
+use mathlib.Core.Path.{refl, sym, ◌∙◌}
 use Rattle.texts.proofs.Cuts as laws
-use Rattle.texts.specs.Bytes.{ascii}
 use borrow.Author.Rules.{rules}
 use native.Mathlib.Omega.{arith}
 use Rattle.texts.proofs.bytes.is_ascii.Goals as goal

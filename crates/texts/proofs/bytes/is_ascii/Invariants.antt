@@ -1,11 +1,8 @@
 -- Every byte before the place was at most 127; the first above it decides.
-use mathlib.Core.Path.{◌≡◌, refl, sym, ◌∙◌}
+use mathlib.Core.Path.{◌≡◌}
 use Prim.Native.Nat.{◌≤◌, ◌-◌}
 use lib.ListN.{length, drop}
-use Rattle.texts.proofs.Cuts as laws
 use Rattle.texts.specs.Bytes.{ascii}
-use borrow.Author.Rules.{rules}
-use native.Mathlib.Omega.{arith}
 use Rattle.texts.proofs.bytes.is_ascii.Given as goal
 
 abbrev pub invariant-loop-i : goal.invariant-loop-i

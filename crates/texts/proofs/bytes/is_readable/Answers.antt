@@ -2,7 +2,6 @@
 use mathlib.Core.Path.{◌∙◌}
 use borrow.Author.Tests.{lt-leb, le-leb}
 use Rattle.texts.specs.Bytes.{readable}
-use borrow.Author.Rules.{rules}
 use Rattle.texts.proofs.bytes.is_readable.Goals as goal
 
 pub returns-then-s-limit : goal.returns-then-s-limit

@@ -1,6 +1,5 @@
 -- The byte goes after the text, or has no room.
 use Rattle.texts.proofs.Pieces as laws
-use borrow.Author.Rules.{rules}
 use Rattle.texts.proofs.bytes.put_byte.Goals as goal
 
 pub returns-then-at-out : goal.returns-then-at-out

@@ -2,7 +2,6 @@
 use mathlib.Core.Path.{sym}
 use Rattle.texts.proofs.Pieces as pieces
 use Rattle.texts.proofs.Writers as laws
-use borrow.Author.Rules.{rules}
 use Rattle.texts.proofs.bytes.put_digits.Goals as goal
 
 pub returns-then-n-lt10 : goal.returns-then-n-lt10

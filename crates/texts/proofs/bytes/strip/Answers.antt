@@ -1,7 +1,6 @@
 -- The first byte decides.
 use mathlib.Core.Path.{sym, ◌∙◌}
 use Rattle.texts.proofs.Cuts as laws
-use borrow.Author.Rules.{rules}
 use Rattle.texts.proofs.bytes.strip.Goals as goal
 
 pub returns-then-s-c : goal.returns-then-s-c

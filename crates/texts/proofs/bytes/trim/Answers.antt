@@ -1,7 +1,6 @@
 -- Both ends.
 use mathlib.Core.Path.{ap, ◌∙◌}
 use Rattle.texts.specs.Bytes.{trim, trim_end, blank}
-use borrow.Author.Rules.{rules}
 use Rattle.texts.proofs.bytes.trim.Goals as goal
 
 pub returns : goal.returns

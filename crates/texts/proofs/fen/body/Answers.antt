@@ -2,7 +2,6 @@
 use mathlib.Core.Path.{ap, ◌∙◌}
 use Rattle.texts.specs.Fen.{body}
 use Rattle.texts.specs.Bytes.{is, trim, trim_start, trim_end}
-use borrow.Author.Rules.{rules}
 use Rattle.texts.proofs.fen.body.Goals as goal
 
 pub returns : goal.returns

@@ -2,7 +2,6 @@
 use mathlib.Core.Path.{ap, ◌∙◌}
 use Rattle.texts.specs.Fen.{end_of}
 use Rattle.texts.specs.Bytes.{is, trim_start, read_square}
-use borrow.Author.Rules.{rules}
 use Rattle.texts.proofs.fen.end_of.Goals as goal
 
 pub returns : goal.returns

@@ -1,6 +1,5 @@
 -- Each end is a square, or its refusal is passed on.
 use mathlib.Core.Path.{ap}
-use borrow.Author.Rules.{rules}
 use Rattle.texts.proofs.fen.ends.Goals as goal
 
 pub range-requires : goal.range-requires

@@ -9,7 +9,6 @@ use Rattle.texts.specs.Lent.{emit_of, emitted}
 use Rattle.texts.specs.Fen.{fen_text, fen_of, fen_lent}
 use Rattle.positions.specs.Boards.{board_of}
 use Rattle.texts.proofs.FenLength.{fen_fits, fen_starts}
-use borrow.Author.Rules.{rules}
 use Rattle.texts.proofs.fen.fen.Goals as goal
 
 pub slice_bounds-text-end : goal.slice_bounds-text-end

@@ -4,7 +4,6 @@ use Prim.Native.Nat.{◌-◌}
 use lib.ListN.{length, take, drop}
 use Rattle.texts.proofs.Readers as laws
 use Rattle.texts.proofs.Cuts.{rest}
-use borrow.Author.Rules.{rules}
 use Rattle.texts.proofs.fen.field.Goals as goal
 
 pub returns-then-s-eq0 : goal.returns-then-s-eq0

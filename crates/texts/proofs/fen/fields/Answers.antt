@@ -1,10 +1,6 @@
 -- One field a turn, as in `items`.
 use mathlib.Core.Path.{refl, sym}
-use Prim.Native.Nat.{◌-◌, ◌+◌}
-use lib.ListN.{length}
-use Rattle.texts.specs.Bytes.{parts_from}
-use Rattle.texts.specs.Fen.{at_colon, field_of, fields_of}
-use Rattle.texts.proofs.Readers.{Left, turned, none_left}
+use Rattle.texts.proofs.Readers.{turned, none_left}
 use borrow.Author.Rules.{rules}
 use native.Mathlib.Omega.{arith}
 use Rattle.texts.proofs.fen.fields.Goals as goal

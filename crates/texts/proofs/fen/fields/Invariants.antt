@@ -1,12 +1,9 @@
 -- One field a turn, as in `items`.
-use mathlib.Core.Path.{refl, sym}
 use Prim.Native.Nat.{◌-◌, ◌+◌}
 use lib.ListN.{length}
 use Rattle.texts.specs.Bytes.{parts_from}
 use Rattle.texts.specs.Fen.{at_colon, field_of, fields_of}
-use Rattle.texts.proofs.Readers.{Left, turned, none_left}
-use borrow.Author.Rules.{rules}
-use native.Mathlib.Omega.{arith}
+use Rattle.texts.proofs.Readers.{Left}
 use Rattle.texts.proofs.fen.fields.Given as goal
 
 abbrev pub invariant-loop-at : goal.invariant-loop-at

@@ -2,7 +2,6 @@
 use mathlib.Core.Path.{ap, ◌∙◌}
 use Rattle.texts.specs.Fen.{from_fen_of}
 use Rattle.texts.specs.Parts.{placing}
-use borrow.Author.Rules.{rules}
 use Rattle.texts.proofs.fen.from_fen.Goals as goal
 
 pub returns-then-is_readable : goal.returns-then-is_readable

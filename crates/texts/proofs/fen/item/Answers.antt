@@ -1,7 +1,6 @@
 -- Skipped where it is empty; else one leading K makes a king.
 use mathlib.Core.Path.{sym, ◌∙◌}
 use Rattle.texts.proofs.Readers as laws
-use borrow.Author.Rules.{rules}
 use Rattle.texts.proofs.fen.item.Goals as goal
 
 pub returns-then-s-eq0 : goal.returns-then-s-eq0

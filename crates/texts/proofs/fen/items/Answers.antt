@@ -1,11 +1,8 @@
 -- One item a turn: the definition at the whole is the definition at what is left.
 use mathlib.Core.Path.{ap, sym}
-use Prim.Native.Nat.{◌-◌, ◌+◌}
-use lib.ListN.{length}
-use Rattle.texts.specs.Bytes.{split_on}
-use Rattle.texts.specs.Fen.{at_comma, item_of, items_of}
+use Rattle.texts.specs.Fen.{at_comma, items_of}
 use Rattle.texts.proofs.Cuts.{parts_start}
-use Rattle.texts.proofs.Readers.{Left, turned, none_left}
+use Rattle.texts.proofs.Readers.{turned, none_left}
 use borrow.Author.Rules.{rules}
 use native.Mathlib.Omega.{arith}
 use Rattle.texts.proofs.fen.items.Goals as goal

@@ -2,7 +2,6 @@
 use Rattle.positions.specs.Boards.{board_of}
 use Rattle.texts.proofs.Pieces as pieces
 use Rattle.texts.proofs.Writers as laws
-use borrow.Author.Rules.{rules}
 use Rattle.texts.proofs.fen.put_fen.Goals as goal
 
 pub returns : goal.returns

@@ -1,7 +1,6 @@
 -- Colon, letter, list.
 use Rattle.texts.proofs.Pieces as pieces
 use Rattle.texts.proofs.Writers as laws
-use borrow.Author.Rules.{rules}
 use Rattle.texts.proofs.fen.put_field.Goals as goal
 
 pub returns : goal.returns

@@ -1,7 +1,6 @@
 -- A king has a K before its number.
 use Rattle.texts.proofs.Pieces as pieces
 use Rattle.texts.proofs.Writers as laws
-use borrow.Author.Rules.{rules}
 use Rattle.texts.proofs.fen.put_item.Goals as goal
 
 pub returns-then-contains : goal.returns-then-contains

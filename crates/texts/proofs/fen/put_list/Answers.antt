@@ -1,10 +1,7 @@
 -- One square a turn: what is put on and what remains are the whole list.
-use mathlib.Core.Path.{◌≡◌, refl}
-use Prim.Native.Nat.{◌<◌, ◌^◌}
-use lib.ListN.{length}
+use mathlib.Core.Path.{refl}
 use Rattle.texts.proofs.Writers as laws
-use Rattle.texts.specs.Fen.{list_text}
-use Rattle.squares.specs.Sets.{members, lowest}
+use Rattle.squares.specs.Sets.{lowest}
 use Rattle.squares.proofs.Loops.{cleared}
 use native.Mathlib.Omega.{arith}
 use borrow.Author.Rules.{rules}

@@ -1,13 +1,10 @@
 -- One square a turn: what is put on and what remains are the whole list.
-use mathlib.Core.Path.{◌≡◌, refl}
+use mathlib.Core.Path.{◌≡◌}
 use Prim.Native.Nat.{◌<◌, ◌^◌}
 use lib.ListN.{length}
 use Rattle.texts.proofs.Writers as laws
 use Rattle.texts.specs.Fen.{list_text}
-use Rattle.squares.specs.Sets.{members, lowest}
-use Rattle.squares.proofs.Loops.{cleared}
-use native.Mathlib.Omega.{arith}
-use borrow.Author.Rules.{rules}
+use Rattle.squares.specs.Sets.{members}
 use Rattle.texts.proofs.fen.put_list.Given as goal
 
 abbrev pub invariant-loop-left : goal.invariant-loop-left

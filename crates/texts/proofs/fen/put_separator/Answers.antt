@@ -1,7 +1,6 @@
 -- No comma before the first item.
 use Rattle.texts.proofs.Pieces as pieces
 use Rattle.texts.proofs.Writers as laws
-use borrow.Author.Rules.{rules}
 use Rattle.texts.proofs.fen.put_separator.Goals as goal
 
 pub returns-then-first : goal.returns-then-first

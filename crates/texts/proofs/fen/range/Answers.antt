@@ -1,10 +1,8 @@
 -- The squares from lo to the one before n are in the set.
 use mathlib.Core.Path.{◌≡◌, ap, ◌∙◌}
-use Prim.Native.Nat.{◌≤◌, ◌-◌, ◌+◌}
-use lib.ListN.{set}
+use Prim.Native.Nat.{◌-◌, ◌+◌}
 use Rattle.texts.proofs.Readers as laws
 use Rattle.squares.specs.Squares.{run}
-use borrow.Author.Rules.{rules}
 use native.Mathlib.Omega.{arith}
 use Rattle.texts.proofs.fen.range.Goals as goal
 

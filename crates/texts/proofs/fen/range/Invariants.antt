@@ -1,11 +1,7 @@
 -- The squares from lo to the one before n are in the set.
-use mathlib.Core.Path.{◌≡◌, ap, ◌∙◌}
+use mathlib.Core.Path.{◌≡◌}
 use Prim.Native.Nat.{◌≤◌, ◌-◌, ◌+◌}
-use lib.ListN.{set}
-use Rattle.texts.proofs.Readers as laws
 use Rattle.squares.specs.Squares.{run}
-use borrow.Author.Rules.{rules}
-use native.Mathlib.Omega.{arith}
 use Rattle.texts.proofs.fen.range.Given as goal
 
 abbrev pub invariant-loop-n : goal.invariant-loop-n

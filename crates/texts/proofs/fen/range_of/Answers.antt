@@ -2,7 +2,6 @@
 use mathlib.Core.Path.{ap, ap₂, ◌∙◌}
 use Rattle.texts.proofs.Readers as laws
 use Rattle.texts.specs.Fen.{end_of, ends_of, range_of}
-use borrow.Author.Rules.{rules}
 use Rattle.texts.proofs.fen.range_of.Goals as goal
 
 pub ends-requires : goal.ends-requires

@@ -1,7 +1,6 @@
 -- One byte, a letter.
 use mathlib.Core.Path.{sym, ◌∙◌}
 use Rattle.texts.proofs.Readers as laws
-use borrow.Author.Rules.{rules}
 use Rattle.texts.proofs.fen.side.Goals as goal
 
 pub returns-then-s-eq1 : goal.returns-then-s-eq1

@@ -6,7 +6,6 @@ use lib.Seq.{length-take-le}
 use Rattle.texts.specs.Lent.{emit_of, emitted}
 use Rattle.texts.specs.Hub.{hub_of, hub_lent}
 use Rattle.texts.proofs.HubTrip.{hub_starts}
-use borrow.Author.Rules.{rules}
 use Rattle.texts.proofs.hub.hub.Goals as goal
 
 pub slice_bounds-text-end : goal.slice_bounds-text-end

@@ -4,7 +4,6 @@ use borrow.Author.Tests.{eq-eqb, ne_eqb}
 use Rattle.texts.specs.declared.parts.Reading.TheVariants as reading
 use Rattle.texts.specs.Hub.{hub_byte_of}
 use Prim.Native.Char.{code}
-use borrow.Author.Rules.{rules}
 use Rattle.texts.proofs.hub.hub_byte.Goals as goal
 
 pub returns-then-x-eq101 : goal.returns-then-x-eq101

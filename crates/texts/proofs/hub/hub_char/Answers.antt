@@ -3,7 +3,6 @@
 use mathlib.Core.Path.{◌≡◌, refl, ap, ap₂, ◌∙◌}
 use mathlib.Core.Bool.{Bool, true, false, cond, ◌&&◌}
 use Prim.Native.Nat.{ℕ}
-use borrow.Author.Rules.{rules}
 use Rattle.squares.specs.Sets.{has}
 use Rattle.squares.specs.Squares.{is_square, bit_of, contains_of}
 use Rattle.squares.specs.declared.piece.Color.TheVariants.{White, Black}

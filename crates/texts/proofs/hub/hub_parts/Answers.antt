@@ -1,7 +1,6 @@
 -- The side, then the squares.
 use mathlib.Core.Path.{sym, ◌∙◌}
 use Rattle.texts.proofs.Readers as laws
-use borrow.Author.Rules.{rules}
 use Rattle.texts.proofs.hub.hub_parts.Goals as goal
 
 pub returns-then-s-eq0 : goal.returns-then-s-eq0

@@ -1,11 +1,9 @@
 -- One square a turn; what is left of the text, and what it should have, fall together.
-use mathlib.Core.Path.{◌≡◌, refl, ap, sym, ◌∙◌}
-use Prim.Native.Nat.{◌≤◌, ◌-◌}
-use lib.ListN.{length, drop}
+use mathlib.Core.Path.{refl, ap, sym, ◌∙◌}
+use lib.ListN.{drop}
 use Rattle.texts.proofs.Readers as laws
 use Rattle.texts.specs.declared.parts.Parts.{Parts}
 use Rattle.texts.specs.Hub.{hub_from}
-use borrow.Author.Rules.{rules}
 use native.Mathlib.Omega.{arith}
 use Rattle.texts.proofs.hub.hub_squares.Goals as goal
 

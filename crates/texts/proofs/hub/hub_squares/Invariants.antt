@@ -1,12 +1,8 @@
 -- One square a turn; what is left of the text, and what it should have, fall together.
-use mathlib.Core.Path.{◌≡◌, refl, ap, sym, ◌∙◌}
+use mathlib.Core.Path.{◌≡◌}
 use Prim.Native.Nat.{◌≤◌, ◌-◌}
 use lib.ListN.{length, drop}
-use Rattle.texts.proofs.Readers as laws
-use Rattle.texts.specs.declared.parts.Parts.{Parts}
 use Rattle.texts.specs.Hub.{hub_from}
-use borrow.Author.Rules.{rules}
-use native.Mathlib.Omega.{arith}
 use Rattle.texts.proofs.hub.hub_squares.Given as goal
 
 abbrev pub invariant-loop-n : goal.invariant-loop-n

@@ -1,7 +1,5 @@
 -- One square a turn: what is put on and what remains are the whole text.
-use mathlib.Core.Path.{◌≡◌, refl}
-use Prim.Native.Nat.{◌≤◌, ◌-◌}
-use lib.ListN.{length}
+use mathlib.Core.Path.{refl}
 use Rattle.texts.proofs.Pieces as pieces
 use Rattle.texts.proofs.Writers as laws
 use Rattle.positions.specs.Boards.{board_of}

@@ -1,12 +1,9 @@
 -- One square a turn: what is put on and what remains are the whole text.
-use mathlib.Core.Path.{◌≡◌, refl}
+use mathlib.Core.Path.{◌≡◌}
 use Prim.Native.Nat.{◌≤◌, ◌-◌}
 use lib.ListN.{length}
-use Rattle.texts.proofs.Pieces as pieces
 use Rattle.texts.proofs.Writers as laws
 use Rattle.positions.specs.Boards.{board_of}
-use borrow.Author.Rules.{rules}
-use native.Mathlib.Omega.{arith}
 use Rattle.texts.proofs.hub.put_hub.Given as goal
 
 abbrev pub invariant-loop-n : goal.invariant-loop-n

@@ -1,5 +1,4 @@
 -- Acceptance of what was read, or the refusal passed on.
-use borrow.Author.Rules.{rules}
 use Rattle.texts.proofs.parts.accept.Goals as goal
 
 pub returns-in-Parts : goal.returns-in-Parts

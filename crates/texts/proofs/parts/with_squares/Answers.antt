@@ -1,6 +1,5 @@
 -- Each colour its own set, the kings one.
 use Rattle.texts.specs.Parts.{with_squares}
-use borrow.Author.Rules.{rules}
 use Rattle.texts.proofs.parts.with_squares.Goals as goal
 
 pub returns-in-White : goal.returns-in-White

@@ -1,6 +1,5 @@
 -- 1, then 4.
 use Rattle.texts.specs.Bytes.{from_str_of}
-use borrow.Author.Rules.{rules}
 use Rattle.texts.proofs.square.from_str.Goals as goal
 
 pub returns-then-is_readable : goal.returns-then-is_readable

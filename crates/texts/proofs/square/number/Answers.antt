@@ -1,9 +1,6 @@
 -- Digit by digit; a value above 50 stays so.
-use mathlib.Core.Path.{◌≡◌, sym, ◌∙◌}
-use Prim.Native.Nat.{◌≤◌, ◌-◌}
-use lib.ListN.{length, drop}
+use mathlib.Core.Path.{sym, ◌∙◌}
 use Rattle.texts.proofs.SquareTexts as laws
-use Rattle.texts.specs.Bytes.{number, digits_from}
 use borrow.Author.Rules.{rules}
 use native.Mathlib.Omega.{arith}
 use Rattle.texts.proofs.square.number.Goals as goal

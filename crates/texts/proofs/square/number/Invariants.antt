@@ -1,11 +1,8 @@
 -- Digit by digit; a value above 50 stays so.
-use mathlib.Core.Path.{◌≡◌, sym, ◌∙◌}
+use mathlib.Core.Path.{◌≡◌}
 use Prim.Native.Nat.{◌≤◌, ◌-◌}
 use lib.ListN.{length, drop}
-use Rattle.texts.proofs.SquareTexts as laws
 use Rattle.texts.specs.Bytes.{number, digits_from}
-use borrow.Author.Rules.{rules}
-use native.Mathlib.Omega.{arith}
 use Rattle.texts.proofs.square.number.Given as goal
 
 abbrev pub invariant-loop-i : goal.invariant-loop-i

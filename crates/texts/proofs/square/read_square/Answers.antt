@@ -1,7 +1,6 @@
 -- An optional +, then digits.
 use mathlib.Core.Path.{ap, ◌∙◌}
 use Rattle.texts.specs.Bytes.{read_square, number}
-use borrow.Author.Rules.{rules}
 use Rattle.texts.proofs.square.read_square.Goals as goal
 
 pub returns : goal.returns

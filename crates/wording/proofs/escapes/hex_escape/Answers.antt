@@ -1,7 +1,6 @@
 -- Two digits, or none.
 use mathlib.Core.Path.{sym, ◌∙◌}
 use Rattle.wording.proofs.Escaped as laws
-use borrow.Author.Rules.{rules}
 use native.Mathlib.Omega.{arith}
 use Rattle.wording.proofs.escapes.hex_escape.Goals as goal
 

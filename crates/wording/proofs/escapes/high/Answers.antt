@@ -1,7 +1,6 @@
 -- A sign counts as no digit.
 use borrow.Author.Tests.{eq-eqb, ne_eqb}
 use Rattle.wording.specs.Escapes.{high_of}
-use borrow.Author.Rules.{rules}
 use Rattle.wording.proofs.escapes.high.Goals as goal
 
 pub returns-then-b-eq43 : goal.returns-then-b-eq43

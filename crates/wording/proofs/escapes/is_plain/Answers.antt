@@ -1,9 +1,9 @@
 -- What is left is plain exactly where the word is.
-use mathlib.Core.Path.{◌≡◌, ap, sym, ◌∙◌}
-use Prim.Native.Nat.{◌≤◌, ◌-◌, ◌+◌}
-use lib.ListN.{length, drop, get_or}
+use mathlib.Core.Path.{ap, sym, ◌∙◌}
+use Prim.Native.Nat.{◌+◌}
+use lib.ListN.{get_or}
 use Rattle.texts.proofs.Cuts.{rest}
-use Rattle.wording.specs.Escapes.{escape_of, is_plain, undo, plain}
+use Rattle.wording.specs.Escapes.{escape_of, is_plain}
 use Rattle.wording.proofs.Escaped as laws
 use borrow.Author.Rules.{rules}
 use native.Mathlib.Omega.{arith}

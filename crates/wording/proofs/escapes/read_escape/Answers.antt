@@ -3,7 +3,6 @@ use mathlib.Core.Path.{ap, sym, ◌∙◌}
 use Rattle.wording.proofs.Escaped as laws
 use Rattle.wording.specs.Escapes.{escape_of, hex_escape}
 use Rattle.texts.proofs.Cuts.{rest}
-use borrow.Author.Rules.{rules}
 use Rattle.wording.proofs.escapes.read_escape.Goals as goal
 
 pub returns-then-s-eq0 : goal.returns-then-s-eq0

@@ -1,10 +1,8 @@
 -- What the bytes before the place stand for was written; nothing where an escape is invalid.
-use mathlib.Core.Path.{◌≡◌, refl, ap, sym, ◌∙◌}
-use mathlib.Core.Bool.{true}
-use Prim.Native.Nat.{◌≤◌, ◌-◌, ◌+◌}
-use lib.ListN.{length}
+use mathlib.Core.Path.{refl, ap, sym, ◌∙◌}
+use Prim.Native.Nat.{◌+◌}
 use Rattle.wording.proofs.Escaped as laws
-use Rattle.wording.specs.Escapes.{escape_of, is_plain, plain}
+use Rattle.wording.specs.Escapes.{escape_of}
 use Rattle.texts.proofs.Cuts.{rest}
 use borrow.Author.Rules.{rules}
 use native.Mathlib.Omega.{arith}

@@ -1,14 +1,10 @@
 -- What the bytes before the place stand for was written; nothing where an escape is invalid.
-use mathlib.Core.Path.{◌≡◌, refl, ap, sym, ◌∙◌}
+use mathlib.Core.Path.{◌≡◌}
 use mathlib.Core.Bool.{true}
-use Prim.Native.Nat.{◌≤◌, ◌-◌, ◌+◌}
+use Prim.Native.Nat.{◌≤◌, ◌-◌}
 use lib.ListN.{length}
 use Rattle.wording.proofs.Escaped as laws
-use Rattle.wording.specs.Escapes.{escape_of, is_plain, plain}
-use Rattle.texts.proofs.Cuts.{rest}
-use borrow.Author.Tests.{not-true, not-false}
-use borrow.Author.Rules.{rules}
-use native.Mathlib.Omega.{arith}
+use Rattle.wording.specs.Escapes.{is_plain, plain}
 use Rattle.wording.proofs.escapes.unescape.Given as goal
 
 abbrev pub invariant-loop-i : goal.invariant-loop-i

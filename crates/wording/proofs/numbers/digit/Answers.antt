@@ -1,7 +1,6 @@
 -- The seven stretches of bytes, one after the other.
 use mathlib.Core.Path.{sym}
 use Rattle.wording.proofs.Values as laws
-use borrow.Author.Rules.{rules}
 use native.Mathlib.Omega.{arith}
 use Rattle.wording.proofs.numbers.digit.Goals as goal
 

@@ -1,8 +1,6 @@
 -- A zero before another byte is refused; else the digits.
 use mathlib.Core.Path.{sym, ◌∙◌}
-use native.Mathlib.Omega.{arith}
 use Rattle.wording.proofs.Given as laws
-use borrow.Author.Rules.{rules}
 use Rattle.wording.proofs.numbers.given.Goals as goal
 
 pub returns-then-s-eq48 : goal.returns-then-s-eq48

@@ -3,7 +3,6 @@ use Rattle.wording.proofs.Values as laws
 use mathlib.Core.Path.{ap, sym, ◌∙◌}
 use Rattle.wording.proofs.Signs as signs
 use Rattle.wording.specs.declared.numbers.Signed.TheVariants as signed
-use borrow.Author.Rules.{rules}
 use Rattle.wording.proofs.numbers.negative.Goals as goal
 
 pub overflow_sub-result : goal.overflow_sub-result

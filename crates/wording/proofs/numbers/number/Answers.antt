@@ -1,8 +1,5 @@
 -- Digit by digit; the limit is tested before the product and the sum are made.
-use mathlib.Core.Path.{◌≡◌, sym, ◌∙◌}
-use Prim.Native.Nat.{◌≤◌, ◌-◌}
-use lib.ListN.{length, drop}
-use Rattle.wording.specs.Numbers.{number_in, value_from}
+use mathlib.Core.Path.{sym, ◌∙◌}
 use Rattle.wording.proofs.Values as laws
 use borrow.Author.Rules.{rules}
 use native.Mathlib.Omega.{arith}

@@ -1,11 +1,8 @@
 -- Digit by digit; the limit is tested before the product and the sum are made.
-use mathlib.Core.Path.{◌≡◌, sym, ◌∙◌}
+use mathlib.Core.Path.{◌≡◌}
 use Prim.Native.Nat.{◌≤◌, ◌-◌}
 use lib.ListN.{length, drop}
 use Rattle.wording.specs.Numbers.{number_in, value_from}
-use Rattle.wording.proofs.Values as laws
-use borrow.Author.Rules.{rules}
-use native.Mathlib.Omega.{arith}
 use Rattle.wording.proofs.numbers.number.Given as goal
 
 abbrev pub invariant-loop-i : goal.invariant-loop-i

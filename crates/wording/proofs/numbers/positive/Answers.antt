@@ -3,7 +3,6 @@ use mathlib.Core.Path.{ap}
 use Rattle.wording.proofs.Signs as signs
 use borrow.Author.Tests.{le-leb, lt-leb}
 use Rattle.wording.specs.declared.numbers.Signed.TheVariants as signed
-use borrow.Author.Rules.{rules}
 use Rattle.wording.proofs.numbers.positive.Goals as goal
 
 pub returns-then-v-le2147483647 : goal.returns-then-v-le2147483647

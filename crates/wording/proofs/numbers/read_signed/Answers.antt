@@ -3,7 +3,6 @@ use mathlib.Core.Path.{ap, sym, ◌∙◌}
 use Rattle.wording.specs.Numbers.{positive_of, negative_of, number_in}
 use Rattle.wording.proofs.Values as laws
 use Rattle.texts.proofs.Cuts.{rest}
-use borrow.Author.Rules.{rules}
 use Rattle.wording.proofs.numbers.read_signed.Goals as goal
 
 pub returns-then-s-eq0 : goal.returns-then-s-eq0

@@ -2,7 +2,6 @@
 use mathlib.Core.Path.{ap, ◌∙◌}
 use Rattle.wording.specs.Numbers.{set_of, number_in}
 use Rattle.texts.specs.Bytes.{strip}
-use borrow.Author.Rules.{rules}
 use Rattle.wording.proofs.numbers.set.Goals as goal
 
 pub returns : goal.returns

@@ -1,8 +1,6 @@
 -- The sign, the digits.
 use mathlib.Core.Path.{ap, ◌∙◌}
 use Rattle.wording.specs.Numbers.{unsigned_of, number_in}
-use Rattle.texts.specs.Bytes.{strip}
-use borrow.Author.Rules.{rules}
 use Rattle.wording.proofs.numbers.unsigned.Goals as goal
 
 pub returns : goal.returns

@@ -1,8 +1,5 @@
 -- The bytes before the place are 0x, again and again.
-use mathlib.Core.Path.{◌≡◌, refl, sym, ◌∙◌}
-use Prim.Native.Nat.{◌≤◌, ◌-◌}
-use lib.ListN.{length, drop}
-use Rattle.wording.specs.Numbers.{without_prefix}
+use mathlib.Core.Path.{refl, sym, ◌∙◌}
 use Rattle.wording.proofs.Values as laws
 use Rattle.texts.proofs.Cuts.{rest}
 use borrow.Author.Rules.{rules}

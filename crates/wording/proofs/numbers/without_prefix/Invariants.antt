@@ -1,12 +1,8 @@
 -- The bytes before the place are 0x, again and again.
-use mathlib.Core.Path.{◌≡◌, refl, sym, ◌∙◌}
+use mathlib.Core.Path.{◌≡◌}
 use Prim.Native.Nat.{◌≤◌, ◌-◌}
 use lib.ListN.{length, drop}
 use Rattle.wording.specs.Numbers.{without_prefix}
-use Rattle.wording.proofs.Values as laws
-use Rattle.texts.proofs.Cuts.{rest}
-use borrow.Author.Rules.{rules}
-use native.Mathlib.Omega.{arith}
 use Rattle.wording.proofs.numbers.without_prefix.Given as goal
 
 abbrev pub invariant-loop-i : goal.invariant-loop-i

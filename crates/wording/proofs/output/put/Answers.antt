@@ -1,9 +1,5 @@
 -- Byte by byte.
-use mathlib.Core.Path.{◌≡◌, refl}
-use Prim.Native.Nat.{◌≤◌, ◌-◌}
-use lib.ListN.{length}
-use lib.ListN.{take}
-use Rattle.texts.specs.Lent.{Adds}
+use mathlib.Core.Path.{refl}
 use Rattle.texts.proofs.Pieces as laws
 use borrow.Author.Rules.{rules}
 use native.Mathlib.Omega.{arith}

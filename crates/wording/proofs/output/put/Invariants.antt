@@ -1,12 +1,9 @@
 -- Byte by byte.
-use mathlib.Core.Path.{◌≡◌, refl}
+use mathlib.Core.Path.{◌≡◌}
 use Prim.Native.Nat.{◌≤◌, ◌-◌}
 use lib.ListN.{length}
 use lib.ListN.{take}
 use Rattle.texts.specs.Lent.{Adds}
-use Rattle.texts.proofs.Pieces as laws
-use borrow.Author.Rules.{rules}
-use native.Mathlib.Omega.{arith}
 use Rattle.wording.proofs.output.put.Given as goal
 
 abbrev pub invariant-loop-i : goal.invariant-loop-i

@@ -1,7 +1,6 @@
 -- A fixed text, then the word.
 use Rattle.texts.proofs.Pieces as laws
 use Rattle.wording.specs.Output.{bad}
-use borrow.Author.Rules.{rules}
 use Rattle.wording.proofs.output.put_bad.Goals as goal
 
 pub returns : goal.returns

@@ -2,7 +2,6 @@
 use mathlib.Core.Path.{ap, sym}
 use Rattle.texts.proofs.Pieces as laws
 use Rattle.wording.specs.Output.{flaw_word}
-use borrow.Author.Rules.{rules}
 use Rattle.wording.proofs.output.put_flaw.Goals as goal
 
 pub returns-in-Length : goal.returns-in-Length

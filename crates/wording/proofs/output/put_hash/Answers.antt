@@ -1,7 +1,6 @@
 -- The fewest digits are those of the definition.
 use Rattle.texts.proofs.Pieces as laws
 use Rattle.wording.proofs.Numerals.{hash_is}
-use borrow.Author.Rules.{rules}
 use Rattle.wording.proofs.output.put_hash.Goals as goal
 
 pub returns : goal.returns

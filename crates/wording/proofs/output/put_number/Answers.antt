@@ -2,7 +2,6 @@
 use mathlib.Core.Path.{ap}
 use Rattle.texts.proofs.Pieces as pieces
 use Rattle.wording.specs.Output.{number_word, decimal}
-use borrow.Author.Rules.{rules}
 use Rattle.wording.proofs.output.put_number.Goals as goal
 
 pub returns : goal.returns

@@ -2,7 +2,6 @@
 use mathlib.Core.Path.{ap}
 use Rattle.texts.proofs.Pieces as laws
 use Rattle.wording.specs.Output.{refusal_text, decimal}
-use borrow.Author.Rules.{rules}
 use Rattle.wording.proofs.output.put_refusal.Goals as goal
 
 pub returns : goal.returns

@@ -1,7 +1,6 @@
 -- A negative number has 1 added, its sign changed, and 1 added to its size.
 use Rattle.texts.proofs.Pieces as laws
 use Rattle.wording.proofs.Signs as signs
-use borrow.Author.Rules.{rules}
 use native.Mathlib.Omega.{arith}
 use Rattle.wording.proofs.output.put_signed.Goals as goal
 

@@ -1,8 +1,4 @@
 -- The spaces before the place are counted.
-use mathlib.Core.Path.{◌≡◌}
-use Prim.Native.Nat.{◌≤◌, ◌-◌, ◌+◌}
-use lib.ListN.{length, drop}
-use Rattle.wording.specs.Words.{blanks_in}
 use Rattle.wording.proofs.WordLaws as laws
 use borrow.Author.Rules.{rules}
 use native.Mathlib.Omega.{arith}

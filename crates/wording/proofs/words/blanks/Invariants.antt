@@ -2,11 +2,7 @@
 use mathlib.Core.Path.{◌≡◌}
 use Prim.Native.Nat.{◌≤◌, ◌-◌, ◌+◌}
 use lib.ListN.{length, drop}
-use mathlib.Core.Logic.{⊎_elim}
 use Rattle.wording.specs.Words.{blanks_in}
-use Rattle.wording.proofs.WordLaws as laws
-use borrow.Author.Rules.{rules}
-use native.Mathlib.Omega.{arith}
 use Rattle.wording.proofs.words.blanks.Given as goal
 
 abbrev pub invariant-loop-i : goal.invariant-loop-i

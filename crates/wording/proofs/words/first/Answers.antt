@@ -1,6 +1,5 @@
 -- What comes before the first space.
 use Rattle.wording.specs.Words.{first_word}
-use borrow.Author.Rules.{rules}
 use Rattle.wording.proofs.words.first.Goals as goal
 
 pub returns : goal.returns

@@ -1,6 +1,5 @@
 -- What comes after the first space.
 use Rattle.wording.specs.Words.{after_word}
-use borrow.Author.Rules.{rules}
 use Rattle.wording.proofs.words.rest.Goals as goal
 
 pub returns : goal.returns

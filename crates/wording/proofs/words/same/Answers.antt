@@ -1,8 +1,5 @@
 -- No byte before the place differs.
-use mathlib.Core.Path.{◌≡◌, refl, sym, ◌∙◌}
-use Prim.Native.Nat.{◌≤◌, ◌-◌}
-use lib.ListN.{length, drop}
-use Rattle.wording.specs.Words.{same_text}
+use mathlib.Core.Path.{refl, sym, ◌∙◌}
 use Rattle.wording.proofs.WordLaws as laws
 use borrow.Author.Rules.{rules}
 use native.Mathlib.Omega.{arith}

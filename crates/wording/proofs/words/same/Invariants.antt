@@ -1,11 +1,8 @@
 -- No byte before the place differs.
-use mathlib.Core.Path.{◌≡◌, refl, sym, ◌∙◌}
+use mathlib.Core.Path.{◌≡◌}
 use Prim.Native.Nat.{◌≤◌, ◌-◌}
 use lib.ListN.{length, drop}
 use Rattle.wording.specs.Words.{same_text}
-use Rattle.wording.proofs.WordLaws as laws
-use borrow.Author.Rules.{rules}
-use native.Mathlib.Omega.{arith}
 use Rattle.wording.proofs.words.same.Given as goal
 
 abbrev pub invariant-loop-i : goal.invariant-loop-i

@@ -1,13 +1,8 @@
 -- Word by word; where no space is left the words that are left are empty.
-use mathlib.Core.Path.{◌≡◌, refl, ap, sym, ◌∙◌}
+use mathlib.Core.Path.{◌≡◌}
 use Prim.Native.Nat.{◌≤◌}
 use lib.ListN.{length, drop}
-use lib.ListN.{length-drop}
-use Rattle.wording.specs.Words.{word_at, first_word}
-use Rattle.wording.proofs.WordLaws as laws
-use Rattle.texts.proofs.Cuts.{rest}
-use borrow.Author.Rules.{rules}
-use native.Mathlib.Omega.{arith}
+use Rattle.wording.specs.Words.{word_at}
 use Rattle.wording.proofs.words.word.Given as goal
 
 abbrev pub invariant-loop-left : goal.invariant-loop-left

@@ -1,7 +1,6 @@
 -- The tests of refusals 12 and 10 in this order, then the score.
 use mathlib.Core.Path.{sym, ◌∙◌}
 use lib.Dec.{lit<}
-use borrow.Author.Rules.{rules}
 use Rattle.squares.proofs.Bools.{and_left}
 use Rattle.positions.specs.Acceptance.{sound}
 use Rattle.scores.proofs.Integers.{read}

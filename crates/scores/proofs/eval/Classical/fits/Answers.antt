@@ -1,5 +1,4 @@
 -- Each weight by itself; a struct tells that its fields fit, so that they read back.
-use borrow.Author.Rules.{rules}
 use Rattle.scores.proofs.Integers.{within_read}
 use Rattle.scores.proofs.Scores.{weights_test}
 use Rattle.scores.proofs.eval.Classical.fits.Goals as goal

@@ -1,7 +1,6 @@
 -- Two terms, each within 57,600,000, of the counts of men and kings.
 use mathlib.Core.Path.{ap, ◌∙◌}
 use lib.Dec.{lit<}
-use borrow.Author.Rules.{rules}
 use Rattle.squares.specs.Sets.{size}
 use Rattle.scores.specs.Score.{material_of}
 use Rattle.scores.proofs.Integers.{held_within, add_of_lem, fits, read}

@@ -3,12 +3,11 @@ use mathlib.Core.Path.{ap, ap₂, sym, ◌∙◌}
 use Prim.Native.Nat.{ℕ}
 use lib.Dec.{lit<}
 use lib.Bits.{bit_and}
-use borrow.Author.Rules.{rules}
 use Rattle.squares.specs.Sets.{size}
 use Rattle.squares.specs.Folds.{sum_over}
 use Rattle.squares.specs.Squares.{all}
 use Rattle.positions.specs.Boards.{board_of, men_of}
-use Rattle.scores.specs.Score.{advanced, center, placement_of}
+use Rattle.scores.specs.Score.{advanced, placement_of}
 use Rattle.positions.proofs.Accepts.{accepted_says}
 use Rattle.positions.proofs.OnSquares.{and_all, men_squares}
 use Rattle.scores.proofs.Integers.{held_within, add_of_lem, fits, read}

@@ -1,6 +1,5 @@
 -- White's score, or its negative for Black.
 use lib.Dec.{lit<}
-use borrow.Author.Rules.{rules}
 use Rattle.positions.specs.Boards.{board_of}
 use Rattle.scores.proofs.Integers.{neg_of, fits}
 use Rattle.scores.proofs.ScoreSums.{for_white, for_black}

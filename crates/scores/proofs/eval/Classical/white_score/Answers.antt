@@ -1,6 +1,5 @@
 -- White's worth less Black's, damped.
 use lib.Dec.{lit<}
-use borrow.Author.Rules.{rules}
 use Rattle.positions.specs.Boards.{board_of}
 use Rattle.scores.proofs.Integers.{less_of, fits, read, le_within}
 use Rattle.scores.proofs.ScoreSums.{white_of}

@@ -1,6 +1,5 @@
 -- Material and placement, added.
 use lib.Dec.{lit<}
-use borrow.Author.Rules.{rules}
 use Rattle.scores.specs.Score.{worth}
 use Rattle.scores.proofs.Integers.{add_of_lem, fits, read}
 use Rattle.scores.proofs.eval.Classical.worth.Goals as goal

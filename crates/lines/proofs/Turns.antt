@@ -1,0 +1,215 @@
+-- What was written so far in a turn and in a run, where the bytes of the reader and the writer are known. Each fact says
+-- how any writes that follow go on from there.
+use Prim.Native.Nat.{ℕ, ◌+◌, ◌-◌, ◌≤◌}
+use mathlib.Core.Path.{◌≡◌, refl, ap, sym, ◌∙◌, subst}
+use mathlib.Core.Bool.{Bool, true, false}
+use mathlib.Core.List.{List, [], ◌∷◌, ◌++◌, append_assoc, append-nil}
+use native.Mathlib.Omega.{arith}
+use lib.ListN.{length, take, drop, length-drop}
+use lib.Seq.{take-add, take-length, length-take-le, drop_at}
+use Rattle.std.proofs.Common.{drop_of_length-le}
+use borrow.Rule.Slice.PartMut.{put_mid, post_of}
+use Rattle.std.specs.Prelude.{None, Some, IfSome}
+use Rattle.std.specs.declared.option.Option.{Option}
+use Rattle.std.specs.Io.KnownBytes.{Appends, Consumes, Keeps, IsAtEnd}
+use Rattle.std.proofs.KnownBytes.{Appends-nil, Appends-trans, Consumes-nil, Consumes-trans, Consumes-kept}
+use Rattle.requests.specs.Requests.{longest, answer_of}
+use Rattle.line_laws.specs.Lines.{output_of, whole_of, whole_lines, carried_of, last_answer, together}
+use Rattle.line_laws.specs.Steps.{Answered}
+use Rattle.line_laws.specs.Runs.{Writes, CutWrites, Run, Fault, Stopped, Follows, Begins}
+use Rattle.line_laws.specs.Runs as runs
+use Rattle.frame.specs.Output.{Put, PutAtEnd}
+use Rattle.frame.specs.declared.output.Ended.{Ended}
+use Rattle.frame.specs.declared.output.Ended.TheVariants as ended
+use Rattle.lines.specs.Fed.{FedTo}
+use Rattle.lines.proofs.RunLaws.{run_law, stop_law, read_stop_law}
+
+-- ---- a write, by whether it was whole
+pub put_whole : (a b : Option (List ℕ)) (out : List ℕ) (w : Bool) → Put a b out w → w ≡ true → Appends a b out
+put_whole a b out w h e = subst (Put a b out) e h
+
+pub put_cut : (a b : Option (List ℕ)) (out : List ℕ) (w : Bool) → Put a b out w → w ≡ false → (n : ℕ) × Appends a b (take n out)
+put_cut a b out w h e = subst (Put a b out) e h
+
+-- ---- the writes of a turn, up to a place of s
+pub record Writing (a b : Option (List ℕ)) (s : List ℕ) (at : ℕ) : Type 0 where
+  pub written : List ℕ
+  pub sent : Appends a b written
+  pub whole : (v : List ℕ) → Writes answer_of s at v → Writes answer_of s 0 (written ++ v)
+  pub cut : (v : List ℕ) → CutWrites answer_of s at v → CutWrites answer_of s 0 (written ++ v)
+
+pub none_written : (a : Option (List ℕ)) (s : List ℕ) → Writing a a s 0
+none_written a s = record { written = []; sent = Appends-nil a; whole = λ v w. w; cut = λ v w. w }
+
+module _ {a b : Option (List ℕ)} {s : List ℕ} {at : ℕ} (j : Writing a b s at) where
+  pub all_written : whole_of (drop at s) ≡ 0 → (w : List ℕ) × Writes answer_of s 0 w × Appends a b w
+  all_written e = (j.written, subst (λ (l : List ℕ). Writes answer_of s 0 l) (append-nil j.written) (j.whole [] (runs.none e)), j.sent)
+
+  module _ (c : Option (List ℕ)) {out : List ℕ} {to put : ℕ} (q : Answered answer_of s at out to put) where
+    pub step_written : Appends b c (take put out) → Writing a c s to
+    step_written more =
+        let t = take put out in
+        record {
+          written = j.written ++ t;
+          sent = Appends-trans a b c j.written t j.sent more;
+          whole = λ v w. subst (λ (l : List ℕ). Writes answer_of s 0 l) (sym (append_assoc j.written t v)) (j.whole (t ++ v) (runs.Writes.more put out q w));
+          cut = λ v w. subst (λ (l : List ℕ). CutWrites answer_of s 0 l) (sym (append_assoc j.written t v)) (j.cut (t ++ v) (runs.CutWrites.more put out q w));
+        }
+
+    pub step_cut : (n : ℕ) → Appends b c (take n (take put out)) → (w : List ℕ) × CutWrites answer_of s 0 w × Appends a c w
+    step_cut n more =
+        let t = take n (take put out) in (j.written ++ t, j.cut t (runs.fails n put out q), Appends-trans a b c j.written t j.sent more)
+
+-- ---- the turns of a run, up to what was carried over
+pub record Feeding (left after old new : Option (List ℕ)) (carried : List ℕ) : Type 0 where
+  pub pieces : List (List ℕ)
+  pub written : List ℕ
+  pub taken : Consumes left after (together pieces)
+  pub sent : Appends old new written
+  pub run : (ps : List (List ℕ)) (v : List ℕ) → Run answer_of longest carried ps v → Run answer_of longest [] (pieces ++ ps) (written ++ v)
+  pub stop : (f : Fault) (ps : List (List ℕ)) (v : List ℕ) → Stopped answer_of longest f carried ps v → Stopped answer_of longest f [] (pieces ++ ps) (written ++ v)
+
+pub none_fed : (left old : Option (List ℕ)) → Feeding left left old old []
+unfolding together
+none_fed left old =
+    record {
+      pieces = [];
+      written = [];
+      taken = Consumes-nil left;
+      sent = Appends-nil old;
+      run = λ ps v r. r;
+      stop = λ f ps v r. r;
+    }
+
+together_more : (ps : List (List ℕ)) (p : List ℕ) → together (ps ++ (p ∷ [])) ≡ together ps ++ p
+unfolding together
+together_more [] p = append-nil p
+together_more (q ∷ ps) p = ap (λ (x : List ℕ). q ++ x) (together_more ps p) ∙ sym (append_assoc q (together ps) p)
+
+-- a part that was put after the first n bytes, up to the end
+pub drop_part : (buf part : List ℕ) (n : ℕ) → n ≤ length buf → length part ≡ length buf - n → drop n (put_mid n (length buf - n) buf part) ≡ part
+drop_part buf part n h e =
+    let post = post_of n (length buf - n) buf in
+    let none : post ≡ [] = drop_of_length-le (drop n buf) (omega (arith, length-drop n buf)) in
+    drop_at (take n buf) (part ++ post) n (length-take-le n buf h) ∙ ap (λ (x : List ℕ). part ++ x) none ∙ append-nil part
+
+-- what may follow what was taken
+rest_any : (a : Option (List ℕ)) (P : List ℕ → Type 0) → ((x : List ℕ) → P x) → IfSome a P
+rest_any None P h = tt
+rest_any (Some x) P h = h x
+
+rest_end : (a : Option (List ℕ)) (P : List ℕ → Type 0) → IsAtEnd a → P [] → IfSome a P
+rest_end None P e h = tt
+rest_end (Some x) P e h = subst P (sym e) h
+
+module _ {left mid old now : Option (List ℕ)} {carried : List ℕ} (j : Feeding left mid old now carried) where
+  -- nothing more is read
+  same : together (j.pieces ++ []) ≡ together j.pieces
+  same = ap together (append-nil j.pieces)
+
+  -- ---- the end of the input
+  fed_whole : (after new : Option (List ℕ)) → Keeps mid after → IsAtEnd after → Appends now new (last_answer answer_of carried) → FedTo left after old new ended.Whole
+  fed_whole after new kept end more =
+      let l = last_answer answer_of carried in
+      let t = take (length l) l in
+      let e : t ≡ l = take-length l in
+      record {
+        input = together j.pieces;
+        taken = Consumes-kept left mid after (together j.pieces) j.taken kept;
+        end = end;
+        written =
+            subst (Appends old new) (run_law (j.run [] t (runs.end (length l) l e)) ∙ ap (output_of answer_of) same)
+            (Appends-trans old now new j.written t j.sent (subst (Appends now new) (sym e) more));
+      }
+
+  fed_cut : (after new : Option (List ℕ)) → Keeps mid after → IsAtEnd after → (n : ℕ) → Appends now new (take n (last_answer answer_of carried))
+      → FedTo left after old new ended.Write
+  fed_cut after new kept end n more =
+      let l = last_answer answer_of carried in
+      let t = take n (take (length l) l) in
+      let e : t ≡ take n l = ap (take n) (take-length l) in
+      record {
+        input = together j.pieces;
+        output = j.written ++ t;
+        taken = Consumes-kept left mid after (together j.pieces) j.taken kept;
+        written = Appends-trans old now new j.written t j.sent (subst (Appends now new) (sym e) more);
+        begins =
+            rest_end after (λ (x : List ℕ). Begins (j.written ++ t) (output_of answer_of (together j.pieces ++ x))) end
+            (subst (λ (p : List ℕ). Begins (j.written ++ t) (output_of answer_of (p ++ []))) same (stop_law (j.stop runs.last [] t (runs.at_last n (length l) l (take-length l))) [] refl));
+      }
+
+  fed_end : (after new : Option (List ℕ)) (r : Ended) → Keeps mid after → IsAtEnd after → PutAtEnd now new (last_answer answer_of carried) r → FedTo left after old new r
+  fed_end after new ended.Whole kept end h = fed_whole after new kept end h
+  fed_end after new ended.Read kept end h = absurd h
+  fed_end after new ended.Write kept end h = fed_cut after new kept end h.0 h.1
+
+  pub fed_last : (after new : Option (List ℕ)) (line : List ℕ) (r : Ended) → line ≡ carried → Keeps mid after → IsAtEnd after
+      → PutAtEnd now new (last_answer answer_of line) r → FedTo left after old new r
+  fed_last after new line r e kept end h = fed_end after new r kept end (subst (λ (x : List ℕ). PutAtEnd now new (last_answer answer_of x) r) e h)
+
+  -- ---- a read that fails
+  pub fed_read : (after : Option (List ℕ)) → Keeps mid after → FedTo left after old now ended.Read
+  fed_read after kept =
+      record {
+        input = together j.pieces;
+        taken = Consumes-kept left mid after (together j.pieces) j.taken kept;
+        written =
+            subst (Appends old now)
+            (sym (append-nil j.written) ∙ read_stop_law (j.stop runs.read [] [] runs.at_read) ∙ ap (λ (p : List ℕ). output_of answer_of (whole_lines p)) same)
+            j.sent;
+      }
+
+  -- ---- a piece more
+  module _ (after new : Option (List ℕ)) (piece : List ℕ) (read : Consumes mid after piece) (w : List ℕ) (more : Appends now new w) where
+    taken_more : Consumes left after (together (j.pieces ++ (piece ∷ [])))
+    taken_more = subst (Consumes left after) (sym (together_more j.pieces piece)) (Consumes-trans left mid after (together j.pieces) piece j.taken read)
+
+    sent_more : Appends old new (j.written ++ w)
+    sent_more = Appends-trans old now new j.written w j.sent more
+
+    pub fed_write : CutWrites answer_of (carried ++ piece) 0 w → FedTo left after old new ended.Write
+    fed_write cut =
+        record {
+          input = together (j.pieces ++ (piece ∷ []));
+          output = j.written ++ w;
+          taken = taken_more;
+          written = sent_more;
+          begins =
+              rest_any after (λ (x : List ℕ). Begins (j.written ++ w) (output_of answer_of (together (j.pieces ++ (piece ∷ [])) ++ x)))
+              (λ x. stop_law (j.stop runs.write (piece ∷ []) w (runs.at_write cut)) x tt);
+        }
+
+    pub fed_turn : Writes answer_of (carried ++ piece) 0 w → (kept : ℕ) (buffer : List ℕ) → take kept buffer ≡ carried_of longest (carried ++ piece)
+        → Feeding left after old new (take kept buffer)
+    fed_turn whole kept buffer e =
+        let joined : (ps : List (List ℕ)) → j.pieces ++ (piece ∷ ps) ≡ (j.pieces ++ (piece ∷ [])) ++ ps = λ ps. sym (append_assoc j.pieces (piece ∷ []) ps) in
+        record {
+          pieces = j.pieces ++ (piece ∷ []);
+          written = j.written ++ w;
+          taken = taken_more;
+          sent = sent_more;
+          run = λ ps v r.
+              subst (λ (l : List ℕ). Run answer_of longest [] ((j.pieces ++ (piece ∷ [])) ++ ps) l) (sym (append_assoc j.written w v))
+              (subst (λ (l : List (List ℕ)). Run answer_of longest [] l (j.written ++ (w ++ v))) (joined ps)
+              (j.run (piece ∷ ps) (w ++ v) (runs.Run.turn kept buffer whole e r)));
+          stop = λ f ps v r.
+              subst (λ (l : List ℕ). Stopped answer_of longest f [] ((j.pieces ++ (piece ∷ [])) ++ ps) l) (sym (append_assoc j.written w v))
+              (subst (λ (l : List (List ℕ)). Stopped answer_of longest f [] l (j.written ++ (w ++ v))) (joined ps)
+              (j.stop f (piece ∷ ps) (w ++ v) (runs.Stopped.turn kept buffer whole e r)));
+        }
+
+-- ---- a turn in the buffer: the bytes before `have` were carried over, and n bytes were read after them
+joined_in : (buf new : List ℕ) (have n : ℕ) → take have new ≡ take have buf → take (have + n) new ≡ take have buf ++ take n (drop have new)
+joined_in buf new have n e = take-add have n new ∙ ap (λ (x : List ℕ). x ++ take n (drop have new)) e
+
+module _ {left mid old now : Option (List ℕ)} (buf : List ℕ) (have : ℕ) (j : Feeding left mid old now (take have buf)) (after then : Option (List ℕ))
+    (new : List ℕ) (n : ℕ) (kept : take have new ≡ take have buf) (read : Consumes mid after (take n (drop have new))) where
+  pub turn_more : (w : List ℕ) × Writes answer_of (take (have + n) new) 0 w × Appends now then w → (r : ℕ) (last : List ℕ)
+      → take r last ≡ carried_of longest (take (have + n) new) → Feeding left after old then (take r last)
+  turn_more h r last e =
+      let k = joined_in buf new have n kept in
+      fed_turn j after then (take n (drop have new)) read h.0 h.2 (subst (λ (x : List ℕ). Writes answer_of x 0 h.0) k h.1) r last (e ∙ ap (carried_of longest) k)
+
+  pub turn_cut : (w : List ℕ) × CutWrites answer_of (take (have + n) new) 0 w × Appends now then w → FedTo left after old then ended.Write
+  turn_cut h =
+      fed_write j after then (take n (drop have new)) read h.0 h.2 (subst (λ (x : List ℕ). CutWrites answer_of x 0 h.0) (joined_in buf new have n kept) h.1)
