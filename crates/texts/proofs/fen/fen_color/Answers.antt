@@ -2,6 +2,7 @@
 use borrow.Author.Tests.{ne_eqb}
 use Rattle.texts.specs.Fen.{fen_color_of}
 use Prim.Native.Char.{code}
+use native.Mathlib.Omega.{arith}
 use Rattle.texts.proofs.fen.fen_color.Goals as goal
 
 pub returns-in-87 : goal.returns-in-87
@@ -23,4 +24,4 @@ returns-in-98 c = rw c.in-98.is
 pub returns-in_default : goal.returns-in_default
 unfolding fen_color_of
 returns-in_default c =
-    rw (ne_eqb _ (code "W") c.in_default.in_default-own.rest.0.0.0.1, ne_eqb _ (code "w") c.in_default.in_default-own.rest.0.0.1, ne_eqb _ (code "B") c.in_default.in_default-own.rest.0.1, ne_eqb _ (code "b") c.in_default.in_default-own.rest.1)
+    rw (ne_eqb c.args.c (code "W") (omega arith), ne_eqb c.args.c (code "w") (omega arith), ne_eqb c.args.c (code "B") (omega arith), ne_eqb c.args.c (code "b") (omega arith))

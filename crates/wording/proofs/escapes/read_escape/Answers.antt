@@ -3,6 +3,7 @@ use mathlib.Core.Path.{ap, sym, ◌∙◌}
 use Rattle.wording.proofs.Escaped as laws
 use Rattle.wording.specs.Escapes.{escape_of, hex_escape}
 use Rattle.texts.proofs.Cuts.{rest}
+use native.Mathlib.Omega.{arith}
 use Rattle.wording.proofs.escapes.read_escape.Goals as goal
 
 pub returns-then-s-eq0 : goal.returns-then-s-eq0
@@ -35,4 +36,5 @@ returns-in-120 c =
 
 pub returns-in_default : goal.returns-in_default
 returns-in_default c =
-    let s = c.args.s.now in let r = c.in_default.in_default-own.rest in laws.escaped s _ (sym (laws.escape_other s c.if-s-eq0.false r.0.0.0.0.0.1 r.0.0.0.0.1 r.0.0.0.1 r.0.0.1 r.0.1 r.1))
+    let s = c.args.s.now in
+    laws.escaped s _ (sym (laws.escape_other s c.if-s-eq0.false (omega arith) (omega arith) (omega arith) (omega arith) (omega arith) (omega arith)))
