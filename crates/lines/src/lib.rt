@@ -174,7 +174,7 @@ fn write_last<W: Write>(to: &mut W, line: &[u8], out: &mut [u8]) -> Ended
 
 // Each turn reads once and answers the lines that are whole then. After a read or a write that fails, nothing more is
 // answered or written. After u64::MAX turns, which no run reaches, it ends as if a read had failed.
-pub fn feed<R: Read, W: Write>(from: &mut R, to: &mut W, buf: &mut [u8], out: &mut [u8]) -> Ended
+fn feed<R: Read, W: Write>(from: &mut R, to: &mut W, buf: &mut [u8], out: &mut [u8]) -> Ended
     requires { (longest + 1 < length buf.old) × (answer_room ≤ length out.old) }
     ensures { FedTo (R.remaining from.old) (R.remaining from.new) (W.contents to.old) (W.contents to.new) result }
 {
@@ -230,7 +230,7 @@ fn answer_given<W: Write>(to: &mut W, line: &[u8], out: &mut [u8]) -> Ended
 // Answers the arguments, or standard input where there are none. The buffer `line` has one byte more than the longest
 // line. So arguments that leave no byte of it free are a line that is too long, and so is the whole buffer: all lines
 // that are too long have one answer (law `given_long`).
-pub fn run<E: Env, R: Read, W: Write>(
+fn run<E: Env, R: Read, W: Write>(
     rt: &E,
     from: &mut R,
     to: &mut W,
