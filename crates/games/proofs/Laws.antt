@@ -5,7 +5,7 @@ use Prim.Native.Nat.{ℕ, suc, ◌+◌}
 use native.Mathlib.Omega.{arith}
 use mathlib.Core.Bool.{Bool, true, false, not, cond}
 use mathlib.Core.List.{List, [], ◌∷◌}
-use lib.Dec.{eqb, ltb}
+use lib.Dec.{ltb}
 use lib.ListN.{length}
 use borrow.Author.Tests.{eq-eqb, ne_eqb}
 use Rattle.squares.specs.Refusals.{answer_number_of, number_of, refusal}
@@ -29,7 +29,7 @@ use Rattle.rules.specs.Rules.{Legal}
 use Rattle.rules.proofs.Laws.{fair_of_accepted, listed_legal, legal_playable, legal_most, legal_quiet}
 use Rattle.movegen.specs.Lists.{after_of}
 use Rattle.movegen.proofs.Answers.{after_many, after_none, after_one}
-use Rattle.games.specs.Book.{Book, tally_of, standing, begun_book, Verdict, goes_on, ends, book_outcome, over, on_the_board, book_answer, reached, book_played, book_next, book_answers, book_after}
+use Rattle.games.specs.Book.{Book, tally_of, standing, begun_book, Verdict, goes_on, ends, book_outcome, over, book_answer, reached, book_next, book_answers, book_after}
 use Rattle.games.specs.Demand3.{answers_to, game_after, heard_of, heard, told_as, book_of, AtAccepted, TakesMost, NoneOpen, Demand3}
 use Rattle.games.specs.Games.{last_of, valid, stood, judged_of, ended}
 use Rattle.games.specs.Play.{fresh_of, not_begun, new_of, moved_of, refused_play, reached_of, play_of, outcome_of}

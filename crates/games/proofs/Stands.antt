@@ -1,14 +1,13 @@
 -- The game stands for the book: the book's positions are older ones and then the kept window; every older one has a larger
 -- measure, so it cannot come back; every kept one is sound; the counters agree, the second up to 32; the pieces add up.
 use mathlib.Core.Path.{◌≡◌, refl, sym, ap, ap₂, ◌∙◌}
-use Prim.Native.Nat.{ℕ, ◌+◌, ◌<◌, ◌≤◌, min}
-use native.Mathlib.Nat.{min-eq_left, min-eq_right}
+use Prim.Native.Nat.{ℕ, ◌+◌, ◌<◌, min}
 use native.Mathlib.Omega.{arith}
 use mathlib.Core.Bool.{Bool, true, false, cond, ◌||◌, true≢false}
 use mathlib.Core.List.{List, [], ◌∷◌, ◌++◌, map, map-append, append_assoc}
 use lib.Dec.{leb}
 use lib.ListN.{length}
-use borrow.Author.Tests.{leb-true, leb-false}
+use borrow.Author.Tests.{leb-false}
 use Rattle.squares.specs.Sets.{size}
 use Rattle.squares.specs.Pieces.{other}
 use Rattle.squares.specs.declared.piece.Color.{Color}
@@ -23,7 +22,7 @@ use Rattle.positions.proofs.Accepts.{sound_says}
 use Rattle.positions.proofs.Measures.{level_refl, level_trans, smaller_level, level_smaller, smaller_trans}
 use Rattle.rules.specs.Rules.{Legal}
 use Rattle.rules.proofs.Laws.{fair_of_accepted, legal_playable}
-use Rattle.games.specs.Book.{Tally, Book, tally_of, last_in, standing, begun_book, times_in, first_to_hold, tests_at, book_outcome, takes, is_promotion, tallied, reached, book_played}
+use Rattle.games.specs.Book.{Tally, Book, tally_of, last_in, standing, begun_book, times_in, first_to_hold, tests_at, book_outcome, tallied, reached, book_played}
 use Rattle.games.specs.Demand3.{told_as}
 use Rattle.games.specs.Games.{window_of, last_of, valid, stood, irreversible, material_after, can_move, won, drawn, king_ending, judge, judged_of, ended}
 use Rattle.games.specs.declared.game.Termination.TheVariants.{Repetition, TwentyFiveMoves}

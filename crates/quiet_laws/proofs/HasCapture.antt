@@ -1,6 +1,6 @@
 -- The test by sets for a jump: true exactly where some piece of the side has a first jump.
 use mathlib.Core.Path.{◌≡◌, refl, sym, ap, ◌∙◌}
-use Prim.Native.Nat.{ℕ, ◌-◌, ◌^◌, ◌<◌}
+use Prim.Native.Nat.{ℕ, ◌^◌, ◌<◌}
 use native.Mathlib.Omega.{arith}
 use mathlib.Core.Bool.{Bool, true, false, not, cond, ◌&&◌, ◌||◌, false≢true, or-true}
 use mathlib.Core.Logic.{◌⊎◌, inl, inr, ◌↔◌}
@@ -15,7 +15,7 @@ use Rattle.squares.proofs.Members.{of_members, in_members}
 use Rattle.squares.proofs.Pointwise.{has_and, has_or, has_zero, member_lt}
 use Rattle.squares.proofs.Shifts.{direction_index, opposite_twice, next_back, next_forth, has_shifted, step_and}
 use Rattle.positions.specs.Boards.{Board, enemy, pieces, empty}
-use Rattle.captures.specs.Rays.{far, slide_of}
+use Rattle.captures.specs.Rays.{slide_of}
 use Rattle.captures.specs.Walks.{any_up_to}
 use Rattle.captures.proofs.Steps.{no_land}
 use Rattle.rules.specs.Ordered.{directions, ray, last, blocker, captures}

@@ -16,7 +16,7 @@ use Rattle.squares.specs.declared.piece.PieceKind.{PieceKind}
 use Rattle.squares.specs.declared.piece.PieceKind.TheVariants.{Man, King}
 use Rattle.squares.specs.Sets.{has, members}
 use Rattle.squares.proofs.Members.{of_members}
-use Rattle.rules.proofs.Tree.{Reached, wider, sound, jump, complete}
+use Rattle.rules.proofs.Tree.{Reached, wider, sound, complete}
 use Rattle.positions.specs.Boards.{Board, pieces}
 use Rattle.rules.proofs.Boards.{piece_own, piece_member}
 use Rattle.rules.specs.Lists.{concat_map, keep}

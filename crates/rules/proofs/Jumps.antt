@@ -15,7 +15,6 @@ use Rattle.squares.specs.declared.piece.PieceKind.{PieceKind}
 use Rattle.squares.specs.declared.piece.PieceKind.TheVariants.{Man, King}
 use Rattle.squares.specs.Directions.{Direction, up_left, up_right, down_left, down_right, next}
 use Rattle.squares.specs.Sets.{has, size, without}
-use Rattle.squares.proofs.Bools.{and_left, and_right}
 use Rattle.squares.proofs.Pointwise.{member_lt}
 use Rattle.squares.proofs.Sizes.{size_add}
 use Rattle.positions.specs.Boards.{Board, own, enemy}

@@ -5,7 +5,7 @@ use mathlib.Core.Bool.{true}
 use mathlib.Core.List.Memᴰ.{append_cases as in-cases}
 use mathlib.Core.List.Memᴰ.{append_left as in_left}
 use mathlib.Core.List.Memᴰ.{append_right as in_right}
-use mathlib.Core.List.{[], map, Memᴰ as Member}
+use mathlib.Core.List.{map, Memᴰ as Member}
 use mathlib.Core.Logic.{◌⊎◌, inl, inr}
 use Rattle.squares.specs.declared.piece.PieceKind.TheVariants.{Man, King}
 use Rattle.squares.specs.Directions.{Direction, next}

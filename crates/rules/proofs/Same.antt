@@ -9,7 +9,7 @@ use Rattle.positions.specs.declared.moves.Move.{Move}
 use Rattle.squares.proofs.Bools.{and_left, and_right, and_both}
 use Rattle.positions.specs.Moves.{move, same}
 use Rattle.rules.specs.Ordered.{same_bits, listed}
-use Rattle.rules.specs.Rules.{BitMove, bit_move, rest}
+use Rattle.rules.specs.Rules.{BitMove, bit_move}
 use Rattle.rules.proofs.Held.{contains_member, member_contains}
 
 pub bits_refl : (m : BitMove) → same_bits m m ≡ true

@@ -21,7 +21,6 @@ use Rattle.rules.specs.Ordered.{man_steps}
 use Rattle.rules.specs.Rules.{BitMove, bit_move, Fair}
 use Rattle.rules.proofs.Lists.{in_map, of_map, keep_yes, keep_no, in_keep, of_keep}
 use Rattle.squares.proofs.Rising.{rising_head, rising_tail, rising_cons, rising_lower, rising_map, rising_ext}
-use Rattle.rules.proofs.Shortcut.{back}
 
 keep_rising : (p : ℕ → Bool) (n : ℕ) (l : List ℕ) → rising n l ≡ true → rising n (keep p l) ≡ true
 unfolding keep

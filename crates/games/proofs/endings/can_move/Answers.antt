@@ -2,7 +2,6 @@
 use mathlib.Core.Path.{◌∙◌}
 use Rattle.movegen.proofs.Answers.{captures_told, quiets_told}
 use Rattle.games.specs.Games.{can_move}
-use borrow.Author.Rules.{rules}
 use Rattle.games.proofs.endings.can_move.Goals as goal
 
 pub returns : goal.returns

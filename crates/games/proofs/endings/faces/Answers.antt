@@ -1,6 +1,5 @@
 -- Each part is what its call ensures.
 use Rattle.games.specs.Games.{faces}
-use borrow.Author.Rules.{rules}
 use Rattle.games.proofs.endings.faces.Goals as goal
 
 pub returns : goal.returns

@@ -2,7 +2,6 @@
 use mathlib.Core.Path.{sym, ap, ◌∙◌}
 use borrow.Author.Tests.{le-leb, lt-leb}
 use Rattle.games.specs.Games.{won, judge}
-use borrow.Author.Rules.{rules}
 use Rattle.games.proofs.endings.judge.Goals as goal
 
 pub returns-then-times-ge3 : goal.returns-then-times-ge3

@@ -1,6 +1,5 @@
 -- The branches are the tests of the definition, in its order.
 use Rattle.games.specs.Games.{king_ending}
-use borrow.Author.Rules.{rules}
 use Rattle.games.proofs.endings.king_ending.Goals as goal
 
 pub returns-then-three-material : goal.returns-then-three-material

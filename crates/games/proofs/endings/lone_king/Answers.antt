@@ -1,6 +1,5 @@
 -- Each part is what its call ensures.
 use Rattle.games.specs.Games.{lone_king}
-use borrow.Author.Rules.{rules}
 use Rattle.games.proofs.endings.lone_king.Goals as goal
 
 pub returns : goal.returns

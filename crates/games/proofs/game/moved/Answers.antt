@@ -1,5 +1,4 @@
 -- What `after` answers decides: a position is put into the game, a refusal is handed on with the game as it came.
-use borrow.Author.Rules.{rules}
 use Rattle.games.proofs.game.moved.Goals as goal
 
 pub returns-in-Position : goal.returns-in-Position

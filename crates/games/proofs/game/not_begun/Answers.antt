@@ -1,6 +1,5 @@
 -- The blank position is the empty board with White to move.
 use Rattle.games.specs.Play.{fresh_of}
-use borrow.Author.Rules.{rules}
 use Rattle.games.proofs.game.not_begun.Goals as goal
 
 pub returns : goal.returns

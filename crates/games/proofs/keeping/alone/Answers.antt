@@ -1,6 +1,5 @@
 -- One store into an array of blanks.
 use Rattle.games.specs.Play.{alone_of}
-use borrow.Author.Rules.{rules}
 use Rattle.games.proofs.keeping.alone.Goals as goal
 
 pub returns : goal.returns

@@ -1,8 +1,7 @@
 -- The loop copies the kept positions onto blank ones: so far as it has come, the rest is blank.
 use mathlib.Core.Path.{◌≡◌}
-use mathlib.Core.List.{◌++◌}
-use Prim.Native.Nat.{◌≤◌, ◌<◌, ◌-◌}
-use lib.ListN.{length, take, replicate}
+use Prim.Native.Nat.{◌<◌}
+use lib.ListN.{length}
 use Rattle.games.specs.Games.{blank_position, window_of}
 use Rattle.games.specs.Play.{appended_of}
 use Rattle.squares.proofs.Lengths.{length_of_map}

@@ -1,14 +1,9 @@
 -- The loop copies the kept positions onto blank ones: so far as it has come, the rest is blank.
 use mathlib.Core.Path.{◌≡◌}
 use mathlib.Core.List.{◌++◌}
-use Prim.Native.Nat.{◌≤◌, ◌<◌, ◌-◌}
-use lib.ListN.{length, take, replicate}
-use Rattle.games.specs.Games.{blank_position, window_of}
-use Rattle.games.specs.Play.{appended_of}
-use Rattle.squares.proofs.Lengths.{length_of_map}
-use Rattle.games.proofs.Window.{fill_copy, fill_last}
-use borrow.Author.Rules.{rules}
-use native.Mathlib.Omega.{arith}
+use Prim.Native.Nat.{◌≤◌, ◌-◌}
+use lib.ListN.{take, replicate}
+use Rattle.games.specs.Games.{blank_position}
 use Rattle.games.proofs.keeping.appended.Given as goal
 
 abbrev pub invariant-loop-i : goal.invariant-loop-i

@@ -1,9 +1,7 @@
 -- Up to the place reached every position is sound; the first that is not ends the walk.
 use mathlib.Core.Path.{◌≡◌, sym, ◌∙◌}
-use mathlib.Core.Bool.{true}
-use Prim.Native.Nat.{◌≤◌, ◌-◌}
-use lib.ListN.{length, take}
-use Rattle.games.specs.Games.{blank_position, window_of, all_sound}
+use lib.ListN.{length}
+use Rattle.games.specs.Games.{blank_position, window_of}
 use Rattle.squares.proofs.Lengths.{length_of_map}
 use Rattle.games.proofs.Window.{all_none, all_more, all_fails}
 use borrow.Author.Rules.{rules}

@@ -1,13 +1,9 @@
 -- Up to the place reached every position is sound; the first that is not ends the walk.
-use mathlib.Core.Path.{◌≡◌, sym, ◌∙◌}
+use mathlib.Core.Path.{◌≡◌}
 use mathlib.Core.Bool.{true}
 use Prim.Native.Nat.{◌≤◌, ◌-◌}
-use lib.ListN.{length, take}
-use Rattle.games.specs.Games.{blank_position, window_of, all_sound}
-use Rattle.squares.proofs.Lengths.{length_of_map}
-use Rattle.games.proofs.Window.{all_none, all_more, all_fails}
-use borrow.Author.Rules.{rules}
-use native.Mathlib.Omega.{arith}
+use lib.ListN.{take}
+use Rattle.games.specs.Games.{all_sound}
 use Rattle.games.proofs.keeping.kept_sound.Given as goal
 
 abbrev pub invariant-loop-at : goal.invariant-loop-at

@@ -1,6 +1,5 @@
 -- What `contains` ensures, turned round.
 use Rattle.games.specs.Games.{man_moves}
-use borrow.Author.Rules.{rules}
 use Rattle.games.proofs.keeping.man_moves.Goals as goal
 
 pub returns : goal.returns

@@ -2,7 +2,6 @@
 use Prim.Native.Nat.{◌≤◌, ◌+◌}
 use native.Mathlib.Nat.{min-eq_left, min-eq_right}
 use Rattle.games.specs.Games.{material_after}
-use borrow.Author.Rules.{rules}
 use native.Mathlib.Omega.{arith}
 use Rattle.games.proofs.keeping.material_after.Goals as goal
 

@@ -2,7 +2,6 @@
 use Rattle.games.specs.Games.{irreversible}
 use Rattle.games.specs.Play.{moved_of}
 use Rattle.games.proofs.Valid.{valid_says}
-use borrow.Author.Rules.{rules}
 use native.Mathlib.Omega.{arith}
 use Rattle.games.proofs.keeping.next.Goals as goal
 

@@ -3,7 +3,6 @@ use mathlib.Core.Path.{sym}
 use Rattle.positions.specs.Boards.{board_of}
 use Rattle.positions.proofs.Records.{promotes_when}
 use Rattle.games.specs.Games.{man_moves}
-use borrow.Author.Rules.{rules}
 use Rattle.games.proofs.keeping.promotes.Goals as goal
 
 pub returns : goal.returns

@@ -1,5 +1,4 @@
 -- What `same` ensures.
-use borrow.Author.Rules.{rules}
 use Rattle.games.proofs.keeping.same_position.Goals as goal
 
 pub returns : goal.returns

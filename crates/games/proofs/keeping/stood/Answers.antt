@@ -1,9 +1,8 @@
 -- The number is that of the positions looked at so far which have the sets and the side of the current one.
 use mathlib.Core.Path.{◌≡◌, sym, ◌∙◌}
 use mathlib.Core.Bool.{true, false}
-use Prim.Native.Nat.{◌≤◌, ◌<◌, ◌-◌}
-use lib.ListN.{length, take}
-use Rattle.rules.specs.Lists.{times}
+use Prim.Native.Nat.{◌<◌}
+use lib.ListN.{length}
 use Rattle.rules.proofs.Times.{times_nil}
 use Rattle.games.specs.Games.{blank_position, window_of, last_of, same_position, stood}
 use Rattle.games.proofs.Valid.{valid_says}

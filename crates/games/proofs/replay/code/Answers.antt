@@ -1,6 +1,5 @@
 -- No refusal has a number above 19.
 use Rattle.squares.proofs.Refusals.{answer_fits}
-use borrow.Author.Rules.{rules}
 use native.Mathlib.Omega.{arith}
 use Rattle.games.proofs.replay.code.Goals as goal
 

@@ -1,5 +1,4 @@
 -- Each square is what its call ensures.
-use borrow.Author.Rules.{rules}
 use Rattle.games.proofs.replay.move_in.Goals as goal
 
 pub returns : goal.returns

@@ -1,8 +1,7 @@
 -- After i plays the first i answers are written, the later ones are as they were, and the game is that of the first i moves.
 use mathlib.Core.Path.{◌≡◌, sym, ap, ap₂, ◌∙◌}
-use mathlib.Core.List.{◌++◌}
-use Prim.Native.Nat.{◌≤◌, ◌<◌, ◌-◌, ◌+◌, ◌*◌, ◌/◌}
-use lib.ListN.{length, take, drop, get_or, length-set}
+use Prim.Native.Nat.{◌<◌, ◌+◌, ◌*◌, ◌/◌}
+use lib.ListN.{length, take, get_or, length-set}
 use lib.Seq.{take_all, length-take-le}
 use Rattle.positions.specs.Moves.{move}
 use Rattle.positions.specs.declared.moves.Move.{Move}

@@ -1,17 +1,11 @@
 -- After i plays the first i answers are written, the later ones are as they were, and the game is that of the first i moves.
-use mathlib.Core.Path.{◌≡◌, sym, ap, ap₂, ◌∙◌}
+use mathlib.Core.Path.{◌≡◌}
 use mathlib.Core.List.{◌++◌}
-use Prim.Native.Nat.{◌≤◌, ◌<◌, ◌-◌, ◌+◌, ◌*◌, ◌/◌}
-use lib.ListN.{length, take, drop, get_or, length-set}
-use lib.Seq.{take_all, length-take-le}
-use Rattle.positions.specs.Moves.{move}
-use Rattle.positions.specs.declared.moves.Move.{Move}
+use Prim.Native.Nat.{◌≤◌, ◌-◌}
+use lib.ListN.{length, take, drop}
 use Rattle.games.specs.Play.{play_of}
 use Rattle.games.specs.Demand3.{answers_to, game_after}
 use Rattle.games.specs.Replay.{moves_in}
-use Rattle.games.proofs.Runs.{answers_length, answers_more, after_more, write_more, third, moves_length, moves_at, played_in}
-use borrow.Author.Rules.{rules}
-use native.Mathlib.Omega.{arith}
 use Rattle.games.proofs.replay.play_all.Given as goal
 
 abbrev pub invariant-loop-i : goal.invariant-loop-i

@@ -8,7 +8,6 @@ use Rattle.games.specs.Demand3.{game_after}
 use Rattle.games.specs.Replay.{moves_in, replay_of, written_of}
 use Rattle.games.specs.declared.game.Begun.{Begun}
 use Rattle.games.proofs.Replays.{demand_held}
-use borrow.Author.Rules.{rules}
 use Rattle.games.proofs.replay.replay.Goals as goal
 
 pub returns-then-moves-answers : goal.returns-then-moves-answers

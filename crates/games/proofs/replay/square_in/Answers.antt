@@ -1,7 +1,6 @@
 -- What is at most 50 stays, and 51 stands for the rest.
 use borrow.Author.Tests.{le-leb, lt-leb}
 use Rattle.games.specs.Replay.{square_in}
-use borrow.Author.Rules.{rules}
 use Rattle.games.proofs.replay.square_in.Goals as goal
 
 pub returns-then-n-le50 : goal.returns-then-n-le50

@@ -5,7 +5,6 @@ use Rattle.positions.specs.declared.moves.Move.{Move}
 use Rattle.games.specs.declared.game.Game.{Game}
 use Rattle.gametexts.specs.Texts.{move_where}
 use Rattle.gametexts.specs.declared.game.PlayedText.{PlayedText}
-use borrow.Author.Rules.{rules}
 use Rattle.gametexts.proofs.game.beside.Goals as goal
 
 -- the move m beside that answer

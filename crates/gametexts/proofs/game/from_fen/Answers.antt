@@ -1,6 +1,5 @@
 -- What was read decides.
 use Rattle.gametexts.specs.Texts.{game_from_fen_of}
-use borrow.Author.Rules.{rules}
 use Rattle.gametexts.proofs.game.from_fen.Goals as goal
 
 pub returns-in-Position : goal.returns-in-Position

@@ -1,7 +1,6 @@
 -- What was found decides: a move is played and handed back beside its play, a refusal is passed on.
 use mathlib.Core.Path.{ap, ◌∙◌}
 use Rattle.gametexts.specs.Texts.{beside}
-use borrow.Author.Rules.{rules}
 use Rattle.gametexts.proofs.game.play_found.Goals as goal
 
 pub returns-in-Move : goal.returns-in-Move

@@ -2,7 +2,6 @@
 use mathlib.Core.Path.{sym, ◌∙◌}
 use Rattle.gametexts.specs.Texts.{play_said}
 use Rattle.gametexts.proofs.Answers.{over_at, over_not}
-use borrow.Author.Rules.{rules}
 use Rattle.gametexts.proofs.game.play_said.Goals as goal
 
 pub returns-then-over : goal.returns-then-over

@@ -2,7 +2,6 @@
 use mathlib.Core.Path.{sym, ap, ◌∙◌}
 use Rattle.gametexts.specs.Texts.{refused_text, play_str_of}
 use Rattle.gametexts.proofs.Answers.{stands_at, stands_not}
-use borrow.Author.Rules.{rules}
 use Rattle.gametexts.proofs.game.play_str.Goals as goal
 
 pub play_said-requires : goal.play_said-requires

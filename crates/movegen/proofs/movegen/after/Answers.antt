@@ -7,7 +7,6 @@ use Rattle.quiets.specs.declared.quiets.Listing.{Listing}
 use Rattle.movegen.specs.Lists.{after_of}
 use Rattle.movegen.proofs.Generated.{generated_is}
 use Rattle.movegen.proofs.Listed.{found_law, played_many, played_none, played_one, after_at}
-use borrow.Author.Rules.{rules}
 use Rattle.movegen.proofs.movegen.after.Goals as goal
 
 pub returns-then-l : goal.returns-then-l

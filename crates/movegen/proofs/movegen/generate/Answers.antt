@@ -4,7 +4,6 @@ use mathlib.Core.Path.{◌≡◌, sym, ap, ap₂, ◌∙◌}
 use mathlib.Core.Bool.{true}
 use Prim.Native.Nat.{ℕ}
 use lib.Bits.{bit_and, bit_or}
-use borrow.Author.Rules.{rules}
 use borrow.Author.Tests.{not-true}
 use Rattle.squares.specs.Sets.{without}
 use Rattle.squares.specs.Squares.{all}

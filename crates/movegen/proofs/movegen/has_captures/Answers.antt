@@ -4,7 +4,6 @@ use Rattle.squares.specs.declared.piece.Color.{Color}
 use Rattle.positions.specs.Boards.{board_of, colored}
 use Rattle.movegen.specs.Lists.{has_captures_of}
 use Rattle.movegen.proofs.Listed.{captures_tested}
-use borrow.Author.Rules.{rules}
 use Rattle.movegen.proofs.movegen.has_captures.Goals as goal
 
 pub returns-then-sound : goal.returns-then-sound

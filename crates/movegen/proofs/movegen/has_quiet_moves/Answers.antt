@@ -2,7 +2,6 @@
 use mathlib.Core.Path.{refl, sym, ◌∙◌}
 use Rattle.movegen.specs.Lists.{has_quiet_moves_of}
 use Rattle.movegen.proofs.Listed.{quiets_tested}
-use borrow.Author.Rules.{rules}
 use Rattle.movegen.proofs.movegen.has_quiet_moves.Goals as goal
 
 pub returns-then-sound : goal.returns-then-sound

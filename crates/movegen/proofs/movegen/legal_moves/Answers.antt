@@ -7,7 +7,6 @@ use Rattle.movegen.specs.Lists.{within_of, legal_moves_of}
 use Rattle.movegen.proofs.Generated.{generated_is}
 use Rattle.movegen.proofs.Listed.{within_law}
 use borrow.Author.Tests.{lt-leb, le-leb}
-use borrow.Author.Rules.{rules}
 use Rattle.movegen.proofs.movegen.legal_moves.Goals as goal
 
 pub returns-then-limit-le-MAX_MOVES : goal.returns-then-limit-le-MAX_MOVES

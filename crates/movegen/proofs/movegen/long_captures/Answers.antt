@@ -3,7 +3,6 @@ use mathlib.Core.Path.{ap, ◌∙◌}
 use Rattle.captures.specs.Kings.{kings_captures_of}
 use Rattle.captures.specs.Men.{men_captures_of}
 use Rattle.captures.specs.declared.movegen.Captures.{Captures}
-use borrow.Author.Rules.{rules}
 use Rattle.movegen.proofs.movegen.long_captures.Goals as goal
 
 pub returns : goal.returns

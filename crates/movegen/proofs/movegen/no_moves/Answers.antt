@@ -1,5 +1,4 @@
 -- The new list is empty.
-use borrow.Author.Rules.{rules}
 use Rattle.movegen.proofs.movegen.no_moves.Goals as goal
 
 pub returns : goal.returns

@@ -1,19 +1,10 @@
 -- The loop copies the moves onto blank ones: so far as it has come, the rest is blank.
-use mathlib.Core.Path.{◌≡◌, refl, sym, ap, ◌∙◌}
-use mathlib.Core.Bool.{false}
+use mathlib.Core.Path.{◌≡◌}
 use mathlib.Core.List.{List, ◌++◌}
-use Prim.Native.Nat.{ℕ, ◌+◌, ◌-◌, ◌≤◌, ◌<◌, min}
-use native.Mathlib.Numerals.{add-one}
-use native.Mathlib.Omega.{arith}
-use lib.ListN.{length, take, set, get_or, replicate}
-use lib.Seq.{take-suc, length-take-le}
-use borrow.Author.Rules.{rules}
+use Prim.Native.Nat.{ℕ, ◌-◌, ◌≤◌}
+use lib.ListN.{take, replicate}
 use Rattle.positions.specs.declared.moves.Move.{Move}
-use Rattle.captures.specs.declared.moves.MoveList.{MoveList}
-use Rattle.captures.specs.Lists.{blank, list_of}
-use Rattle.squares.proofs.Lengths.{length_of_map}
-use Rattle.capture_laws.proofs.Stored.{store}
-use Rattle.quiets.specs.Quiets.{listing}
+use Rattle.captures.specs.Lists.{blank}
 use Rattle.movegen.proofs.movegen.spread.Given as goal
 
 abbrev pub copied : List Move → ℕ → List Move

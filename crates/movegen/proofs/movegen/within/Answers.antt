@@ -3,7 +3,6 @@ use mathlib.Core.Path.{◌≡◌, sym, ap, ◌∙◌}
 use mathlib.Core.Bool.{Bool, true, cond, ◌||◌}
 use Prim.Native.Nat.{ℕ}
 use lib.Dec.{ltb}
-use borrow.Author.Rules.{rules}
 use Rattle.squares.specs.declared.refusal.Answer.TheVariants as answer
 use Rattle.squares.specs.declared.refusal.Refusal.TheVariants.{TooManyMoves}
 use Rattle.quiets.specs.declared.quiets.Listing.{Listing}

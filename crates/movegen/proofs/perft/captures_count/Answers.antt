@@ -1,6 +1,5 @@
 -- A short list that did not overflow has as many moves as the long one.
 use mathlib.Core.Path.{ap, ◌∙◌}
-use borrow.Author.Rules.{rules}
 use borrow.Author.Tests.{not-true}
 use Rattle.captures.specs.declared.movegen.Captures.{Captures}
 use Rattle.movegen.specs.Generate.{listing_of, capture_moves_of}

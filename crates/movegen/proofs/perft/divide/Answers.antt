@@ -3,7 +3,6 @@ use mathlib.Core.Path.{sym, ap₂, ◌∙◌}
 use borrow.Author.Tests.{lt-leb, le-leb}
 use Rattle.movegen.specs.Counts.{divided_of, divide_of}
 use Rattle.movegen.proofs.Generated.{seen_is, seen_accepted}
-use borrow.Author.Rules.{rules}
 use native.Mathlib.Omega.{arith}
 use Rattle.movegen.proofs.perft.divide.Goals as goal
 

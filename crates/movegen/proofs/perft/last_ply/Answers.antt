@@ -4,7 +4,6 @@ use Prim.Native.Nat.{ℕ}
 use lib.Bits.{bit_and}
 use Rattle.movegen.proofs.LastPly.{counts_captures, counts_quiets}
 use Rattle.movegen.specs.LastPly.{limited_count, count_by_sets, last_ply_of}
-use borrow.Author.Rules.{rules}
 use Rattle.movegen.proofs.perft.last_ply.Goals as goal
 
 pub returns-then-has_capture : goal.returns-then-has_capture

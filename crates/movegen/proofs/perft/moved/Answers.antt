@@ -1,5 +1,4 @@
 -- The two squares as sets.
-use borrow.Author.Rules.{rules}
 use Rattle.movegen.proofs.perft.moved.Goals as goal
 
 pub returns : goal.returns

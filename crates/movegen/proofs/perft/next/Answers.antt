@@ -10,7 +10,6 @@ use Rattle.positions.specs.Successor.{kings_played}
 use Rattle.positions.specs.declared.moves.Move.{Move}
 use Rattle.movegen.specs.Generate.{next_of}
 use Rattle.movegen.specs.declared.movegen.View.{View}
-use borrow.Author.Rules.{rules}
 use Rattle.movegen.proofs.perft.next.Goals as goal
 
 stepped : (v : View) (m : Move) {kept us them kings : ℕ} {side : Color}

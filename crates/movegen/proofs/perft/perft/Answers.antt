@@ -3,7 +3,6 @@ use mathlib.Core.Path.{refl, sym, ap, ◌∙◌}
 use borrow.Author.Tests.{lt-leb, le-leb}
 use Rattle.movegen.specs.Counts.{depth_count, perft_of}
 use Rattle.movegen.proofs.Generated.{seen_is, seen_accepted}
-use borrow.Author.Rules.{rules}
 use Rattle.movegen.proofs.perft.perft.Goals as goal
 
 pub count-requires : goal.count-requires

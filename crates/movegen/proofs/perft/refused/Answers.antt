@@ -1,5 +1,4 @@
 -- The list is the one without moves, and all counts are 0.
-use borrow.Author.Rules.{rules}
 use Rattle.movegen.proofs.perft.refused.Goals as goal
 
 pub returns : goal.returns

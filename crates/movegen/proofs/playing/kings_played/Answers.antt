@@ -4,7 +4,6 @@ use Prim.Native.Nat.{ℕ}
 use lib.Bits.{bit_or, bit_xor}
 use Rattle.squares.specs.Squares.{contains_of}
 use Rattle.positions.specs.Successor.{kings_played}
-use borrow.Author.Rules.{rules}
 use Rattle.movegen.proofs.playing.kings_played.Goals as goal
 
 pub returns-then-contains : goal.returns-then-contains

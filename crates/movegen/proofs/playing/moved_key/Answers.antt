@@ -5,7 +5,6 @@ use Prim.Native.Nat.{ℕ}
 use lib.Bits.{bit_xor}
 use Rattle.squares.specs.Squares.{contains_of}
 use Rattle.positions.specs.Successor.{mover_key, moved_key}
-use borrow.Author.Rules.{rules}
 use Rattle.movegen.proofs.playing.moved_key.Goals as goal
 
 pub returns : goal.returns

@@ -1,5 +1,4 @@
 -- Either kind.
-use borrow.Author.Rules.{rules}
 use Rattle.movegen.proofs.playing.mover_key.Goals as goal
 
 pub returns-then-king : goal.returns-then-king

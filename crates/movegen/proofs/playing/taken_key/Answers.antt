@@ -4,7 +4,6 @@ use lib.Bits.{bit_xor}
 use Rattle.squares.specs.Keys.{set_key_of}
 use Rattle.squares.specs.declared.piece.PieceKind.TheVariants.{Man}
 use Rattle.positions.specs.Successor.{taken_key}
-use borrow.Author.Rules.{rules}
 use Rattle.movegen.proofs.playing.taken_key.Goals as goal
 
 pub returns : goal.returns

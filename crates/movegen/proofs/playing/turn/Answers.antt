@@ -1,5 +1,4 @@
 -- Either side.
-use borrow.Author.Rules.{rules}
 use Rattle.movegen.proofs.playing.turn.Goals as goal
 
 pub returns-in-White : goal.returns-in-White

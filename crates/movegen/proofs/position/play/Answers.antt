@@ -11,7 +11,6 @@ use Rattle.positions.specs.Boards.{board_of, colored}
 use Rattle.positions.specs.Successor.{taken_key, moved_key, kings_played, position_after, play_of}
 use Rattle.positions.specs.declared.moves.Move.{Move}
 use Rattle.positions.specs.declared.position.Position.{Position}
-use borrow.Author.Rules.{rules}
 use Rattle.movegen.proofs.position.play.Goals as goal
 
 played : (p : Position) (m : Move) {them : Color} {kept us f t foe enemy taken moved side kings : ℕ} {r : Position}

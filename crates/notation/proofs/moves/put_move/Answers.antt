@@ -1,6 +1,5 @@
 -- The short text, then the taken squares.
 use mathlib.Core.Path.{sym}
-use borrow.Author.Rules.{rules}
 use Rattle.texts.proofs.Pieces.{adds_then, adds_as}
 use Rattle.notation.proofs.MoveTexts.{move_parts}
 use Rattle.notation.proofs.moves.put_move.Goals as goal

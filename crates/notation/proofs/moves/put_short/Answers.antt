@@ -1,5 +1,4 @@
 -- The two squares with the separator between them.
-use borrow.Author.Rules.{rules}
 use native.Mathlib.Omega.{arith}
 use Rattle.positions.proofs.Records.{from_low, to_low}
 use Rattle.texts.proofs.Pieces.{adds_then, adds_as}

@@ -1,13 +1,10 @@
 -- One square a turn: what is put on and what remains are the whole list.
-use mathlib.Core.Path.{◌≡◌, refl}
-use Prim.Native.Nat.{◌<◌, ◌^◌}
-use lib.ListN.{length}
+use mathlib.Core.Path.{refl}
 use borrow.Author.Rules.{rules}
 use native.Mathlib.Omega.{arith}
-use Rattle.squares.specs.Sets.{members, lowest}
+use Rattle.squares.specs.Sets.{lowest}
 use Rattle.squares.proofs.Loops.{cleared}
-use Rattle.texts.proofs.Writers.{Leaves, square_lt}
-use Rattle.notation.specs.MoveText.{taken_text}
+use Rattle.texts.proofs.Writers.{square_lt}
 use Rattle.notation.proofs.MoveTexts.{taken_start, taken_turn, taken_done}
 use Rattle.notation.proofs.moves.put_taken.Goals as goal
 

@@ -1,14 +1,10 @@
 -- One square a turn: what is put on and what remains are the whole list.
-use mathlib.Core.Path.{◌≡◌, refl}
+use mathlib.Core.Path.{◌≡◌}
 use Prim.Native.Nat.{◌<◌, ◌^◌}
 use lib.ListN.{length}
-use borrow.Author.Rules.{rules}
-use native.Mathlib.Omega.{arith}
-use Rattle.squares.specs.Sets.{members, lowest}
-use Rattle.squares.proofs.Loops.{cleared}
-use Rattle.texts.proofs.Writers.{Leaves, square_lt}
+use Rattle.squares.specs.Sets.{members}
+use Rattle.texts.proofs.Writers.{Leaves}
 use Rattle.notation.specs.MoveText.{taken_text}
-use Rattle.notation.proofs.MoveTexts.{taken_start, taken_turn, taken_done}
 use Rattle.notation.proofs.moves.put_taken.Given as goal
 
 abbrev pub invariant-loop-left : goal.invariant-loop-left

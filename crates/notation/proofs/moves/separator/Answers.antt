@@ -1,6 +1,5 @@
 -- The test decides.
 use mathlib.Core.Path.{sym, ◌∙◌}
-use borrow.Author.Rules.{rules}
 use Rattle.notation.specs.MoveText.{separator_of}
 use Rattle.notation.proofs.moves.separator.Goals as goal
 

@@ -3,7 +3,6 @@ use mathlib.Core.Path.{refl, sym, ap, ◌∙◌}
 use mathlib.Core.List.{List}
 use Prim.Native.Nat.{ℕ}
 use lib.Seq.{length-take-le}
-use borrow.Author.Rules.{rules}
 use Rattle.texts.specs.Lent.{emit_of, emitted}
 use Rattle.notation.specs.MoveText.{to_hub_of, to_hub_lent}
 use Rattle.notation.proofs.MoveTexts.{move_starts}

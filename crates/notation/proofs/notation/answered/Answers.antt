@@ -1,6 +1,5 @@
 -- 15, the move, 16.
 use mathlib.Core.Path.{refl}
-use borrow.Author.Rules.{rules}
 use Rattle.notation.proofs.notation.answered.Goals as goal
 
 pub returns-in-Nothing : goal.returns-in-Nothing

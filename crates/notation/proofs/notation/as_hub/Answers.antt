@@ -1,7 +1,6 @@
 -- The code writes the definition.
 use mathlib.Core.Path.{refl}
 use Rattle.notation.specs.Choice.{as_hub}
-use borrow.Author.Rules.{rules}
 use Rattle.notation.proofs.notation.as_hub.Goals as goal
 
 pub returns : goal.returns

@@ -1,7 +1,6 @@
 -- The code writes the definition.
 use mathlib.Core.Path.{refl}
 use Rattle.notation.specs.Choice.{begins}
-use borrow.Author.Rules.{rules}
 use Rattle.notation.proofs.notation.begins.Goals as goal
 
 pub returns : goal.returns

@@ -5,7 +5,6 @@ use Rattle.rules.specs.Lists.{keep}
 use Rattle.notation.specs.Choice.{by_ends, choice_of}
 use Rattle.notation.specs.declared.notation.Choice.{Choice}
 use Rattle.notation.proofs.Search.{or_choice, choose_hub, choose_ends}
-use borrow.Author.Rules.{rules}
 use Rattle.notation.proofs.notation.choose.Goals as goal
 
 pub returns-in-Nothing : goal.returns-in-Nothing

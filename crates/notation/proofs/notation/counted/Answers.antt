@@ -1,6 +1,5 @@
 -- One more only where it fits.
 use mathlib.Core.Path.{refl}
-use borrow.Author.Rules.{rules}
 use Rattle.notation.proofs.notation.counted.Goals as goal
 
 pub returns-then-fits : goal.returns-then-fits

@@ -2,7 +2,6 @@
 use mathlib.Core.Path.{ap, ◌∙◌}
 use Rattle.notation.specs.Choice.{answered}
 use Rattle.notation.proofs.Search.{fit_done, fit_refused}
-use borrow.Author.Rules.{rules}
 use Rattle.notation.proofs.notation.fit.Goals as goal
 
 pub returns-in-Done : goal.returns-in-Done

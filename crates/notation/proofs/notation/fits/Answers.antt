@@ -1,5 +1,4 @@
 -- Each way of comparing is a function of its own.
-use borrow.Author.Rules.{rules}
 use Rattle.notation.proofs.notation.fits.Goals as goal
 
 pub returns-then-hub : goal.returns-then-hub

@@ -1,6 +1,5 @@
 -- The count tells which square it is.
 use Rattle.notation.proofs.Reading.{first_heard, second_heard, later_heard}
-use borrow.Author.Rules.{rules}
 use Rattle.notation.proofs.notation.heard_square.Goals as goal
 
 pub returns-then-count-eq0 : goal.returns-then-count-eq0

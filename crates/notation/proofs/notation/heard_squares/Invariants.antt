@@ -1,14 +1,9 @@
 -- One square a turn.
-use mathlib.Core.Path.{◌≡◌, refl, ap, sym, ◌∙◌}
+use mathlib.Core.Path.{◌≡◌}
 use Prim.Native.Nat.{◌≤◌, ◌-◌, ◌+◌}
-use native.Mathlib.Omega.{arith}
 use lib.ListN.{length}
 use Rattle.texts.specs.Bytes.{is, parts_from}
-use Rattle.texts.proofs.Cuts.{part_fits}
 use Rattle.notation.specs.Notation.{heard_squares}
-use Rattle.notation.specs.declared.notation.Said.{Said}
-use Rattle.notation.proofs.Reading.{none, opened, heard_turn, heard_end, one_more}
-use borrow.Author.Rules.{rules}
 use Rattle.notation.proofs.notation.heard_squares.Given as goal
 
 abbrev pub invariant-loop-at : goal.invariant-loop-at

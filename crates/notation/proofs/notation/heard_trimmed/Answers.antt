@@ -2,7 +2,6 @@
 use mathlib.Core.Path.{sym, ap, ◌∙◌}
 use Rattle.notation.specs.Notation.{in_form}
 use Rattle.notation.proofs.Reading.{with_cross, without_cross}
-use borrow.Author.Rules.{rules}
 use Rattle.notation.proofs.notation.heard_trimmed.Goals as goal
 
 pub returns-then-holds : goal.returns-then-holds

@@ -4,7 +4,6 @@ use Prim.Native.Nat.{ℕ}
 use lib.ListN.{length}
 use lib.Dec.{ltb}
 use Rattle.texts.proofs.Cuts.{holds_found}
-use borrow.Author.Rules.{rules}
 use Rattle.notation.proofs.notation.holds.Goals as goal
 
 pub returns : goal.returns

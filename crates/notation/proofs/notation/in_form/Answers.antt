@@ -1,7 +1,6 @@
 -- What is not of the form is 9; a refusal is passed on.
 use mathlib.Core.Path.{refl}
 use Rattle.notation.proofs.Reading.{formed, unformed}
-use borrow.Author.Rules.{rules}
 use Rattle.notation.proofs.notation.in_form.Goals as goal
 
 pub returns-then-well_formed : goal.returns-then-well_formed

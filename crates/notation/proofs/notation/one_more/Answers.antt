@@ -1,6 +1,5 @@
 -- The first that fits is the one; any more are several.
 use mathlib.Core.Path.{refl}
-use borrow.Author.Rules.{rules}
 use Rattle.notation.proofs.notation.one_more.Goals as goal
 
 pub returns-in-Nothing : goal.returns-in-Nothing

@@ -12,7 +12,6 @@ use Rattle.notation.specs.Choice.{fitting, only, fit_of, parse_move_of}
 use Rattle.notation.specs.declared.notation.Found.{Found}
 use Rattle.notation.specs.declared.notation.Found.TheVariants as found
 use Rattle.notation.specs.declared.notation.Said.{Said}
-use borrow.Author.Rules.{rules}
 use Rattle.notation.proofs.notation.parse_move.Goals as goal
 
 -- 12 is the first refusal of `fit`

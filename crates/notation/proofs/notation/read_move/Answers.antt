@@ -1,7 +1,6 @@
 -- 1, then the trimmed text.
 use mathlib.Core.Path.{refl, ap, ◌∙◌}
 use Rattle.notation.specs.Notation.{heard_trimmed, read_move_of}
-use borrow.Author.Rules.{rules}
 use Rattle.notation.proofs.notation.read_move.Goals as goal
 
 pub returns-then-is_readable : goal.returns-then-is_readable

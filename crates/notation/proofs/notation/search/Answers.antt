@@ -1,6 +1,6 @@
 -- An entry a turn; past `len` none is looked at.
 use mathlib.Core.Path.{◌≡◌, sym, ap, ◌∙◌}
-use Prim.Native.Nat.{ℕ, ◌≤◌, ◌-◌}
+use Prim.Native.Nat.{ℕ}
 use native.Mathlib.Omega.{arith}
 use lib.ListN.{take, length}
 use Rattle.captures.specs.Lists.{blank}

@@ -1,11 +1,10 @@
 -- Each turn counts one landing of the flight.
-use borrow.Author.Rules.{rules}
 use native.Mathlib.Omega.{arith}
 use Rattle.squares.specs.Directions.{direction_at}
 use Rattle.squares.proofs.Pointwise.{and_lt}
 use Rattle.squares.proofs.Shifts.{shifted_lt}
-use Rattle.captures.proofs.Steps.{rank, ray_falls}
-use Rattle.quiets.proofs.Counts.{Counting, count_start, count_step, count_end, count_most, flight_is}
+use Rattle.captures.proofs.Steps.{ray_falls}
+use Rattle.quiets.proofs.Counts.{count_start, count_step, count_end, count_most, flight_is}
 use Rattle.quiets.proofs.quiets.flight_count.Goals as goal
 
 pub loop-to-init : goal.loop-to-init

@@ -1,11 +1,7 @@
 -- Each turn counts one landing of the flight.
-use borrow.Author.Rules.{rules}
-use native.Mathlib.Omega.{arith}
 use Rattle.squares.specs.Directions.{direction_at}
-use Rattle.squares.proofs.Pointwise.{and_lt}
-use Rattle.squares.proofs.Shifts.{shifted_lt}
-use Rattle.captures.proofs.Steps.{rank, ray_falls}
-use Rattle.quiets.proofs.Counts.{Counting, count_start, count_step, count_end, count_most, flight_is}
+use Rattle.captures.proofs.Steps.{rank}
+use Rattle.quiets.proofs.Counts.{Counting}
 use Rattle.quiets.proofs.quiets.flight_count.Given as goal
 
 abbrev pub invariant-loop-to : goal.invariant-loop-to

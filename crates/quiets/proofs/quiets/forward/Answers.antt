@@ -1,6 +1,5 @@
 -- Both by definition, a colour each.
 use mathlib.Core.Path.{refl}
-use borrow.Author.Rules.{rules}
 use Rattle.quiets.proofs.quiets.forward.Goals as goal
 
 pub returns-in-White : goal.returns-in-White

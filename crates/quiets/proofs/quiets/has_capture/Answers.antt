@@ -3,7 +3,6 @@ use mathlib.Core.Path.{ap₂}
 use mathlib.Core.Bool.{◌||◌}
 use Rattle.captures.specs.Walks.{any_up_to}
 use Rattle.quiets.specs.Tests.{has_capture_of}
-use borrow.Author.Rules.{rules}
 use Rattle.quiets.proofs.quiets.has_capture.Goals as goal
 
 pub returns : goal.returns

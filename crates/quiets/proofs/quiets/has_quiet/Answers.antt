@@ -6,7 +6,6 @@ use native.Mathlib.Omega.{arith}
 use Rattle.captures.specs.Walks.{any_up_to}
 use Rattle.quiets.specs.Tests.{steps_open, has_quiet_of}
 use Rattle.quiets.proofs.Forward.{forward_le, plus_zero}
-use borrow.Author.Rules.{rules}
 use Rattle.quiets.proofs.quiets.has_quiet.Goals as goal
 
 pub overflow_add-first : goal.overflow_add-first

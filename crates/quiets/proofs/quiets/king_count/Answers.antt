@@ -2,7 +2,6 @@
 use native.Mathlib.Omega.{arith}
 use Rattle.squares.proofs.Pointwise.{one_bit}
 use Rattle.quiets.proofs.Counts.{few, king_sum}
-use borrow.Author.Rules.{rules}
 use Rattle.quiets.proofs.quiets.king_count.Goals as goal
 
 pub overflow_add-a : goal.overflow_add-a

@@ -2,8 +2,7 @@
 use native.Mathlib.Omega.{arith}
 use Rattle.squares.proofs.Members.{lowest_lt}
 use Rattle.squares.proofs.Loops.{cleared}
-use Rattle.quiets.proofs.Counts.{Summing, sum_start, sum_turn, sum_done, kings_most}
-use borrow.Author.Rules.{rules}
+use Rattle.quiets.proofs.Counts.{sum_start, sum_turn, sum_done, kings_most}
 use Rattle.quiets.proofs.quiets.kings_count.Goals as goal
 
 pub loop-left-init : goal.loop-left-init

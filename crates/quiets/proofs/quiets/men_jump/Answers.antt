@@ -1,7 +1,6 @@
 -- The code writes the definition.
 use mathlib.Core.Path.{refl}
 use Rattle.quiets.specs.Tests.{men_jump}
-use borrow.Author.Rules.{rules}
 use Rattle.quiets.proofs.quiets.men_jump.Goals as goal
 
 pub returns : goal.returns

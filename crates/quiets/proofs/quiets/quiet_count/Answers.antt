@@ -2,7 +2,6 @@
 use native.Mathlib.Omega.{arith}
 use Rattle.quiets.proofs.Forward.{forward_le}
 use Rattle.quiets.proofs.Counts.{at_most, kings_at_most, all_sum}
-use borrow.Author.Rules.{rules}
 use Rattle.quiets.proofs.quiets.quiet_count.Goals as goal
 
 pub overflow_add-first : goal.overflow_add-first

@@ -2,8 +2,8 @@
 -- of each flight, direction by direction and king by king.
 use mathlib.Core.Path.{◌≡◌, refl, sym, ap, ap₂, ◌∙◌}
 use mathlib.Core.Bool.{Bool, false}
-use mathlib.Core.List.{List, ◌∷◌, [], foldl, foldl-append, map, flat_map}
-use Prim.Native.Nat.{ℕ, ◌+◌, ◌-◌, ◌≤◌}
+use mathlib.Core.List.{List, foldl, foldl-append, map}
+use Prim.Native.Nat.{ℕ, ◌+◌}
 use native.Mathlib.Omega.{arith}
 use lib.Bits.{bit_and}
 use Rattle.squares.specs.Sets.{members}
@@ -14,16 +14,14 @@ use Rattle.squares.proofs.Pointwise.{and_lt, one_bit}
 use Rattle.squares.proofs.Shifts.{shifted_lt}
 use Rattle.positions.specs.declared.moves.Move.{Move}
 use Rattle.positions.specs.Moves.{move}
-use Rattle.captures.specs.declared.moves.MoveList.{MoveList}
 use Rattle.captures.specs.Lists.{no_moves}
 use Rattle.captures.specs.Rays.{far, landings}
 use Rattle.captures.specs.Walks.{up_to}
-use Rattle.captures.proofs.Steps.{rank, ray_falls}
+use Rattle.captures.proofs.Steps.{ray_falls}
 use Rattle.quiets.specs.declared.quiets.Listing.{Listing}
-use Rattle.quiets.specs.Quiets.{listing, add_of, step_move, men_steps, men_quiets, flights, king_quiets, all_quiets, quiet_moves_of}
+use Rattle.quiets.specs.Quiets.{listing, add_of, step_move, men_steps, men_quiets, king_quiets, all_quiets, quiet_moves_of}
 use Rattle.quiets.proofs.Forward.{forward_le}
-use Rattle.quiets.proofs.Added.{stored, marked, Adding, adding_turn, adding_done, ones, Flying, fly_start, fly_step, fly_end, Walked, walk_start, walk_on, step_made, quiet_to, flight_from, flights_made}
-use borrow.Author.Rules.{rules}
+use Rattle.quiets.proofs.Added.{stored, marked, adding_turn, adding_done, ones, fly_start, fly_step, fly_end, walk_start, walk_on, step_made, quiet_to, flights_made}
 use Rattle.quiets.proofs.quiets.quiet_moves.Invariants.{held, found}
 use Rattle.quiets.proofs.quiets.quiet_moves.Goals as goal
 use Rattle.quiets.proofs.quiets.quiet_moves.Goals.{then-len-lt-MAX_MOVES, else-len-lt-MAX_MOVES, then-len-lt-MAX_MOVES-2, else-len-lt-MAX_MOVES-2}

@@ -1,5 +1,4 @@
 -- The code writes the definition.
-use borrow.Author.Rules.{rules}
 use mathlib.Core.Path.{refl}
 use Rattle.quiets.specs.Tests.{steps_open}
 use Rattle.quiets.proofs.quiets.steps.Goals as goal

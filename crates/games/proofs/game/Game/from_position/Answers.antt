@@ -1,7 +1,6 @@
 -- 12, else the position alone is kept.
 use mathlib.Core.Path.{sym, ◌∙◌}
 use Rattle.games.specs.Play.{new_of, fresh_of}
-use borrow.Author.Rules.{rules}
 use Rattle.games.proofs.game.Game.from_position.Goals as goal
 
 pub returns-then-sound : goal.returns-then-sound

@@ -1,5 +1,4 @@
 -- What `ended` says of the outcome.
-use borrow.Author.Rules.{rules}
 use Rattle.games.proofs.game.Game.has_ended.Goals as goal
 
 pub returns : goal.returns

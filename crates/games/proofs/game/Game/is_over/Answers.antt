@@ -1,7 +1,6 @@
 -- 13, else whether there is an outcome.
 use mathlib.Core.Path.{sym, ◌∙◌}
 use Rattle.games.specs.Play.{is_over_of}
-use borrow.Author.Rules.{rules}
 use Rattle.games.proofs.game.Game.is_over.Goals as goal
 
 pub has_ended-requires : goal.has_ended-requires

@@ -2,7 +2,6 @@
 use mathlib.Core.Path.{sym, ◌∙◌}
 use borrow.Author.Tests.{le-leb, lt-leb}
 use Rattle.games.specs.Play.{legal_moves_of}
-use borrow.Author.Rules.{rules}
 use Rattle.games.proofs.game.Game.legal_moves.Goals as goal
 
 pub has_ended-requires : goal.has_ended-requires

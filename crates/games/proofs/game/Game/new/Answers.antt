@@ -1,6 +1,5 @@
 -- The usual start, kept alone.
 use Rattle.games.specs.Play.{initial_game, fresh_of}
-use borrow.Author.Rules.{rules}
 use Rattle.games.proofs.game.Game.new.Goals as goal
 
 pub returns : goal.returns

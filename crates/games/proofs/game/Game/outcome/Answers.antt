@@ -1,7 +1,6 @@
 -- 13, else the outcome.
 use mathlib.Core.Path.{sym, ◌∙◌}
 use Rattle.games.specs.Play.{outcome_of}
-use borrow.Author.Rules.{rules}
 use Rattle.games.proofs.game.Game.outcome.Goals as goal
 
 pub judged-requires : goal.judged-requires

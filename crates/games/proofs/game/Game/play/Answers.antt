@@ -5,7 +5,6 @@ use Rattle.positions.specs.Boards.{board_of}
 use Rattle.games.specs.Games.{last_of, stood, judged_of}
 use Rattle.games.specs.Play.{play_of}
 use Rattle.games.proofs.Stands.{room}
-use borrow.Author.Rules.{rules}
 use Rattle.games.proofs.game.Game.play.Goals as goal
 
 pub has_ended-requires : goal.has_ended-requires

@@ -1,7 +1,6 @@
 -- 13, else the current position.
 use mathlib.Core.Path.{sym, ◌∙◌}
 use Rattle.games.specs.Play.{stands_of}
-use borrow.Author.Rules.{rules}
 use Rattle.games.proofs.game.Game.position.Goals as goal
 
 pub last-requires : goal.last-requires

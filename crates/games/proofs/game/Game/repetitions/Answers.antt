@@ -1,7 +1,6 @@
 -- 13, else the number.
 use mathlib.Core.Path.{sym, ◌∙◌}
 use Rattle.games.specs.Play.{repetitions_of}
-use borrow.Author.Rules.{rules}
 use Rattle.games.proofs.game.Game.repetitions.Goals as goal
 
 pub stood-requires : goal.stood-requires

@@ -1,7 +1,6 @@
 -- 13, else the counter.
 use mathlib.Core.Path.{sym, ◌∙◌}
 use Rattle.games.specs.Play.{reversible_plies_of}
-use borrow.Author.Rules.{rules}
 use Rattle.games.proofs.game.Game.reversible_plies.Goals as goal
 
 pub returns-then-valid : goal.returns-then-valid

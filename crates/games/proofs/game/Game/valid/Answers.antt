@@ -1,7 +1,6 @@
 -- The tests of refusal 13 in the order of the definition.
 use borrow.Author.Tests.{le-leb, lt-leb, eq-eqb, ne_eqb}
 use Rattle.games.specs.Games.{valid}
-use borrow.Author.Rules.{rules}
 use Rattle.games.proofs.game.Game.valid.Goals as goal
 
 pub returns-then-self : goal.returns-then-self

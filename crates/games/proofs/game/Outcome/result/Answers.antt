@@ -1,5 +1,4 @@
 -- The text of each winner.
-use borrow.Author.Rules.{rules}
 use Rattle.games.proofs.game.Outcome.result.Goals as goal
 
 pub returns-in-White : goal.returns-in-White

@@ -5,7 +5,6 @@ use Rattle.squares.specs.declared.piece.Color.{Color}
 use Rattle.positions.specs.Boards.{board_of, colored}
 use Rattle.positions.specs.declared.position.Position.{Position}
 use Rattle.movegen.specs.declared.movegen.View.{View}
-use borrow.Author.Rules.{rules}
 use Rattle.movegen.proofs.movegen.View.of.Goals as goal
 
 abbrev view : Position → ℕ → ℕ → View
