@@ -13,7 +13,7 @@ use Rattle.texts.specs.Lent.{written, Holds, Adds}
 use Rattle.texts.proofs.Pieces.{start, holds_length}
 use Rattle.frame.specs.Arguments.{next_word, WordIn, Joined, GivenIn}
 use Rattle.frame.specs.declared.arguments.Given.{Given}
-use Rattle.frame.specs.declared.arguments.Given.TheVariants as goal
+use Rattle.frame.specs.declared.arguments.Given.TheVariants as given
 use Rattle.frame.specs.declared.arguments.Word.{Word}
 use Rattle.frame.specs.declared.arguments.Word.TheVariants as word
 
@@ -78,5 +78,5 @@ all_given {old} {new} {at} {i} j some room =
           ∙ ap (λ (k : ℕ). t ++ drop k old) (sym p);
     }
 
-pub given_line : (old new : List ℕ) (r : Given) (n : ℕ) → GivenIn old new r → r ≡ goal.Line n → Joined old new n
+pub given_line : (old new : List ℕ) (r : Given) (n : ℕ) → GivenIn old new r → r ≡ given.Line n → Joined old new n
 given_line old new r n h e = subst (λ (x : Given). GivenIn old new x) e h

@@ -50,8 +50,7 @@ fn read_word<E: Env>(rt: &E, i: usize, word: &mut [u8]) -> Word
     }
 }
 
-// Puts the arguments, joined by single spaces, at the start of the buffer. The bytes after them stay. After as many
-// arguments as a number can count, which no system passes, they are too long.
+// Puts the arguments, joined by single spaces, at the start of the buffer. The bytes after them stay.
 pub fn arguments<E: Env>(rt: &E, buf: &mut [u8]) -> Given
     ensures { GivenIn buf.old buf.new result }
 {
@@ -69,15 +68,15 @@ pub fn arguments<E: Env>(rt: &E, buf: &mut [u8]) -> Given
                 return Given::Long;
             }
             Word::Absent => {
-                if i == 1 {
-                    return Given::Nothing;
-                }
-                if at == buf.len() {
-                    return Given::Long;
-                }
-                return Given::Line(at);
+                break;
             }
         }
     }
-    Given::Long
+    if i == 1 {
+        return Given::Nothing;
+    }
+    if at == buf.len() {
+        return Given::Long;
+    }
+    Given::Line(at)
 }

@@ -22,17 +22,17 @@ use Rattle.notation.proofs.Chosen.{parse_back}
 use Rattle.notation.proofs.MoveSays.{said_of, says_move, move_says}
 
 -- a listed move of a sound position with at most 256 moves
-module _ (p : Position) (m : Move) (sound : Sound p) (few : length (legal (board_of p)) ≤ 256) (in_List : listed (legal (board_of p)) m ≡ true) where
+module _ (p : Position) (m : Move) (sound : Sound p) (few : length (legal (board_of p)) ≤ 256) (in_list : listed (legal (board_of p)) m ≡ true) where
   -- the writers do not refuse it 11
   pub listed_squares : squares_of m ≡ true
   listed_squares =
       let fair = fair_of_accepted (board_of p) sound.accepted in
-      legal_squares (board_of p) fair m ((listed_legal (board_of p) fair m).0 in_List)
+      legal_squares (board_of p) fair m ((listed_legal (board_of p) fair m).0 in_list)
 
   -- reading what was written
   pub move_back : parse_move_of p (move_text m) ≡ found.Move m
   move_back =
-      parse_back (said_of m) m (says_move m listed_squares) p (move_text m) (move_says m listed_squares) (says_sound p sound) few in_List
+      parse_back (said_of m) m (says_move m listed_squares) p (move_text m) (move_says m listed_squares) (says_sound p sound) few in_list
 
   -- through lent space: n is the length that the writer told
   pub to_hub_lent_reads : (out : List ℕ) (n : ℕ) → to_hub_of m out ≡ wrote.Length n → parse_move_of p (take n (to_hub_lent m out)) ≡ found.Move m

@@ -65,7 +65,7 @@ use Rattle.replies.specs.Answers.{move_word}
 use Rattle.replies.specs.States.{winner_word, ending_word, judged_word, count_word, plies_text, state_text, stand_word, length_word, moves_word, end_text}
 use Rattle.requests.specs.Plays.{words_of, record_of, play_text_of, play_move, play_record_of, play_word_of, text_told, record_told, word_told, game_text}
 use Rattle.requests.specs.declared.plays.Given.{Given}
-use Rattle.requests.specs.declared.plays.Given.TheVariants as goal
+use Rattle.requests.specs.declared.plays.Given.TheVariants as given
 use Rattle.requests.specs.declared.plays.Recorded.{Recorded}
 use Rattle.requests.specs.declared.plays.Recorded.TheVariants as recorded
 use Rattle.request_laws.proofs.Lengths.{decimal_most, decimal_two, fen_most, move_by}
@@ -306,8 +306,8 @@ module _ (g : Game) (r : Good g) where
     by_case a (leaves e p) = refused-cost e a p
 
   pub word_cost : (h : Given) (w : List ℕ) → Word g (word_told h (play_word_of h g w)) (play_word_of h g w).game
-  word_cost goal.Text w = by_case text_told text_refused text_done (play_text_of g w) (text_case w)
-  word_cost goal.Record w = by_case record_told record_refused record_done (play_record_of g w) (record_case w)
+  word_cost given.Text w = by_case text_told text_refused text_done (play_text_of g w) (text_case w)
+  word_cost given.Record w = by_case record_told record_refused record_done (play_record_of g w) (record_case w)
 
 -- ---- all words, then the end
 stand_most : (p : Placed) → length (stand_word p) ≤ 196

@@ -27,7 +27,7 @@ use Rattle.wording.specs.Escapes.{undone}
 use Rattle.wording.specs.Output.{decimal}
 use Rattle.requests.specs.Plays.{record_of, play_text_of, play_record_of, text_told, record_told, game_text}
 use Rattle.replies.specs.States.{end_text}
-use Rattle.requests.specs.declared.plays.Given.TheVariants as goal
+use Rattle.requests.specs.declared.plays.Given.TheVariants as given
 use Rattle.requests.specs.declared.plays.Recorded.TheVariants as recorded
 
 -- the words are the records of these moves
@@ -40,7 +40,7 @@ unfoldable pub numbers_text : List ℕ → List ℕ
 numbers_text [] = []
 numbers_text (n ∷ ns) = (32 ∷ decimal n) ++ numbers_text ns
 
-pub record_run : {ws : List (List ℕ)} {ms : List Move} (g : Game) → Records ws ms → game_text goal.Record g ws ≡ numbers_text (answers_to play_of g ms) ++ end_text (game_after play_of g ms)
+pub record_run : {ws : List (List ℕ)} {ms : List Move} (g : Game) → Records ws ms → game_text given.Record g ws ≡ numbers_text (answers_to play_of g ms) ++ end_text (game_after play_of g ms)
 unfolding game_text answers_to game_after record_told play_record_of numbers_text
 record_run g none = refl
 record_run g (more {w} {ws} {m} {ms} e r) =
@@ -51,7 +51,7 @@ record_run g (more {w} {ws} {m} {ms} e r) =
 -- demand 3 holds of what a `record` with these words answers
 pub record RecordTold (p : Position) (ws : List (List ℕ)) (ms : List Move) : Type 0 where
   pub demand : Demand3 p ms (heard p ms)
-  pub told : game_text goal.Record (new_of p).game ws ≡ numbers_text (heard p ms).answers ++ end_text (heard p ms).game
+  pub told : game_text given.Record (new_of p).game ws ≡ numbers_text (heard p ms).answers ++ end_text (heard p ms).game
 
 pub record_demand : {ws : List (List ℕ)} {ms : List Move} (p : Position) → sound p ≡ true → Records ws ms → RecordTold p ws ms
 unfolding heard_of
@@ -94,9 +94,9 @@ word_plays g w = text_plays g (undone w)
 pub record TextsTold (g : Game) (ws : List (List ℕ)) : Type 0 where
   pub played : List Move
   pub before : List ℕ
-  pub told : game_text goal.Text g ws ≡ before ++ end_text (game_after play_of g played)
+  pub told : game_text given.Text g ws ≡ before ++ end_text (game_after play_of g played)
 
-told_more : (g : Game) (w : List ℕ) (ws : List (List ℕ)) (a : PlayedText) → Plays g a → (r : TextsTold a.game ws) → (ms : List Move) × (game_text goal.Text a.game ws ≡ r.before ++ end_text (game_after play_of g ms))
+told_more : (g : Game) (w : List ℕ) (ws : List (List ℕ)) (a : PlayedText) → Plays g a → (r : TextsTold a.game ws) → (ms : List Move) × (game_text given.Text a.game ws ≡ r.before ++ end_text (game_after play_of g ms))
 unfolding game_after
 told_more g w ws a (moves m e) r = (m ∷ r.played, r.told ∙ ap (λ (x : PlayedText). r.before ++ end_text (game_after play_of x.game r.played)) e)
 told_more g w ws a (leaves e) r = (r.played, r.told ∙ ap (λ (x : Game). r.before ++ end_text (game_after play_of x r.played)) e)
@@ -119,7 +119,7 @@ pub record PlayTold (p : Position) (ws : List (List ℕ)) : Type 0 where
   pub played : List Move
   pub before : List ℕ
   pub demand : Demand3 p played (heard p played)
-  pub told : game_text goal.Text (new_of p).game ws ≡ before ++ end_text (heard p played).game
+  pub told : game_text given.Text (new_of p).game ws ≡ before ++ end_text (heard p played).game
 
 pub play_demand : (p : Position) (ws : List (List ℕ)) → sound p ≡ true → PlayTold p ws
 unfolding heard_of

@@ -52,7 +52,7 @@ use Rattle.replies.specs.States.{judged_word}
 use Rattle.requests.specs.declared.asked.Weights.{Weights}
 use Rattle.requests.specs.declared.asked.Weights.TheVariants as weights
 use Rattle.requests.specs.declared.plays.Given.{Given}
-use Rattle.requests.specs.declared.plays.Given.TheVariants as goal
+use Rattle.requests.specs.declared.plays.Given.TheVariants as given
 use Rattle.requests.specs.declared.reading.Form.TheVariants as form
 use Rattle.requests.specs.declared.requests.Request.{Request}
 use Rattle.requests.specs.declared.requests.Request.TheVariants as request
@@ -225,12 +225,12 @@ unfolding game_answer
 game_most h p s l = omega (arith, game_cost h (new_of p).game (new_good p) (words_of s), pieces_most (new_of p).game, words_most s)
 
 play_most : (x : Placed) (s : List ℕ) → length s ≤ longest → length (play_request x s) ≤ 1442469
-play_most x s l = on_placed_lem x (λ q. game_answer goal.Text q s) 1442469 (omega arith) (λ q. game_most goal.Text q s l)
+play_most x s l = on_placed_lem x (λ q. game_answer given.Text q s) 1442469 (omega arith) (λ q. game_most given.Text q s l)
 
 record_most : (x : Placed) (s : List ℕ) → length s ≤ longest → length (record_request x s) ≤ 1442469
 record_most x s l =
-    on_placed_lem x (λ q. cond (all_records (words_of s)) (game_answer goal.Record q s) (bad flaw.Number)) 1442469 (omega arith)
-    (λ q. cond_most (all_records (words_of s)) (game_answer goal.Record q s) flaw.Number 1442469 (omega arith) (game_most goal.Record q s l))
+    on_placed_lem x (λ q. cond (all_records (words_of s)) (game_answer given.Record q s) (bad flaw.Number)) 1442469 (omega arith)
+    (λ q. cond_most (all_records (words_of s)) (game_answer given.Record q s) flaw.Number 1442469 (omega arith) (game_most given.Record q s l))
 
 -- ---- the line
 after_word_lem : (s : List ℕ) → length (after_word s) ≤ length s

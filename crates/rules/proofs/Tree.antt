@@ -140,7 +140,7 @@ module _ {A D : Type 0} (dirs : List D) (rays : A → D → List A) (first later
       -- nothing is found in a direction that the first landing leaves out
       (first_none : (x l : A) (ls : List A) (d e : D) → Good x → Member d dirs → Member e dirs → rays x d ≡ l ∷ ls → first d e ≡ true → rays l e ≡ [])
       -- in a direction that a later landing leaves out it finds what the first finds
-      (Later-same : (x l k : A) (ls : List A) (d e : D) → Good x → Member d dirs → Member e dirs → rays x d ≡ l ∷ ls → Member k ls → later d e ≡ true
+      (later_same : (x l k : A) (ls : List A) (d e : D) → Good x → Member d dirs → Member e dirs → rays x d ≡ l ∷ ls → Member k ls → later d e ≡ true
       → rays k e ≡ rays l e) where
     abbrev Hold : Found A → A → Type 0
     Hold s x = Held size s x
@@ -170,7 +170,7 @@ module _ {A D : Type 0} (dirs : List D) (rays : A → D → List A) (first later
     unfolding followed
     covered_later zero x l k ls d s g m q h f = tt
     covered_later (suc n) x l k ls d s g m q h f = λ e j p z i.
-        f z (in_or_end l (concat_map (full n) (all_jumps l)) (go e j (rw (Later-same x l k ls d e g m j q h p) at i)))
+        f z (in_or_end l (concat_map (full n) (all_jumps l)) (go e j (rw (later_same x l k ls d e g m j q h p) at i)))
       where
         go : (e : D) → Member e dirs → {z : A} → Member z (concat_map (full n) (rays l e)) → Member z (concat_map (full n) (all_jumps l))
         go e j h = let r = of_concat_map (full n) (rays l e) h in in_concat_map (full n) (in_concat_map (rays l) j r.1) r.2

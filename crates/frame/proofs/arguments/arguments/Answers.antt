@@ -32,5 +32,5 @@ returns-then-i-eq1 g c = laws.none_given c.loop-i.invariant.3 c.if-i-eq1.true
 pub returns-then-at-buf : goal.returns-then-at-buf
 returns-then-at-buf g c = tt
 
-pub returns-in-Absent : goal.returns-in-Absent
-returns-in-Absent g c = laws.all_given c.loop-i.invariant.3 c.if-i-eq1.false c.if-at-buf.false
+pub returns : goal.returns
+returns g c = laws.all_given c.loop-i.invariant.3 c.if-i-eq1.false c.if-at-buf.false
