@@ -9,9 +9,9 @@
 // of `feed` says what is written: the output for the whole input, however the input is cut into reads; and where a read
 // or a write fails, a beginning of it (`FedTo`). What is written for arguments is `given_output`.
 //
-// The functions below `feed` that only fill buffers say which bytes the buffers contain then: `answer_lines` puts
-// answers into the output buffer, `carry` keeps the line that is not whole yet, `last_answer` answers it at the end
-// of the input, and `given_answer` answers the arguments.
+// The functions that only fill buffers say which bytes the buffers contain then: `answer_lines` puts answers into the
+// output buffer, `carry` keeps the line that is not whole yet, `last_answer` answers it at the end of the input, and
+// `given_answer` answers the arguments.
 //
 // The laws on runs are those of the crate line_laws, with `answer_of` for the answer to a line (`run_law`, `stop_law`,
 // `read_stop_law`). What is written for arguments is what is written for an input of that line alone (`given_law`).
