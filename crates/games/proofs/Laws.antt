@@ -2,12 +2,11 @@
 -- game stands for the book again.
 use mathlib.Core.Path.{◌≡◌, refl, sym, ap, ap₂, ◌∙◌}
 use Prim.Native.Nat.{ℕ, suc, ◌+◌}
-use native.Mathlib.Omega.{arith}
 use mathlib.Core.Bool.{Bool, true, false, not, cond}
 use mathlib.Core.List.{List, [], ◌∷◌}
 use lib.Dec.{ltb}
 use lib.ListN.{length}
-use borrow.Author.Tests.{eq-eqb, ne_eqb}
+use borrow.Author.Tests.{eq-eqb}
 use Rattle.squares.specs.Refusals.{answer_number_of, number_of, refusal}
 use Rattle.squares.specs.Sets.{size}
 use Rattle.squares.specs.declared.refusal.Refusal.{Refusal}
@@ -37,6 +36,7 @@ use Rattle.games.specs.declared.game.Game.{Game}
 use Rattle.games.specs.declared.game.Judged.TheVariants as judged
 use Rattle.games.specs.declared.game.Played.{Played}
 use Rattle.games.proofs.BookPlay.{meets, next_of, accepted_listed}
+use Rattle.games.proofs.RefusedPlay.{refused_stands}
 use Rattle.games.proofs.Stands.{Stands, begun_stands, now_sound, now_accepted, same_outcome, room, moved_stands}
 use Rattle.games.proofs.Tests.{squares_agree}
 use Rattle.games.proofs.Valid.{alone_last}
@@ -66,7 +66,7 @@ module _ (start : Board) (g : Game) (b : Book) (r : Stands start g b) (m : Move)
   refused : (e : Refusal) (n : ℕ) → play_of g m ≡ refused_play g e → book_answer b m ≡ suc n → number_of e ≡ suc n → Step start g b m
   refused e n p k z = record {
     answer = ap (λ (x : Played). answer_number_of x.answer) p ∙ z ∙ sym k;
-    stands = rw (p, next_of b m false (ne_eqb (book_answer b m) 0 (λ q. omega (arith, k)))) r;
+    stands = refused_stands start g b r m e n p k;
   }
 
   -- accepted: the successor stands in both
