@@ -57,7 +57,7 @@ pub fn finish<W: Write>(to: &mut W, out: &[u8]) -> Ended
     how_ended(write(to, out))
 }
 
-// A program has no exit status of its own, so a line on standard error reports that a read or a write failed.
+// Writes a line on standard error where a read or a write failed. The exit status is 0 all the same.
 pub fn report<E: Eprint>(rt: &E, end: Ended) {
     match end {
         Ended::Whole => {}
