@@ -11,9 +11,10 @@ ghost use Rattle.requests.specs.Plays.{record_of, is_record_of, all_records, wor
 use games::game::Game;
 use gametexts::game::PlayedText;
 use positions::moves::Move;
-use positions::position::{Placed, Position};
+use positions::position::Position;
 use replies::{answers, states};
-use squares::refusal::{Answer, Refusal};
+use squares::refusal;
+use squares::refusal::Refusal;
 use texts::bytes;
 use wording::numbers::Parsed;
 use wording::output::Flaw;
@@ -26,28 +27,21 @@ pub enum Given {
     Record,
 }
 
-// The move of a record, or `Bad` where a part of it is not a number.
-#[derive(Clone, Copy)]
-pub enum Recorded {
-    Move(Move),
-    Bad,
-}
-
 // The numbers may be any of 32 bits: which of them are squares is the game's to say.
-fn read_record(word: &[u8]) -> Recorded
+fn read_record(word: &[u8]) -> Option<Move>
     ensures { result ≡ record_of word.now }
 {
     let rest = bytes::after_first(word, b',');
     let Parsed::Value(from) = numbers::unsigned(bytes::up_to(word, b',')) else {
-        return Recorded::Bad;
+        return None;
     };
     let Parsed::Value(to) = numbers::unsigned(bytes::up_to(rest, b',')) else {
-        return Recorded::Bad;
+        return None;
     };
     let Parsed::Value(captured) = numbers::set(bytes::after_first(rest, b',')) else {
-        return Recorded::Bad;
+        return None;
     };
-    Recorded::Move(Move {
+    Some(Move {
         captured: captured,
         from: from as u32,
         to: to as u32,
@@ -58,8 +52,8 @@ fn is_record(word: &[u8]) -> bool
     ensures { result ≡ is_record_of word.now }
 {
     match read_record(word) {
-        Recorded::Move(_) => true,
-        Recorded::Bad => false,
+        Some(_) => true,
+        None => false,
     }
 }
 
@@ -91,8 +85,8 @@ fn play_record(g: Game, word: &[u8]) -> PlayedText
     ensures { result ≡ play_record_of g word.now }
 {
     match read_record(word) {
-        Recorded::Move(m) => gametexts::game::beside(m, g.play(m)),
-        Recorded::Bad => gametexts::game::refused_text(g, Refusal::BadMoveText),
+        Some(m) => gametexts::game::beside(m, g.play(m)),
+        None => gametexts::game::refused_text(g, Refusal::BadMoveText),
     }
 }
 
@@ -114,11 +108,11 @@ fn tell_text(out: &mut [u8], at: usize, r: PlayedText) -> usize
     let mv = r.mv;
     let k = output::put_byte(out, at, b' ');
     match answer {
-        Answer::Done => {
+        Ok(()) => {
             let m = answers::put_move(out, k, mv);
             states::put_state(out, m, after, b'/')
         }
-        Answer::Refused(e) => output::put_number(out, k, e),
+        Err(e) => output::put_number(out, k, e),
     }
 }
 
@@ -128,7 +122,7 @@ fn tell_record(out: &mut [u8], at: usize, r: PlayedText) -> usize
 {
     let answer = r.answer;
     let k = output::put_byte(out, at, b' ');
-    output::put_decimal(out, k, answer.number() as u64)
+    output::put_decimal(out, k, refusal::answer_number(&answer) as u64)
 }
 
 fn tell_word(given: Given, r: PlayedText, out: &mut [u8], at: usize) -> usize
@@ -168,41 +162,41 @@ fn play_game(given: Given, p: Position, s: &[u8], out: &mut [u8], at: usize) -> 
     play_words(given, game, s, out, k)
 }
 
-pub(crate) fn play(p: Placed, texts: &[u8], out: &mut [u8], at: usize) -> usize
+pub(crate) fn play(p: Result<Position, Refusal>, texts: &[u8], out: &mut [u8], at: usize) -> usize
     ensures { Adds (play_request p texts.now) out.old at out.new result }
 {
     match p {
-        Placed::Position(q) => play_game(Given::Text, q, texts, out, at),
-        Placed::Refused(e) => output::put_refusal(out, at, e),
+        Ok(q) => play_game(Given::Text, q, texts, out, at),
+        Err(e) => output::put_refusal(out, at, e),
     }
 }
 
 // Every record must be readable before one is played.
-pub(crate) fn record(p: Placed, records: &[u8], out: &mut [u8], at: usize) -> usize
+pub(crate) fn record(p: Result<Position, Refusal>, records: &[u8], out: &mut [u8], at: usize) -> usize
     ensures { Adds (record_request p records.now) out.old at out.new result }
 {
     match p {
-        Placed::Position(q) => {
+        Ok(q) => {
             if all_records(records) {
                 return play_game(Given::Record, q, records, out, at);
             }
             output::put_bad(out, at, Flaw::Number)
         }
-        Placed::Refused(e) => output::put_refusal(out, at, e),
+        Err(e) => output::put_refusal(out, at, e),
     }
 }
 
 // The outcome of a new game.
-pub(crate) fn outcome(p: Placed, out: &mut [u8], at: usize) -> usize
+pub(crate) fn outcome(p: Result<Position, Refusal>, out: &mut [u8], at: usize) -> usize
     ensures { Adds (outcome_request p) out.old at out.new result }
 {
     match p {
-        Placed::Position(q) => {
+        Ok(q) => {
             let begun = Game::from_position(q);
             let game = begun.game;
             let k = answers::put_ok(out, at);
             states::put_judged(out, k, game.outcome())
         }
-        Placed::Refused(e) => output::put_refusal(out, at, e),
+        Err(e) => output::put_refusal(out, at, e),
     }
 }

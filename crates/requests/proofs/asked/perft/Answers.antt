@@ -13,10 +13,10 @@ overflow_cast-n c =
 
 pub returns-in-Value : goal.returns-in-Value
 returns-in-Value c =
-    rw (c.in-Position.is, ← c.unsigned.ensures.0, c.in-Value.is) (pieces.adds_as (ap told.counted_answer c.perft.ensures) c.tell_counted.ensures)
+    rw (c.in-Ok.is, ← c.unsigned.ensures.0, c.in-Value.is) (pieces.adds_as (ap told.counted_answer c.perft.ensures) c.tell_counted.ensures)
 
 pub returns-in-Bad : goal.returns-in-Bad
-returns-in-Bad c = rw (c.in-Position.is, ← c.unsigned.ensures.0, c.in-Bad.is) c.put_bad.ensures
+returns-in-Bad c = rw (c.in-Ok.is, ← c.unsigned.ensures.0, c.in-Bad.is) c.put_bad.ensures
 
-pub returns-in-Refused : goal.returns-in-Refused
-returns-in-Refused c = rw c.in-Refused.is c.put_refusal.ensures
+pub returns-in-Err : goal.returns-in-Err
+returns-in-Err c = rw c.in-Err.is c.put_refusal.ensures

@@ -24,7 +24,7 @@ unfolding asked.sets_answer
 returns-in-Side c =
     rw (← c.word.ensures, ← c.set.ensures, c.in-Value.is, ← c.word-2.ensures, ← c.set-2.ensures, c.in-Value-set.is, ← c.word-3.ensures, ← c.set-3.ensures, c.in-Value-set-2.is, ← c.word-4.ensures, ← c.side.ensures, c.in-Side.is) (laws.adds_as (ap told.placed_answer c.from_parts.ensures) c.tell_placed.ensures)
 
-pub returns-in-Refused : goal.returns-in-Refused
+pub returns-in-Err : goal.returns-in-Err
 unfolding asked.sets_answer
-returns-in-Refused c =
-    rw (← c.word.ensures, ← c.set.ensures, c.in-Value.is, ← c.word-2.ensures, ← c.set-2.ensures, c.in-Value-set.is, ← c.word-3.ensures, ← c.set-3.ensures, c.in-Value-set-2.is, ← c.word-4.ensures, ← c.side.ensures, c.in-Refused.is) c.put_bad-in-Refused.ensures
+returns-in-Err c =
+    rw (← c.word.ensures, ← c.set.ensures, c.in-Value.is, ← c.word-2.ensures, ← c.set-2.ensures, c.in-Value-set.is, ← c.word-3.ensures, ← c.set-3.ensures, c.in-Value-set-2.is, ← c.word-4.ensures, ← c.side.ensures, c.in-Err.is) c.put_bad-in-Err.ensures

@@ -4,9 +4,9 @@ use Rattle.texts.proofs.Pieces as laws
 use Rattle.wording.specs.Output.{flaw_word}
 use Rattle.wording.proofs.output.put_flaw.Goals as goal
 
-pub returns-in-Length : goal.returns-in-Length
+pub returns-in-Ok : goal.returns-in-Ok
 unfolding flaw_word
-returns-in-Length c = laws.adds_as (sym (ap flaw_word c.in-Length.is)) c.put.ensures
+returns-in-Ok c = laws.adds_as (sym (ap flaw_word c.in-Ok.is)) c.put.ensures
 
 pub returns-in-Escape : goal.returns-in-Escape
 unfolding flaw_word
@@ -23,10 +23,10 @@ unfolding flaw_word
 returns-in-Words c =
     laws.adds_as (sym (ap flaw_word c.in-Words.is)) c.put-in-Words.ensures
 
-pub returns-in-Number : goal.returns-in-Number
+pub returns-in-Ok : goal.returns-in-Ok
 unfolding flaw_word
-returns-in-Number c =
-    laws.adds_as (sym (ap flaw_word c.in-Number.is)) c.put-in-Number.ensures
+returns-in-Ok c =
+    laws.adds_as (sym (ap flaw_word c.in-Ok.is)) c.put-in-Ok.ensures
 
 pub returns-in-Side : goal.returns-in-Side
 unfolding flaw_word
