@@ -23,8 +23,6 @@ use Rattle.games.specs.Play.{new_of, outcome_of}
 use Rattle.texts.specs.Bytes.{is, index_of}
 use Rattle.texts.proofs.Cuts.{after_is}
 use Rattle.wording.specs.Numbers.{unsigned_of, set_of}
-use Rattle.wording.specs.declared.numbers.Parsed.{Parsed}
-use Rattle.wording.specs.declared.numbers.Parsed.TheVariants as parsed
 use Rattle.wording.specs.Escapes.{plain, is_plain}
 use Rattle.wording.specs.Output.{decimal, hex, hash, bad}
 use Rattle.wording.specs.Words.{first_word, after_word, word_at, blanks_in}
@@ -125,9 +123,9 @@ on_found_lem : (x : Result Move Refusal) (k : Move → List ℕ) → ((m : Move)
 on_found_lem (Ok m) k h = h m
 on_found_lem (Err e) k h = omega (arith, refusal_most e)
 
-on_parsed_lem : (x : Parsed) (k : ℕ → List ℕ) → ((n : ℕ) → length (k n) ≤ 45380) → length (on_parsed x k) ≤ 45380
-on_parsed_lem (parsed.Value n) k h = h n
-on_parsed_lem parsed.Bad k h = omega (arith, bad_most flaw.Number)
+on_parsed_lem : (x : Option ℕ) (k : ℕ → List ℕ) → ((n : ℕ) → length (k n) ≤ 45380) → length (on_parsed x k) ≤ 45380
+on_parsed_lem (Some n) k h = h n
+on_parsed_lem None k h = omega (arith, bad_most flaw.Number)
 
 on_sided_lem : (x : Result Color Refusal) (k : Color → List ℕ) → ((c : Color) → length (k c) ≤ 45380) → length (on_sided x k) ≤ 45380
 on_sided_lem (Ok c) k h = h c

@@ -16,10 +16,6 @@ use Rattle.movegen.specs.Counts.{perft_of, divide_of}
 use Rattle.wording.specs.Output.{decimal, refusal_text, bad}
 use Rattle.wording.specs.Words.{first_word, after_word, word_at, blanks_in}
 use Rattle.wording.specs.Numbers.{unsigned_of, set_of, signed_of}
-use Rattle.wording.specs.declared.numbers.Parsed.{Parsed}
-use Rattle.wording.specs.declared.numbers.Parsed.TheVariants as parsed
-use Rattle.wording.specs.declared.numbers.Signed.{Signed}
-use Rattle.wording.specs.declared.numbers.Signed.TheVariants as signed
 use Rattle.wording.specs.declared.output.Flaw.TheVariants as flaw
 use Rattle.requests.specs.Reading.{position_in, move_in}
 use Rattle.replies.specs.Answers.{ok, hub_answer, bits_answer, hash_answer, placed_answer, scored_answer, tested_answer, counted_answer, list_answer, divided_answer, move_answer, after_answer}
@@ -36,9 +32,9 @@ abbrev pub on_found : Result Move Refusal → (Move → List ℕ) → List ℕ
 on_found (Ok m) k = k m
 on_found (Err e) k = refusal_text e
 
-abbrev pub on_parsed : Parsed → (ℕ → List ℕ) → List ℕ
-on_parsed (parsed.Value n) k = k n
-on_parsed parsed.Bad k = bad flaw.Number
+abbrev pub on_parsed : Option ℕ → (ℕ → List ℕ) → List ℕ
+on_parsed (Some n) k = k n
+on_parsed None k = bad flaw.Number
 
 abbrev pub on_sided : Result Color Refusal → (Color → List ℕ) → List ℕ
 on_sided (Ok c) k = k c
@@ -95,9 +91,9 @@ unfoldable pub atmost_request : List ℕ → List ℕ
 atmost_request arg = on_parsed (unsigned_of (first_word arg)) (λ n. moves_request (position_in form.Either (after_word arg)) n)
 
 -- evalw: the position and five weights, which are read first
-abbrev pub on_signed : Signed → (ℤ → Option Classical) → Option Classical
-on_signed (signed.Value z) k = k z
-on_signed signed.Bad k = None
+abbrev pub on_signed : Option ℤ → (ℤ → Option Classical) → Option Classical
+on_signed (Some z) k = k z
+on_signed None k = None
 
 unfoldable pub weights_of : List ℕ → Option Classical
 weights_of arg =

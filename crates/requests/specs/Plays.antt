@@ -12,8 +12,6 @@ use Rattle.gametexts.specs.declared.game.PlayedText.{PlayedText}
 use Rattle.wording.specs.Output.{decimal, number_word, bad}
 use Rattle.wording.specs.Numbers.{unsigned_of, set_of}
 use Rattle.wording.specs.Escapes.{undone}
-use Rattle.wording.specs.declared.numbers.Parsed.{Parsed}
-use Rattle.wording.specs.declared.numbers.Parsed.TheVariants as parsed
 use Rattle.wording.specs.declared.output.Flaw.TheVariants as flaw
 use Rattle.replies.specs.Answers.{ok, move_word}
 use Rattle.requests.specs.Asked.{on_placed}
@@ -30,9 +28,9 @@ use Rattle.squares.specs.declared.refusal.Refusal.{Refusal}
 abbrev pub words_of : List ℕ → List (List ℕ)
 words_of s = parts_at (code " ") s
 
-abbrev pub on_number : Parsed → (ℕ → Option Move) → Option Move
-on_number (parsed.Value n) k = k n
-on_number parsed.Bad k = None
+abbrev pub on_number : Option ℕ → (ℕ → Option Move) → Option Move
+on_number (Some n) k = k n
+on_number None k = None
 
 -- a record: first square, last square and set, between commas
 unfoldable pub record_of : List ℕ → Option Move

@@ -12,7 +12,6 @@ use replies::answers;
 use scores::eval::Classical;
 use squares::piece::Color;
 use squares::refusal::Refusal;
-use wording::numbers::{Parsed, Signed};
 use wording::output::Flaw;
 use wording::{numbers, output, words};
 use positions::position::Position;
@@ -58,13 +57,13 @@ pub(crate) fn atmost(arg: &[u8], out: &mut [u8], at: usize) -> usize
     ensures { Adds (atmost_request arg.now) out.old at out.new result }
 {
     match numbers::unsigned(words::first(arg)) {
-        Parsed::Value(n) => moves(
+        Some(n) => moves(
             reading::position(Form::Either, words::rest(arg)),
             n as usize,
             out,
             at,
         ),
-        Parsed::Bad => output::put_bad(out, at, Flaw::Number),
+        None => output::put_bad(out, at, Flaw::Number),
     }
 }
 
@@ -97,10 +96,10 @@ pub(crate) fn perft(p: Result<Position, Refusal>, depth: &[u8], out: &mut [u8], 
 {
     match p {
         Ok(q) => match numbers::unsigned(depth) {
-            Parsed::Value(n) => {
+            Some(n) => {
                 answers::tell_counted(out, at, movegen::perft::perft(q, n as u32))
             }
-            Parsed::Bad => output::put_bad(out, at, Flaw::Number),
+            None => output::put_bad(out, at, Flaw::Number),
         },
         Err(e) => output::put_refusal(out, at, e),
     }
@@ -111,10 +110,10 @@ pub(crate) fn divide(p: Result<Position, Refusal>, depth: &[u8], out: &mut [u8],
 {
     match p {
         Ok(q) => match numbers::unsigned(depth) {
-            Parsed::Value(n) => {
+            Some(n) => {
                 answers::tell_divided(out, at, movegen::perft::divide(q, n as u32))
             }
-            Parsed::Bad => output::put_bad(out, at, Flaw::Number),
+            None => output::put_bad(out, at, Flaw::Number),
         },
         Err(e) => output::put_refusal(out, at, e),
     }
@@ -133,19 +132,19 @@ pub(crate) fn eval(p: Result<Position, Refusal>, weights: Classical, out: &mut [
 fn read_weights(arg: &[u8]) -> Option<Classical>
     ensures { result ≡ weights_of arg.now }
 {
-    let Signed::Value(man) = numbers::read_signed(words::word(arg, 1)) else {
+    let Some(man) = numbers::read_signed(words::word(arg, 1)) else {
         return None;
     };
-    let Signed::Value(king) = numbers::read_signed(words::word(arg, 2)) else {
+    let Some(king) = numbers::read_signed(words::word(arg, 2)) else {
         return None;
     };
-    let Signed::Value(advance) = numbers::read_signed(words::word(arg, 3)) else {
+    let Some(advance) = numbers::read_signed(words::word(arg, 3)) else {
         return None;
     };
-    let Signed::Value(center) = numbers::read_signed(words::word(arg, 4)) else {
+    let Some(center) = numbers::read_signed(words::word(arg, 4)) else {
         return None;
     };
-    let Signed::Value(guard) = numbers::read_signed(words::word(arg, 5)) else {
+    let Some(guard) = numbers::read_signed(words::word(arg, 5)) else {
         return None;
     };
     Some(Classical {
@@ -252,13 +251,13 @@ fn side(word: &[u8]) -> Result<Color, Refusal>
 fn sets(arg: &[u8], out: &mut [u8], at: usize) -> usize
     ensures { Adds (sets_answer arg.now) out.old at out.new result }
 {
-    let Parsed::Value(white) = numbers::set(words::word(arg, 0)) else {
+    let Some(white) = numbers::set(words::word(arg, 0)) else {
         return output::put_bad(out, at, Flaw::Number);
     };
-    let Parsed::Value(black) = numbers::set(words::word(arg, 1)) else {
+    let Some(black) = numbers::set(words::word(arg, 1)) else {
         return output::put_bad(out, at, Flaw::Number);
     };
-    let Parsed::Value(kings) = numbers::set(words::word(arg, 2)) else {
+    let Some(kings) = numbers::set(words::word(arg, 2)) else {
         return output::put_bad(out, at, Flaw::Number);
     };
     match side(words::word(arg, 3)) {

@@ -16,7 +16,6 @@ use replies::{answers, states};
 use squares::refusal;
 use squares::refusal::Refusal;
 use texts::bytes;
-use wording::numbers::Parsed;
 use wording::output::Flaw;
 use wording::{escapes, numbers, output, words};
 
@@ -32,13 +31,13 @@ fn read_record(word: &[u8]) -> Option<Move>
     ensures { result ≡ record_of word.now }
 {
     let rest = bytes::after_first(word, b',');
-    let Parsed::Value(from) = numbers::unsigned(bytes::up_to(word, b',')) else {
+    let Some(from) = numbers::unsigned(bytes::up_to(word, b',')) else {
         return None;
     };
-    let Parsed::Value(to) = numbers::unsigned(bytes::up_to(rest, b',')) else {
+    let Some(to) = numbers::unsigned(bytes::up_to(rest, b',')) else {
         return None;
     };
-    let Parsed::Value(captured) = numbers::set(bytes::after_first(rest, b',')) else {
+    let Some(captured) = numbers::set(bytes::after_first(rest, b',')) else {
         return None;
     };
     Some(Move {

@@ -1,5 +1,5 @@
 -- Reading a Hub text gives the board: each letter puts its square's piece, and the 50 squares are the whole board.
-use Rattle.std.specs.Prelude.{Ok}
+use Rattle.std.specs.Prelude.{Ok, None}
 use Prim.Native.Nat.{ℕ, zero, suc, ◌+◌, ◌^◌, ◌<◌, ◌≤◌}
 use mathlib.Core.Path.{◌≡◌, refl, sym, ap, ap₂, ◌∙◌}
 use mathlib.Core.List.{List, ◌∷◌, map}
@@ -63,7 +63,7 @@ letter_is : (b : Board) (n : ℕ) → is_square n ≡ true → hub_char b n ≡ 
 unfolding hub_char piece_at_of contains_of letter
 letter_is b n h = rw h (go (has b.white (bit_of n)) (has b.black (bit_of n)) (has b.kings (bit_of n)))
   where
-    go : (w x k : Bool) → standing_char (cond w (Rattle.positions.specs.Boards.standing_of White k) (cond x (Rattle.positions.specs.Boards.standing_of Black k) Rattle.positions.specs.declared.position.Standing.TheVariants.Nothing))
+    go : (w x k : Bool) → standing_char (cond w (Rattle.positions.specs.Boards.standing_of White k) (cond x (Rattle.positions.specs.Boards.standing_of Black k) (Ok None)))
         ≡ cond w (cond k 87 119) (cond x (cond k 66 98) 101)
     go true x true = refl
     go true x false = refl

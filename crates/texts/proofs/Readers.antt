@@ -116,7 +116,7 @@ side_one [] e = absurd (omega arith)
 side_one (b ∷ []) e = refl
 side_one (b ∷ (x ∷ s)) e = absurd (omega arith)
 
-pub side_other : (s : List ℕ) → (length s ≡ 1 → ⊥) → side_of s ≡ Rattle.squares.specs.declared.piece.Sided.TheVariants.Refused NoSide
+pub side_other : (s : List ℕ) → (length s ≡ 1 → ⊥) → side_of s ≡ Err NoSide
 unfolding side_of
 side_other [] e = refl
 side_other (b ∷ []) e = absurd (e refl)

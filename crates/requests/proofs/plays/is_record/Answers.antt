@@ -7,6 +7,6 @@ pub returns-in-Ok : goal.returns-in-Ok
 unfolding is_record_of
 returns-in-Ok c = sym (ap is_move (sym c.read_record.ensures ∙ c.in-Ok.is))
 
-pub returns-in-Bad : goal.returns-in-Bad
+pub returns-in-None : goal.returns-in-None
 unfolding is_record_of
-returns-in-Bad c = sym (ap is_move (sym c.read_record.ensures ∙ c.in-Bad.is))
+returns-in-None c = sym (ap is_move (sym c.read_record.ensures ∙ c.in-None.is))

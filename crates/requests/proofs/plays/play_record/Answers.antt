@@ -9,6 +9,6 @@ unfolding play_record_of
 returns-in-Ok c =
     c.beside.ensures ∙ ap (beside _) c.play.ensures ∙ sym (ap (play_move c.args.g) (sym c.read_record.ensures ∙ c.in-Ok.is))
 
-pub returns-in-Bad : goal.returns-in-Bad
+pub returns-in-None : goal.returns-in-None
 unfolding play_record_of
-returns-in-Bad c = c.refused_text.ensures ∙ sym (ap (play_move c.args.g) (sym c.read_record.ensures ∙ c.in-Bad.is))
+returns-in-None c = c.refused_text.ensures ∙ sym (ap (play_move c.args.g) (sym c.read_record.ensures ∙ c.in-None.is))

@@ -10,10 +10,10 @@ pub returns-then-x-eq101 : goal.returns-then-x-eq101
 unfolding hub_byte_of
 returns-then-x-eq101 c = rw (eq-eqb _ (code "e") c.if-x-eq101.true)
 
-pub returns-in-Piece : goal.returns-in-Piece
+pub returns-in-Ok : goal.returns-in-Ok
 unfolding hub_byte_of
-returns-in-Piece c =
-    rw (ne_eqb _ (code "e") c.if-x-eq101.false, ← c.from_char.ensures, c.in-Piece.is, ← c.is_king.ensures, ← c.bitboard.ensures) (ap Ok c.with_squares.ensures)
+returns-in-Ok c =
+    rw (ne_eqb _ (code "e") c.if-x-eq101.false, ← c.from_char.ensures, c.in-Ok.is, ← c.is_king.ensures, ← c.bitboard.ensures) (ap Ok c.with_squares.ensures)
 
 pub returns-in-Err : goal.returns-in-Err
 unfolding hub_byte_of

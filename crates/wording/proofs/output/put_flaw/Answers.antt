@@ -28,7 +28,7 @@ unfolding flaw_word
 returns-in-Ok c =
     laws.adds_as (sym (ap flaw_word c.in-Ok.is)) c.put-in-Ok.ensures
 
-pub returns-in-Side : goal.returns-in-Side
+pub returns-in-Ok : goal.returns-in-Ok
 unfolding flaw_word
-returns-in-Side c =
-    laws.adds_as (sym (ap flaw_word c.in-Side.is)) c.put-in-Side.ensures
+returns-in-Ok c =
+    laws.adds_as (sym (ap flaw_word c.in-Ok.is)) c.put-in-Ok.ensures
