@@ -59,7 +59,7 @@ depth_le zero b k e = omega (arith, of_count e)
 depth_le (suc n) b k e = go (ltb 256 (length (legal b))) refl e (λ c j q. depth_le n c j q)
   where
     go : (t : Bool) → ltb 256 (length (legal b)) ≡ t
-        → elim t [ true ↦ Err TooManyMoves | false ↦ sum_from (λ m. depth_count n (successor b m)) 0 (legal b) ] ≡ Ok k
+        → ◌≡◌ {A = Result ℕ Refusal} (elim t [ true ↦ Err TooManyMoves | false ↦ sum_from (λ m. depth_count n (successor b m)) 0 (legal b) ]) (Ok k)
         → ((c : Board) (j : ℕ) → depth_count n c ≡ Ok j → j ≤ most n) → k ≤ 256 * most n
     go true q r ih = absurd (no_count r)
     go false q r ih =
