@@ -14,7 +14,7 @@ use Rattle.positions.specs.declared.moves.Move.{Move}
 use Rattle.captures.specs.Lists.{blank, list_of}
 use Rattle.captures.specs.declared.moves.MoveList.{MoveList}
 use Rattle.rules.specs.Ordered.{legal}
-use Rattle.movegen.specs.Counts.{depth_count, undivided, number_in, counts_below, divided_by, divided_of}
+use Rattle.movegen.specs.Counts.{depth_count, number_in, counts_below, divided_by, divided_of}
 use Rattle.movegen.proofs.Counted.{Counting, counting_none, below}
 
 abbrev number : ℕ → Board → Move → ℕ
@@ -68,14 +68,14 @@ module _ (n : ℕ) (b : Board) where
       ∙ ap (λ (ys : List ℕ). xs ++ ys) (take_zeros (256 - length xs) 256 (omega arith))
 
   pub dividing_done : (counts : List ℕ) (i : ℕ) (list : MoveList) (d : Dividing n b counts i) → i ≡ length (legal b) → length (legal b) ≤ 256 → list ≡ list_of (legal b)
-      → Ok d.total ≡ depth_count (suc n) b → record { answer = Ok tt; list = list; counts = counts } ≡ divided_of n b
+      → Ok d.total ≡ depth_count (suc n) b → Ok (record { list = list; counts = counts }) ≡ divided_of n b
   unfolding divided_of counts_below
   dividing_done counts i list d h l e c =
       let m = length-map (legal b) (number n b) in
-      ap₂ (λ (l : MoveList) (xs : List ℕ). record { answer = Ok tt; list = l; counts = xs }) e
+      ap₂ (λ (l : MoveList) (xs : List ℕ). Ok (record { list = l; counts = xs })) e
       (d.stored ∙ ap₂ (λ (xs : List ℕ) (j : ℕ). xs ++ replicate (256 - j) 0) (take_all i (numbers n b) (omega (arith, m))) (h ∙ sym m) ∙ sym (whole (numbers n b) (omega (arith, m))))
-      ∙ ap (λ (x : Result ℕ Refusal). divided_by x (record { answer = Ok tt; list = list_of (legal b); counts = take 256 (numbers n b ++ replicate 256 0) })) c
+      ∙ ap (λ (x : Result ℕ Refusal). divided_by x (record { list = list_of (legal b); counts = take 256 (numbers n b ++ replicate 256 0) })) c
 
-  pub divided_refused : (e : Refusal) → depth_count (suc n) b ≡ Err e → undivided e ≡ divided_of n b
+  pub divided_refused : (e : Refusal) → depth_count (suc n) b ≡ Err e → Err e ≡ divided_of n b
   unfolding divided_of
-  divided_refused e q = sym (ap (λ (x : Result ℕ Refusal). divided_by x (record { answer = Ok tt; list = list_of (legal b); counts = counts_below n b })) q)
+  divided_refused e q = sym (ap (λ (x : Result ℕ Refusal). divided_by x (record { list = list_of (legal b); counts = counts_below n b })) q)

@@ -1,5 +1,5 @@
 -- The list within a limit, the search in it, the position after a move of it.
-use Rattle.std.specs.Prelude.{Err, Ok}
+use Rattle.std.specs.Prelude.{Err, Ok, Result}
 use mathlib.Core.Path.{◌≡◌, refl, sym, ap, ap₂, ◌∙◌}
 use Prim.Native.Nat.{ℕ, ◌≤◌}
 use native.Mathlib.Omega.{arith}
@@ -27,8 +27,9 @@ use Rattle.rules.specs.Rules.{Fair}
 use Rattle.rules.proofs.Laws.{fair_of_accepted, listed_legal, legal_playable}
 use Rattle.quiets.specs.Tests.{has_quiet_of, has_capture_of}
 use Rattle.quiets.specs.declared.quiets.Listing.{Listing}
-use Rattle.movegen.specs.Lists.{refused_list, listed_of, within_of, has_captures_of, has_quiet_moves_of, played_of, after_of}
-use Rattle.movegen.specs.declared.movegen.Listed.{Listed}
+use Rattle.movegen.specs.Lists.{listed_of, within_of, has_captures_of, has_quiet_moves_of, played_of, after_of}
+use Rattle.captures.specs.declared.moves.MoveList.{MoveList}
+use Rattle.squares.specs.declared.refusal.Refusal.{Refusal}
 use Rattle.capture_laws.proofs.Recorded.{listed_is}
 use Rattle.capture_laws.proofs.Stored.{few_len, few_entries}
 use Rattle.quiet_laws.proofs.Filled.{filled}
@@ -43,11 +44,11 @@ pub within_law : (xs : List Move) (limit : ℕ) → limit ≤ 256 → within_of 
 unfolding within_of listed_of
 within_law xs limit h = go (ltb 256 (length xs)) refl
   where
-    told : Bool → Listed
-    told t = cond t (refused_list TooManyMoves) (record { answer = Ok tt; list = list_of xs })
+    told : Bool → Result MoveList Refusal
+    told t = cond t (Err TooManyMoves) (Ok (list_of xs))
 
-    done : Bool → Listed
-    done t = cond t (record { answer = Ok tt; list = list_of xs }) (refused_list TooManyMoves)
+    done : Bool → Result MoveList Refusal
+    done t = cond t (Ok (list_of xs)) (Err TooManyMoves)
 
     short : (t : Bool) → ltb limit (length xs) ≡ t → told (ltb limit (length xs)) ≡ done (leb (length xs) limit)
     short true e = ap told e ∙ sym (ap done (lt-leb (length xs) limit (ltb-true limit (length xs) e)))

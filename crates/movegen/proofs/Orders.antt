@@ -20,18 +20,17 @@ use Rattle.rules.specs.Lists.{some}
 use Rattle.rules.specs.Ordered.{captures, quiets, legal, listed}
 use Rattle.movegen.specs.Counts.{depth_count, perft_of, divided_of, divide_of}
 use Rattle.movegen.specs.Lists.{listed_of, legal_moves_of, has_captures_of, has_quiet_moves_of, played_of, after_of}
-use Rattle.movegen.specs.Told.{listed_told, divided_told}
 
 pub legal_moves_told : (p : Position) (limit : ℕ)
-    → listed_told (legal_moves_of p limit)
+    → told (legal_moves_of p limit)
     ≡ in_order
     (when 12 (not (sound p)) ∷ when 10 (not (leb limit 256)) ∷ when 17 (not (leb (length (legal (board_of p))) limit)) ∷ [])
     (result (list_of (legal (board_of p))))
 unfolding legal_moves_of listed_of
 legal_moves_told p limit =
-    refused_unless listed_told 12 0 (sound p) _ _ _ _ refl
-    (refused_unless listed_told 10 0 (leb limit 256) _ _ _ _ refl
-    (refused_unless listed_told 17 0 (leb (length (legal (board_of p))) limit) _ _ _ _ refl (none_left _)))
+    refused_unless told 12 0 (sound p) _ _ _ _ refl
+    (refused_unless told 10 0 (leb limit 256) _ _ _ _ refl
+    (refused_unless told 17 0 (leb (length (legal (board_of p))) limit) _ _ _ _ refl (none_left _)))
 
 pub has_captures_told : (p : Position) → told (has_captures_of p) ≡ in_order (when 12 (not (sound p)) ∷ []) (result (some (captures (board_of p))))
 unfolding has_captures_of
@@ -61,6 +60,6 @@ perft_told p depth = refused_unless told 12 0 (sound p) _ _ _ _ refl (refused_un
 
 -- the same by first moves; depth 0 is read as 1
 pub divide_told : (p : Position) (depth : ℕ)
-    → divided_told (divide_of p depth) ≡ in_order (when 12 (not (sound p)) ∷ when 10 (not (leb depth 7)) ∷ []) (divided_told (divided_of (depth - 1) (board_of p)))
+    → told (divide_of p depth) ≡ in_order (when 12 (not (sound p)) ∷ when 10 (not (leb depth 7)) ∷ []) (told (divided_of (depth - 1) (board_of p)))
 unfolding divide_of
-divide_told p depth = refused_unless divided_told 12 0 (sound p) _ _ _ _ refl (refused_unless divided_told 10 0 (leb depth 7) _ _ _ _ refl (none_left _))
+divide_told p depth = refused_unless told 12 0 (sound p) _ _ _ _ refl (refused_unless told 10 0 (leb depth 7) _ _ _ _ refl (none_left _))

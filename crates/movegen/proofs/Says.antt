@@ -1,6 +1,6 @@
 -- What the answers of the entries say in the words of the rules (crates/rules/specs/Rules.antt), for every input: laws that a
 -- caller can cite.
-use Rattle.std.specs.Prelude.{Err, Ok}
+use Rattle.std.specs.Prelude.{Err, Ok, Result}
 use mathlib.Core.Path.{◌≡◌, refl, sym, ap, ◌∙◌}
 use mathlib.Core.Bool.{Bool, true, false, cond}
 use mathlib.Core.List.{List}
@@ -11,7 +11,7 @@ use lib.Dec.{leb, ltb}
 use lib.ListN.{length}
 use borrow.Author.Tests.{leb-true, le-ltb}
 use Rattle.squares.specs.Refusals.{refusal}
-use Rattle.squares.proofs.Refusals.{not_done}
+use Rattle.squares.proofs.Refusals.{not_ok}
 use Rattle.positions.specs.Acceptance.{sound}
 use Rattle.positions.specs.Boards.{board_of}
 use Rattle.positions.specs.Hash.{position_of}
@@ -27,8 +27,9 @@ use Rattle.rules.specs.Rules.{BitMove, Open, Quiet, Legal}
 use Rattle.rules.proofs.Laws.{listed_legal, legal_squares, some_open, some_quiet}
 use Rattle.capture_laws.proofs.Recorded.{listed_is}
 use Rattle.capture_laws.proofs.Stored.{few_entries}
-use Rattle.movegen.specs.Lists.{refused_list, listed_of, legal_moves_of, has_captures_of, has_quiet_moves_of, played_of, after_of}
-use Rattle.movegen.specs.declared.movegen.Listed.{Listed}
+use Rattle.movegen.specs.Lists.{listed_of, legal_moves_of, has_captures_of, has_quiet_moves_of, played_of, after_of}
+use Rattle.captures.specs.declared.moves.MoveList.{MoveList}
+use Rattle.squares.specs.declared.refusal.Refusal.{Refusal}
 use Rattle.movegen.proofs.Answers.{after_one}
 use Rattle.movegen.proofs.Listed.{fair_of}
 
@@ -38,29 +39,27 @@ unfolding listed
 listed_here l m = listed_is l m
 
 -- what the list call answers, by its three tests
-abbrev answered : Position → Bool → Bool → Bool → Listed
-answered p s t u =
-    cond s
-    (cond t (cond u (record { answer = Ok tt; list = list_of (legal (board_of p)) }) (refused_list (refusal 17))) (refused_list (refusal 10)))
-    (refused_list (refusal 12))
+abbrev answered : Position → Bool → Bool → Bool → Result MoveList Refusal
+answered p s t u = cond s (cond t (cond u (Ok (list_of (legal (board_of p)))) (Err (refusal 17))) (Err (refusal 10))) (Err (refusal 12))
 
 -- ---- the list: where it answers, a move is in it exactly when it is legal
-pub moves_say : (p : Position) (limit : ℕ) → (legal_moves_of p limit).answer ≡ Ok tt → (m : Move)
-    → (codes.listed (entries (legal_moves_of p limit).list) m ≡ true) ↔ Legal (board_of p) m
+pub moves_say : (p : Position) (limit : ℕ) (l : MoveList) → legal_moves_of p limit ≡ Ok l → (m : Move)
+    → (codes.listed (entries l) m ≡ true) ↔ Legal (board_of p) m
 unfolding legal_moves_of listed_of
-moves_say p limit e m = go (sound p) refl (leb limit 256) refl (leb (length (legal (board_of p))) limit) refl e
+moves_say p limit list e m = go (sound p) refl (leb limit 256) refl (leb (length (legal (board_of p))) limit) refl e
   where
     go : (s : Bool) → sound p ≡ s → (t : Bool) → leb limit 256 ≡ t → (u : Bool) → leb (length (legal (board_of p))) limit ≡ u
-        → (answered p s t u).answer ≡ Ok tt → (codes.listed (entries (answered p s t u).list) m ≡ true) ↔ Legal (board_of p) m
+        → answered p s t u ≡ Ok list → (codes.listed (entries list) m ≡ true) ↔ Legal (board_of p) m
     go true s true t true u h =
         let a = leb-true limit 256 t in
         let b = leb-true (length (legal (board_of p))) limit u in
-        let l = ap (λ (x : List Move). codes.listed x m) (few_entries (legal (board_of p)) (omega arith)) ∙ listed_here (legal (board_of p)) m in
+        let q : list_of (legal (board_of p)) ≡ list = cc in
+        let l = ap (λ (x : MoveList). codes.listed (entries x) m) (sym q) ∙ ap (λ (x : List Move). codes.listed x m) (few_entries (legal (board_of p)) (omega arith)) ∙ listed_here (legal (board_of p)) m in
         let r = listed_legal (board_of p) (fair_of p s) m in
         ((λ q. r.0 (sym l ∙ q)), (λ q. l ∙ r.1 q))
-    go true s true t false u h = not_done (refusal 17) h
-    go true s false t u v h = not_done (refusal 10) h
-    go false s t u v w h = not_done (refusal 12) h
+    go true s true t false u h = not_ok (refusal 17) h
+    go true s false t u v h = not_ok (refusal 10) h
+    go false s t u v w h = not_ok (refusal 12) h
 
 -- ---- the tests: where they answer, they say whether a jump is open, and whether there is a quiet move
 pub captures_say : (p : Position) (t : Bool) → has_captures_of p ≡ Ok t → (t ≡ true) ↔ Open (board_of p)

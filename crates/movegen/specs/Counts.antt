@@ -8,7 +8,7 @@ use Rattle.positions.specs.Boards.{Board, board_of}
 use Rattle.positions.specs.Successor.{successor}
 use Rattle.positions.specs.declared.moves.Move.{Move}
 use Rattle.positions.specs.declared.position.Position.{Position}
-use Rattle.captures.specs.Lists.{no_moves, list_of}
+use Rattle.captures.specs.Lists.{list_of}
 use Rattle.rules.specs.Ordered.{legal}
 use Rattle.movegen.specs.declared.perft.Divided.{Divided}
 
@@ -34,10 +34,6 @@ perft_of p depth = cond (sound p) (cond (leb depth 7) (depth_count depth (board_
 
 -- ---- by first moves
 
--- where refused: no moves, all counts 0
-abbrev pub undivided : Refusal → Divided
-undivided e = record { answer = Err e; list = no_moves; counts = replicate 256 0 }
-
 -- the number of a count, 0 where it is refused
 unfoldable pub number_in : Result ℕ Refusal → ℕ
 number_in (Ok n) = n
@@ -47,14 +43,14 @@ number_in (Err e) = 0
 unfoldable pub counts_below : ℕ → Board → List ℕ
 counts_below n b = take 256 (map (λ m. number_in (depth_count n (successor b m))) (legal b) ++ replicate 256 0)
 
-abbrev pub divided_by : Result ℕ Refusal → Divided → Divided
-divided_by (Ok n) d = d
-divided_by (Err e) d = undivided e
+abbrev pub divided_by : Result ℕ Refusal → Divided → Result Divided Refusal
+divided_by (Ok n) d = Ok d
+divided_by (Err e) d = Err e
 
 -- it is refused exactly where the whole count is
-unfoldable pub divided_of : ℕ → Board → Divided
-divided_of n b = divided_by (depth_count (suc n) b) (record { answer = Ok tt; list = list_of (legal b); counts = counts_below n b })
+unfoldable pub divided_of : ℕ → Board → Result Divided Refusal
+divided_of n b = divided_by (depth_count (suc n) b) (record { list = list_of (legal b); counts = counts_below n b })
 
 -- depth 0 is read as 1
-unfoldable pub divide_of : Position → ℕ → Divided
-divide_of p depth = cond (sound p) (cond (leb depth 7) (divided_of (depth - 1) (board_of p)) (undivided (refusal 10))) (undivided (refusal 12))
+unfoldable pub divide_of : Position → ℕ → Result Divided Refusal
+divide_of p depth = cond (sound p) (cond (leb depth 7) (divided_of (depth - 1) (board_of p)) (Err (refusal 10))) (Err (refusal 12))

@@ -2,5 +2,4 @@ pub mod Generate
 pub mod Lists
 pub mod Counts
 pub mod LastPly
-pub mod Told
 pub mod Computed

@@ -10,34 +10,25 @@ use Rattle.positions.specs.Moves.{squares_of}
 use Rattle.positions.specs.Successor.{successor}
 use Rattle.positions.specs.declared.moves.Move.{Move}
 use Rattle.positions.specs.declared.position.Position.{Position}
-use Rattle.captures.specs.Lists.{no_moves, list_of}
+use Rattle.captures.specs.Lists.{list_of}
 use Rattle.rules.specs.Ordered.{captures, quiets, legal, listed}
 use Rattle.quiets.specs.declared.quiets.Listing.{Listing}
 use Rattle.rules.specs.Lists.{some}
-use Rattle.movegen.specs.declared.movegen.Listed.{Listed}
-
--- no moves, every entry blank
-abbrev pub no_list : Result Unit Refusal → Listed
-no_list a = record { answer = a; list = no_moves }
-
--- the same where the call is refused
-abbrev pub refused_list : Refusal → Listed
-refused_list e = no_list (Err e)
+use Rattle.captures.specs.declared.moves.MoveList.{MoveList}
 
 -- the moves and then blanks, if there are at most `limit` moves; else 17
-unfoldable pub listed_of : ℕ → List Move → Listed
-listed_of limit xs = cond (leb (length xs) limit) (record { answer = Ok tt; list = list_of xs }) (refused_list (refusal 17))
+unfoldable pub listed_of : ℕ → List Move → Result MoveList Refusal
+listed_of limit xs = cond (leb (length xs) limit) (Ok (list_of xs)) (Err (refusal 17))
 
-unfoldable pub legal_moves_of : Position → ℕ → Listed
+unfoldable pub legal_moves_of : Position → ℕ → Result MoveList Refusal
 legal_moves_of p limit =
     cond (sound p)
-    (cond (leb limit 256) (listed_of limit (legal (board_of p))) (refused_list (refusal 10)))
-    (refused_list (refusal 12))
+    (cond (leb limit 256) (listed_of limit (legal (board_of p))) (Err (refusal 10)))
+    (Err (refusal 12))
 
 -- the same as the code tests it: the mark for more than 256 moves, or a length above the limit
-unfoldable pub within_of : Listing → ℕ → Listed
-within_of l limit =
-    cond (l.overflow || ltb limit l.list.len) (refused_list (refusal 17)) (record { answer = Ok tt; list = l.list })
+unfoldable pub within_of : Listing → ℕ → Result MoveList Refusal
+within_of l limit = cond (l.overflow || ltb limit l.list.len) (Err (refusal 17)) (Ok l.list)
 
 unfoldable pub has_captures_of : Position → Result Bool Refusal
 has_captures_of p = cond (sound p) (Ok (some (captures (board_of p)))) (Err (refusal 12))

@@ -20,7 +20,7 @@ ghost use Rattle.quiets.specs.Quiets.{listing};
 ghost use Rattle.shorts.specs.Noted.{few};
 ghost use Rattle.positions.specs.Boards.{board_of};
 ghost use Rattle.movegen.specs.Generate.{view_of, long_captures_of, generate_of};
-ghost use Rattle.movegen.specs.Lists.{no_list, refused_list, within_of, legal_moves_of, has_captures_of, has_quiet_moves_of, after_of};
+ghost use Rattle.movegen.specs.Lists.{within_of, legal_moves_of, has_captures_of, has_quiet_moves_of, after_of};
 
 use crate::moves::{MAX_MOVES, MoveList};
 use crate::position;
@@ -36,13 +36,6 @@ use squares::refusal::Refusal;
 
 // A side with more kings than this skips the short list of captures.
 const FEW_KINGS: u32 = 3;
-
-// The answer and the list. Where the call is refused, the list is empty.
-#[derive(Clone, Copy)]
-pub struct Listed {
-    pub answer: Result<(), Refusal>,
-    pub list: MoveList,
-}
 
 // A board as the side to move sees it: its own pieces, the enemy's, the kings of both. Depth counts need no more.
 #[derive(Clone, Copy)]
@@ -135,90 +128,55 @@ pub(crate) fn generate(v: View) -> Listing
     quiets::quiets::quiet_moves(men, kings, empty, side)
 }
 
-// The empty list, with this answer.
-pub fn no_moves(answer: Result<(), Refusal>) -> Listed
-    ensures { result ≡ no_list answer }
-{
-    let list = MoveList::new();
-    Listed {
-        answer: answer,
-        list: list,
-    }
-}
-
-fn refused(e: Refusal) -> Listed
-    ensures { result ≡ refused_list e }
-{
-    no_moves(Err(e))
-}
-
 // The list if it has at most `limit` moves, else 17.
-fn within(l: Listing, limit: usize) -> Listed
+fn within(l: Listing, limit: usize) -> Result<MoveList, Refusal>
     ensures { result ≡ within_of l limit }
 {
     let list = l.list;
     if l.overflow | (limit < list.len) {
-        return refused(Refusal::TooManyMoves);
-    }
-    Listed {
-        answer: Ok(()),
-        list: list,
+        Err(Refusal::TooManyMoves)
+    } else {
+        Ok(list)
     }
 }
 
 // All legal moves, at most `limit` of them. Refusals: 12, 10, 17.
-pub fn legal_moves(p: Position, limit: usize) -> Listed
+pub fn legal_moves(p: Position, limit: usize) -> Result<MoveList, Refusal>
     ensures { result ≡ legal_moves_of p limit }
 {
-    if p.sound() {
-        if limit <= MAX_MOVES {
-            return within(generate(View::of(p)), limit);
-        }
-        return refused(Refusal::BeyondLimit);
-    }
-    refused(Refusal::BadPosition)
+    Refusal::BadPosition.unless(p.sound())?;
+    Refusal::BeyondLimit.unless(limit <= MAX_MOVES)?;
+    within(generate(View::of(p)), limit)
 }
 
 // Whether the side to move has a capture. Refusal: 12.
 pub fn has_captures(p: Position) -> Result<bool, Refusal>
     ensures { result ≡ has_captures_of p }
 {
-    if p.sound() {
-        let side = p.side;
-        let them = p.pieces(side.not());
-        return Ok(quiets::quiets::has_capture(p.men(side), p.kings(side), them, p.empty()));
-    }
-    Err(Refusal::BadPosition)
+    Refusal::BadPosition.unless(p.sound())?;
+    let side = p.side;
+    let them = p.pieces(side.not());
+    Ok(quiets::quiets::has_capture(p.men(side), p.kings(side), them, p.empty()))
 }
 
 // Whether the side to move has a quiet move, even where it must capture. Refusal: 12.
 pub fn has_quiet_moves(p: Position) -> Result<bool, Refusal>
     ensures { result ≡ has_quiet_moves_of p }
 {
-    if p.sound() {
-        let side = p.side;
-        return Ok(quiets::quiets::has_quiet(p.men(side), p.kings(side), p.empty(), side));
-    }
-    Err(Refusal::BadPosition)
+    Refusal::BadPosition.unless(p.sound())?;
+    let side = p.side;
+    Ok(quiets::quiets::has_quiet(p.men(side), p.kings(side), p.empty(), side))
 }
 
 // The position after a legal move, with its hash. Refusals: 12, 11, 17, 15.
 pub fn after(p: Position, m: Move) -> Result<Position, Refusal>
     ensures { result ≡ after_of p m }
 {
-    if p.sound() {
-        if m.on_board() {
-            let l = generate(View::of(p));
-            let list = l.list;
-            if l.overflow {
-                return Err(Refusal::TooManyMoves);
-            }
-            if list.contains(m) {
-                return Ok(position::play(p, m));
-            }
-            return Err(Refusal::NoMoveFits);
-        }
-        return Err(Refusal::NoSuchSquare);
-    }
-    Err(Refusal::BadPosition)
+    Refusal::BadPosition.unless(p.sound())?;
+    Refusal::NoSuchSquare.unless(m.on_board())?;
+    let l = generate(View::of(p));
+    Refusal::TooManyMoves.unless(!l.overflow)?;
+    let list = l.list;
+    Refusal::NoMoveFits.unless(list.contains(m))?;
+    Ok(position::play(p, m))
 }

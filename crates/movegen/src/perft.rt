@@ -16,7 +16,7 @@ ghost use Rattle.squares.specs.Squares.{single};
 ghost use Rattle.positions.specs.Acceptance.{Accepted};
 ghost use Rattle.movegen.specs.Generate.{seen, listing_of, capture_moves_of, next_of};
 ghost use Rattle.movegen.specs.LastPly.{limited_count, listed_count, last_ply_of};
-ghost use Rattle.movegen.specs.Counts.{depth_count, perft_of, undivided, divided_of, divide_of};
+ghost use Rattle.movegen.specs.Counts.{depth_count, perft_of, divided_of, divide_of};
 
 use crate::movegen::View;
 use crate::moves::{MAX_MOVES, MoveList};
@@ -32,11 +32,9 @@ use squares::{bitboard, square};
 // The largest depth: 256^7 still fits in 64 bits.
 pub const MAX_DEPTH: u32 = 7;
 
-// The first moves and the count after each; unused counts are 0. Where the call is refused, the list is empty and all
-// counts are 0.
+// The first moves and the count after each; unused counts are 0.
 #[derive(Clone, Copy)]
 pub struct Divided {
-    pub answer: Result<(), Refusal>,
     pub list: MoveList,
     pub counts: [u64; 256],
 }
@@ -127,20 +125,9 @@ fn count(v: View, depth: u32) -> Result<u64, Refusal>
         return Err(Refusal::TooManyMoves);
     }
     let list = l.list;
-    let len = list.len;
     let mut sum: u64 = 0;
-    let mut i = 0;
-    while i < len {
-        let mv = list.moves[i];
-        match count(next(v, mv), depth - 1) {
-            Ok(n) => {
-                sum += n;
-            }
-            Err(e) => {
-                return Err(e);
-            }
-        }
-        i += 1;
+    for i in 0..list.len {
+        sum += count(next(v, list.moves[i]), depth - 1)?;
     }
     Ok(sum)
 }
@@ -149,78 +136,33 @@ fn count(v: View, depth: u32) -> Result<u64, Refusal>
 pub fn perft(p: Position, depth: u32) -> Result<u64, Refusal>
     ensures { result ≡ perft_of p depth }
 {
-    if p.sound() {
-        if depth <= MAX_DEPTH {
-            return count(View::of(p), depth);
-        }
-        return Err(Refusal::BeyondLimit);
-    }
-    Err(Refusal::BadPosition)
-}
-
-fn refused(e: Refusal) -> Divided
-    ensures { result ≡ undivided e }
-{
-    let list = MoveList::new();
-    let counts = [0u64; 256];
-    Divided {
-        answer: Err(e),
-        list: list,
-        counts: counts,
-    }
+    Refusal::BadPosition.unless(p.sound())?;
+    Refusal::BeyondLimit.unless(depth <= MAX_DEPTH)?;
+    count(View::of(p), depth)
 }
 
 // The count after each first move, with `plies` plies still to play.
-fn split(v: View, plies: u32) -> Divided
+fn split(v: View, plies: u32) -> Result<Divided, Refusal>
     requires { Accepted (seen v) × (plies ≤ 6) }
     ensures { result ≡ divided_of plies (seen v) }
 {
     let l = movegen::generate(v);
     if l.overflow {
-        return refused(Refusal::TooManyMoves);
+        return Err(Refusal::TooManyMoves);
     }
     let list = l.list;
-    let len = list.len;
     let mut counts = [0u64; 256];
-    let mut i = 0;
-    while i < len {
-        let mv = list.moves[i];
-        match count(next(v, mv), plies) {
-            Ok(n) => {
-                counts[i] = n;
-            }
-            Err(e) => {
-                return refused(e);
-            }
-        }
-        i += 1;
+    for i in 0..list.len {
+        counts[i] = count(next(v, list.moves[i]), plies)?;
     }
-    Divided {
-        answer: Ok(()),
-        list: list,
-        counts: counts,
-    }
-}
-
-// The plies after the first one. Depth 0 is read as 1.
-fn below(depth: u32) -> u32
-    ensures { result ≡ depth - 1 }
-{
-    if depth == 0 {
-        return 0;
-    }
-    depth - 1
+    Ok(Divided { list, counts })
 }
 
 // The depth count split by first move. Depth 0 is read as 1. Refusals: 12, 10, 17.
-pub fn divide(p: Position, depth: u32) -> Divided
+pub fn divide(p: Position, depth: u32) -> Result<Divided, Refusal>
     ensures { result ≡ divide_of p depth }
 {
-    if p.sound() {
-        if depth <= MAX_DEPTH {
-            return split(View::of(p), below(depth));
-        }
-        return refused(Refusal::BeyondLimit);
-    }
-    refused(Refusal::BadPosition)
+    Refusal::BadPosition.unless(p.sound())?;
+    Refusal::BeyondLimit.unless(depth <= MAX_DEPTH)?;
+    split(View::of(p), depth.saturating_sub(1))
 }

@@ -15,6 +15,15 @@ pub and_both : (x y : Bool) → x ≡ true → y ≡ true → (x && y) ≡ true
 and_both true y h l = l
 and_both false y h l = h
 
+-- ---- negations
+pub not_true : (x : Bool) → not x ≡ true → x ≡ false
+not_true true h = absurd (false≢true h)
+not_true false h = refl
+
+pub not_false : (x : Bool) → not x ≡ false → x ≡ true
+not_false true h = refl
+not_false false h = absurd (true≢false h)
+
 -- ---- disjunctions
 pub or_none : (x y : Bool) → (x || y) ≡ false → (x ≡ false) × (y ≡ false)
 or_none true y h = absurd (true≢false h)

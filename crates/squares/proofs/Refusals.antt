@@ -1,7 +1,7 @@
 -- Laws on the refusals' numbers and squares. Only `split` looks at them one by one; no other crate does.
 use Rattle.std.specs.Prelude.{Err, Ok, Result}
-use Rattle.std.proofs.Common.{◌≡◌, ℕ, zero, suc, ◌<◌, ◌≤◌, true, eqb, ltb, refl, arith, ltb-true, eqb-true}
-use Rattle.squares.specs.Refusals.{number_of, square_of, answer_number_of, refusal_at, refusal}
+use Rattle.std.proofs.Common.{◌≡◌, ℕ, zero, suc, ◌<◌, ◌≤◌, Bool, true, false, cond, eqb, ltb, refl, arith, ltb-true, eqb-true}
+use Rattle.squares.specs.Refusals.{number_of, square_of, unless_of, answer_number_of, refusal_at, refusal}
 use Rattle.squares.specs.declared.refusal.Refusal.{Refusal}
 use Rattle.squares.specs.declared.refusal.Refusal.TheVariants.{TextTooLong, NoSide, NoColor, BadSquare, BadHubByte, NotFifty, Overlap, ManOnPromotionRow, BadMoveText, BeyondLimit, NoSuchSquare, BadPosition, BadGame, GameOver, NoMoveFits, SeveralFit, TooManyMoves, FenTooLong, SpaceTooShort}
 use Rattle.squares.proofs.Below.{below, below_at}
@@ -35,13 +35,49 @@ refusal_of e = (split e).0
 pub number_fits : (e : Refusal) → number_of e < 256
 number_fits e = omega (arith, ltb-true (number_of e) 20 (split e).1)
 
-pub answer_fits : (a : Result Unit Refusal) → answer_number_of a < 256
-answer_fits (Ok tt) = omega arith
+pub answer_fits : {A : Type 0} (a : Result A Refusal) → answer_number_of a < 256
+answer_fits (Ok x) = omega arith
 answer_fits (Err e) = number_fits e
 
--- a refusal is not done
-pub not_done : {A : Type 0} (e : Refusal) → ◌≡◌ {A = Result Unit Refusal} (Err e) (Ok tt) → A
-not_done e h = let z : ◌≡◌ {A = ℕ} 0 1 = cc in absurd (omega arith)
+-- a refusal is no result
+pub not_ok : {A B : Type 0} (e : Refusal) {x : A} → ◌≡◌ {A = Result A Refusal} (Err e) (Ok x) → B
+not_ok e h = let z : ◌≡◌ {A = ℕ} 0 1 = cc in absurd (omega arith)
+
+-- ---- guards: `e.unless(test)?`
+
+module _ (e : Refusal) (test : Bool) where
+  -- where the guard lets pass, the test holds
+  pub holds : {u : Unit {0}} → ◌≡◌ {A = Result Unit Refusal} (Ok u) (unless_of e test) → test ≡ true
+  holds q = go test q
+    where
+      go : (t : Bool) {u : Unit {0}} → ◌≡◌ {A = Result Unit Refusal} (Ok u) (unless_of e t) → t ≡ true
+      go true q = refl
+      go false q = cc
+
+  -- where it stops, the test does not hold
+  pub fails : {f : Refusal} → ◌≡◌ {A = Result Unit Refusal} (Err f) (unless_of e test) → test ≡ false
+  fails q = go test q
+    where
+      go : (t : Bool) {f : Refusal} → ◌≡◌ {A = Result Unit Refusal} (Err f) (unless_of e t) → t ≡ false
+      go true q = cc
+      go false q = refl
+
+module _ {A : Type 0} (e : Refusal) (test : Bool) where
+  -- what a function answers where the guard stops it
+  pub stopped : (x : Result A Refusal) {f : Refusal} → ◌≡◌ {A = Result Unit Refusal} (Err f) (unless_of e test) → Err f ≡ cond test x (Err e)
+  stopped x q = go test q
+    where
+      go : (t : Bool) {f : Refusal} → ◌≡◌ {A = Result Unit Refusal} (Err f) (unless_of e t) → Err f ≡ cond t x (Err e)
+      go true q = cc
+      go false q = cc
+
+  -- what it answers where the guard lets pass
+  pub passed : (x : Result A Refusal) {u : Unit {0}} → ◌≡◌ {A = Result Unit Refusal} (Ok u) (unless_of e test) → x ≡ cond test x (Err e)
+  passed x q = go test q
+    where
+      go : (t : Bool) {u : Unit {0}} → ◌≡◌ {A = Result Unit Refusal} (Ok u) (unless_of e t) → x ≡ cond t x (Err e)
+      go true q = refl
+      go false q = cc
 
 -- the refusal with a number from 1 to 19 has that number
 pub refusal_number : (n square : ℕ) → 1 ≤ n → n ≤ 19 → number_of (refusal_at n square) ≡ n

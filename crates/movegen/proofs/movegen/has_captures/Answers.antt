@@ -1,18 +1,24 @@
 -- The test by sets is that of the rules on the board of a sound position.
-use mathlib.Core.Path.{refl, sym, ap, ◌∙◌}
+use Rattle.std.proofs.Common.{rules}
+use Rattle.std.specs.Prelude.{Err}
+use mathlib.Core.Path.{◌≡◌, sym, ap, ◌∙◌}
 use Rattle.squares.specs.declared.piece.Color.{Color}
+use Rattle.squares.proofs.Refusals.{holds, stopped}
+use Rattle.positions.specs.Acceptance.{sound}
 use Rattle.positions.specs.Boards.{board_of, colored}
 use Rattle.movegen.specs.Lists.{has_captures_of}
 use Rattle.movegen.proofs.Listed.{captures_tested}
 use Rattle.movegen.proofs.movegen.has_captures.Goals as goal
 
-pub returns-then-sound : goal.returns-then-sound
-returns-then-sound c =
-    let p = c.args.p in
-    captures_tested p (sym c.sound.ensures ∙ c.if-sound.true) _ _ _ _ _ c.men.ensures c.kings.ensures
-    (c.pieces-them.ensures ∙ ap (λ (o : Color). colored o (board_of p)) c.not.ensures)
-    c.empty.ensures c.has_capture.ensures
+pub returns-in_err-unless : goal.returns-in_err-unless
+unfolding has_captures_of
+returns-in_err-unless c =
+    let q : c.from_residual.result ≡ Err c.in_err-unless.field-0.0 = search rules in
+    q ∙ stopped _ (sound c.args.p) _ (rw c.sound.ensures at c.in_err-unless.ensures)
 
 pub returns : goal.returns
-unfolding has_captures_of
-returns c = rw (sym c.sound.ensures ∙ c.if-sound.false) refl
+returns c =
+    let p = c.args.p in
+    captures_tested p (sym c.sound.ensures ∙ holds _ _ c.in_ok-unless.ensures) _ _ _ _ _ c.men.ensures c.kings.ensures
+    (c.pieces-them.ensures ∙ ap (λ (o : Color). colored o (board_of p)) c.not.ensures)
+    c.empty.ensures c.has_capture.ensures

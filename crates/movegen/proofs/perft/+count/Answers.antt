@@ -1,6 +1,8 @@
 -- Each turn adds the count below one move of the list of the rules; the depth falls.
 use native.Mathlib.Omega.{arith}
-use mathlib.Core.Path.{sym, ap, ◌∙◌}
+use Rattle.std.proofs.Common.{rules}
+use Rattle.std.specs.Prelude.{Err}
+use mathlib.Core.Path.{◌≡◌, refl, sym, ap, ◌∙◌}
 use Prim.Native.Nat.{ℕ, ◌-◌}
 use Rattle.movegen.specs.Counts.{depth_count}
 use Rattle.movegen.specs.Generate.{seen}
@@ -41,17 +43,19 @@ count-requires t c = (
 
 pub overflow_add-sum : goal.overflow_add-sum
 overflow_add-sum t c =
-    omega (arith, sum_fits c.args.v c.requires.0 _ c.generate-l.ensures c.if-l.false (c.args.depth - 1) _ _ c.loop-i.invariant.1 c.loop-i-test.true _ c.next.ensures (omega (arith, c.requires.1)) _ c.count.ensures _ c.in-Ok.is)
+    omega (arith, sum_fits c.args.v c.requires.0 _ c.generate-l.ensures c.if-l.false (c.args.depth - 1) _ _ c.loop-i.invariant.1 c.loop-i-test.true _ c.next.ensures (omega (arith, c.requires.1)) _ c.in_ok-sum.ensures _ refl)
 
-pub returns-in-Err : goal.returns-in-Err
-returns-in-Err t c =
-    sum_refused c.args.v c.requires.0 _ c.generate-l.ensures c.if-l.false (c.args.depth - 1) _ _ c.loop-i.invariant.1 c.loop-i-test.true _ c.next.ensures (omega (arith, c.requires.1)) _ c.count.ensures _ c.in-Err.is
+pub returns-in_err-sum : goal.returns-in_err-sum
+returns-in_err-sum t c =
+    let q : c.from_residual.result ≡ Err c.in_err-sum.field-0.0 = search rules in
+    q
+    ∙ sum_refused c.args.v c.requires.0 _ c.generate-l.ensures c.if-l.false (c.args.depth - 1) _ _ c.loop-i.invariant.1 c.loop-i-test.true _ c.next.ensures (omega (arith, c.requires.1)) _ c.in_err-sum.ensures _ refl
     ∙ one_more c.args.depth (seen c.args.v) c.if-depth-eq0.false
 
 pub loop-i-preserved : goal.loop-i-preserved
 loop-i-preserved t c = (
   omega arith,
-  sum_again c.args.v c.requires.0 _ c.generate-l.ensures c.if-l.false (c.args.depth - 1) _ _ c.loop-i.invariant.1 c.loop-i-test.true _ c.next.ensures (omega (arith, c.requires.1)) _ c.count.ensures _ c.in-Ok.is,
+  sum_again c.args.v c.requires.0 _ c.generate-l.ensures c.if-l.false (c.args.depth - 1) _ _ c.loop-i.invariant.1 c.loop-i-test.true _ c.next.ensures (omega (arith, c.requires.1)) _ c.in_ok-sum.ensures _ refl,
 )
 
 pub returns : goal.returns

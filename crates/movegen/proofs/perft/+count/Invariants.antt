@@ -7,7 +7,4 @@ abbrev pub decreases-count : goal.decreases-count
 decreases-count l = l.depth
 
 abbrev pub invariant-loop-i : goal.invariant-loop-i
-invariant-loop-i l = (l.i ≤ l.len) × Counting (l.depth - 1) (seen l.v) l.sum l.i
-
-abbrev pub decreases-loop-i : goal.decreases-loop-i
-decreases-loop-i l = l.len - l.i
+invariant-loop-i l = (l.i ≤ l.i-end) × Counting (l.depth - 1) (seen l.v) l.sum l.i

@@ -1,5 +1,7 @@
 -- Each turn stores the count below one move of the list of the rules; a refusal is that of the whole count.
-use mathlib.Core.Path.{sym, ap, ◌∙◌}
+use Rattle.std.proofs.Common.{rules}
+use Rattle.std.specs.Prelude.{Err}
+use mathlib.Core.Path.{◌≡◌, refl, sym, ap, ◌∙◌}
 use Rattle.quiets.specs.declared.quiets.Listing.{Listing}
 use Rattle.movegen.specs.Generate.{seen}
 use Rattle.movegen.proofs.Counted.{depth_many, many, listing_short, in_array, sum_below, next_accepted, sum_again, sum_refused, sum_done}
@@ -9,7 +11,7 @@ use Rattle.movegen.proofs.perft.split.Goals as goal
 
 pub returns-then-l : goal.returns-then-l
 returns-then-l c =
-    c.refused.ensures ∙ divided_refused c.args.plies (seen c.args.v) _ (sym (depth_many c.args.plies (seen c.args.v) (many c.args.v c.requires.0 _ c.generate-l.ensures c.if-l.true)))
+    divided_refused c.args.plies (seen c.args.v) _ (sym (depth_many c.args.plies (seen c.args.v) (many c.args.v c.requires.0 _ c.generate-l.ensures c.if-l.true)))
 
 pub loop-i-init : goal.loop-i-init
 loop-i-init c = (omega arith, dividing_none _ _)
@@ -41,12 +43,13 @@ bounds-counts-i c =
     let d = c.loop-i.invariant.1 in
     in_array c.args.v c.requires.0 _ c.generate-l.ensures c.if-l.false c.args.plies _ _ d.counting c.loop-i-test.true
 
-pub returns-in-Err : goal.returns-in-Err
-returns-in-Err c =
+pub returns-in_err-counts : goal.returns-in_err-counts
+returns-in_err-counts c =
     let d = c.loop-i.invariant.1 in
     let h = c.loop-i-test.true in
-    c.refused-in-Err.ensures
-    ∙ divided_refused c.args.plies (seen c.args.v) _ (sym (sum_refused c.args.v c.requires.0 _ c.generate-l.ensures c.if-l.false c.args.plies _ _ d.counting h _ c.next.ensures c.requires.1 _ c.count.ensures _ c.in-Err.is))
+    let q : c.from_residual.result ≡ Err c.in_err-counts.field-0.0 = search rules in
+    q
+    ∙ divided_refused c.args.plies (seen c.args.v) _ (sym (sum_refused c.args.v c.requires.0 _ c.generate-l.ensures c.if-l.false c.args.plies _ _ d.counting h _ c.next.ensures c.requires.1 _ c.in_err-counts.ensures _ refl))
 
 pub loop-i-preserved : goal.loop-i-preserved
 loop-i-preserved c =
@@ -55,8 +58,8 @@ loop-i-preserved c =
     let w = listing_short c.args.v c.requires.0 _ c.generate-l.ensures c.if-l.false c.args.plies _ _ d.counting in (
       omega (arith, h),
       dividing_more c.args.plies (seen c.args.v) _ _ _ d (omega (arith, w.len, h)) (omega (arith, w.len, w.few, h))
-          (sum_below c.args.v c.requires.0 _ c.generate-l.ensures c.if-l.false c.args.plies _ _ d.counting h _ c.next.ensures _ _ c.count.ensures c.in-Ok.is)
-          (sum_again c.args.v c.requires.0 _ c.generate-l.ensures c.if-l.false c.args.plies _ _ d.counting h _ c.next.ensures c.requires.1 _ c.count.ensures _ c.in-Ok.is),
+          (sum_below c.args.v c.requires.0 _ c.generate-l.ensures c.if-l.false c.args.plies _ _ d.counting h _ c.next.ensures _ _ c.in_ok-counts.ensures refl)
+          (sum_again c.args.v c.requires.0 _ c.generate-l.ensures c.if-l.false c.args.plies _ _ d.counting h _ c.next.ensures c.requires.1 _ c.in_ok-counts.ensures _ refl),
     )
 
 pub returns : goal.returns
