@@ -1,6 +1,6 @@
 -- Demand 3 for every sound start and every list of move records: one play at a time the game's answer is the book's, and the
 -- game stands for the book again.
-use Rattle.std.specs.Prelude.{Err, Ok}
+use Rattle.std.specs.Prelude.{Err, Ok, Result}
 use mathlib.Core.Path.{◌≡◌, refl, sym, ap, ap₂, ◌∙◌}
 use Prim.Native.Nat.{ℕ, suc, ◌+◌}
 use mathlib.Core.Bool.{Bool, true, false, not, cond}
@@ -30,9 +30,8 @@ use Rattle.movegen.proofs.Answers.{after_many, after_none, after_one}
 use Rattle.games.specs.Book.{Book, tally_of, standing, begun_book, Verdict, goes_on, ends, book_outcome, over, book_answer, reached, book_next, book_answers, book_after}
 use Rattle.games.specs.Demand3.{answers_to, game_after, heard_of, heard, told_as, book_of, AtAccepted, TakesMost, NoneOpen, Demand3}
 use Rattle.games.specs.Games.{last_of, valid, stood, judged_of, ended}
-use Rattle.games.specs.Play.{fresh_of, not_begun, new_of, moved_of, refused_play, reached_of, play_of, outcome_of}
+use Rattle.games.specs.Play.{fresh_of, new_of, moved_of, reached_of, play_of, after_play, outcome_of}
 use Rattle.games.specs.declared.game.Game.{Game}
-use Rattle.games.specs.declared.game.Played.{Played}
 use Rattle.games.proofs.BookPlay.{meets, next_of, accepted_listed}
 use Rattle.games.proofs.RefusedPlay.{refused_stands}
 use Rattle.games.proofs.Stands.{Stands, begun_stands, now_sound, now_accepted, same_outcome, room, moved_stands}
@@ -41,13 +40,13 @@ use Rattle.games.proofs.Valid.{alone_last}
 
 -- ---- the program's play, case by case
 module _ (g : Game) (m : Move) (v : valid g ≡ true) where
-  abbrev told : Bool → Bool → Played → Played
-  told q o r = cond q (cond o (refused_play g GameOver) r) (refused_play g NoSuchSquare)
+  abbrev told : Bool → Bool → Result Game Refusal → Result Game Refusal
+  told q o r = cond q (cond o (Err GameOver) r) (Err NoSuchSquare)
 
   play_is : (q o : Bool) → squares_of m ≡ q → ended (judged_of g) ≡ o → play_of g m ≡ told q o (reached_of g m (after_of (last_of g) m))
   unfolding play_of
   play_is q o e f =
-      ap (λ (t : Bool). cond t (told (squares_of m) (ended (judged_of g)) (reached_of g m (after_of (last_of g) m))) (refused_play g BadGame)) v
+      ap (λ (t : Bool). cond t (told (squares_of m) (ended (judged_of g)) (reached_of g m (after_of (last_of g) m))) (Err BadGame)) v
       ∙ ap₂ (λ (s t : Bool). told s t (reached_of g m (after_of (last_of g) m))) e f
 
 over_told : (v : Verdict) → ended (told_as v) ≡ over v
@@ -56,22 +55,22 @@ over_told (ends o) = refl
 
 -- one play
 record Step (start : Board) (g : Game) (b : Book) (m : Move) : Type 0 where
-  answer : answer_number_of (play_of g m).answer ≡ book_answer b m
-  stands : Stands start (play_of g m).game (book_next b m)
+  answer : answer_number_of (play_of g m) ≡ book_answer b m
+  stands : Stands start (after_play g (play_of g m)) (book_next b m)
 
 module _ (start : Board) (g : Game) (b : Book) (r : Stands start g b) (m : Move) where
   -- refused: game and book stay
-  refused : (e : Refusal) (n : ℕ) → play_of g m ≡ refused_play g e → book_answer b m ≡ suc n → number_of e ≡ suc n → Step start g b m
+  refused : (e : Refusal) (n : ℕ) → play_of g m ≡ Err e → book_answer b m ≡ suc n → number_of e ≡ suc n → Step start g b m
   refused e n p k z = record {
-    answer = ap (λ (x : Played). answer_number_of x.answer) p ∙ z ∙ sym k;
+    answer = ap answer_number_of p ∙ z ∙ sym k;
     stands = refused_stands start g b r m e n p k;
   }
 
   -- accepted: the successor stands in both
-  accepted : (q : Position) → board_of q ≡ reached b m → play_of g m ≡ record { answer = Ok tt; game = moved_of g m q } → book_answer b m ≡ 0
+  accepted : (q : Position) → board_of q ≡ reached b m → play_of g m ≡ Ok (moved_of g m q) → book_answer b m ≡ 0
       → ended (judged_of g) ≡ false → Legal (standing b) m → sound q ≡ true → Step start g b m
   accepted q e p k o h s = record {
-    answer = ap (λ (x : Played). answer_number_of x.answer) p ∙ sym k;
+    answer = ap answer_number_of p ∙ sym k;
     stands = rw (p, next_of b m true (eq-eqb (book_answer b m) 0 k))
         (moved_stands start g b r m (room (board_of (last_of g)) (stood g) g.reversible g.material (unfold judged_of in o)) h q s e);
   }
@@ -134,7 +133,7 @@ unfolding answers_to game_after book_answers book_after AtAccepted
 runs start g b r [] = record { answers = refl; stands = r; most = tt; none = tt }
 runs start g b r (m ∷ ms) =
     let s = step start g b r m in
-    let t = runs start (play_of g m).game (book_next b m) s.stands ms in
+    let t = runs start (after_play g (play_of g m)) (book_next b m) s.stands ms in
     record {
       answers = ap₂ (λ (x : ℕ) (l : List ℕ). x ∷ l) s.answer t.answers;
       stands = t.stands;
@@ -143,13 +142,13 @@ runs start g b r (m ∷ ms) =
     }
 
 -- ---- the law
-pub new_is : (p : Position) → sound p ≡ true → new_of p ≡ record { answer = Ok tt; game = fresh_of p }
+pub new_is : (p : Position) → sound p ≡ true → new_of p ≡ Ok (fresh_of p)
 unfolding new_of
-new_is p s = ap (λ (t : Bool). cond t (record { answer = Ok tt; game = fresh_of p }) (not_begun (refusal 12))) s
+new_is p s = ap (λ (t : Bool). cond t (Ok (fresh_of p)) (Err (refusal 12))) s
 
-outcome_is : (g : Game) → valid g ≡ true → outcome_of g ≡ judged_of g
+outcome_is : (g : Game) → valid g ≡ true → outcome_of g ≡ Ok (judged_of g)
 unfolding outcome_of
-outcome_is g v = ap (λ (t : Bool). cond t (judged_of g) (Err BadGame)) v
+outcome_is g v = ap (λ (t : Bool). cond t (Ok (judged_of g)) (Err BadGame)) v
 
 pub demand3 : (start : Position) → sound start ≡ true → (moves : List Move) → Demand3 start moves (heard start moves)
 unfolding heard_of
@@ -163,7 +162,7 @@ demand3 start s moves =
       start_stands = unfold fresh_of in ap board_of (alone_last start 0);
       answers = t.answers;
       position = sym r.last;
-      outcome = outcome_is (game_after play_of (fresh_of start) moves) r.valid ∙ same_outcome (board_of start) _ _ r;
+      outcome = outcome_is (game_after play_of (fresh_of start) moves) r.valid ∙ ap Ok (same_outcome (board_of start) _ _ r);
       hash = (now_sound (board_of start) _ _ r).hash;
       men = λ c. ap (λ (x : Board). size (men_of c x) + (tally_of c (book_of start moves)).promotions + (tally_of c (book_of start moves)).men_taken) (sym r.last) ∙ r.men c;
       kings = λ c. ap (λ (x : Board). size (kings_of c x) + (tally_of c (book_of start moves)).kings_taken) (sym r.last) ∙ r.kings c;

@@ -1,6 +1,6 @@
 -- What the entries answer, in the numbers and order of docs/REFUSALS.md: new game 12; outcome and the other questions
 -- 13; a game's list 13, 10, 17; playing a move record 13, 11, 14, 17, 15.
-use Rattle.std.specs.Prelude.{Ok, Result}
+use Rattle.std.specs.Prelude.{Ok, Err, Result}
 use mathlib.Core.Path.{◌≡◌, refl, ap}
 use mathlib.Core.Bool.{Bool, true, false, not, cond}
 use mathlib.Core.List.{[], ◌∷◌}
@@ -19,23 +19,22 @@ use Rattle.positions.specs.declared.moves.Move.{Move}
 use Rattle.positions.specs.declared.position.Position.{Position}
 use Rattle.rules.specs.Ordered.{legal, listed}
 use Rattle.movegen.specs.Lists as movegen
-use Rattle.movegen.specs.Lists.{no_list, after_of}
-use Rattle.movegen.specs.Told.{listed_told}
+use Rattle.movegen.specs.Lists.{after_of}
+use Rattle.captures.specs.Lists.{no_moves}
 use Rattle.movegen.proofs.Answers.{after_many, after_none, after_one}
 use Rattle.games.specs.Games.{last_of, valid, stood, judged_of, ended}
-use Rattle.games.specs.Play.{fresh_of, new_of, moved_of, refused_play, reached_of, play_of, outcome_of, is_over_of, stands_of, repetitions_of, reversible_plies_of, legal_moves_of}
-use Rattle.games.specs.Told.{begun_told, played_told}
+use Rattle.games.specs.Play.{fresh_of, new_of, moved_of, reached_of, play_of, outcome_of, is_over_of, stands_of, repetitions_of, reversible_plies_of, legal_moves_of}
 use Rattle.games.specs.declared.game.Game.{Game}
 use Rattle.games.proofs.Valid.{valid_says}
 use Rattle.games.proofs.Window.{last_sound}
 use Rattle.squares.specs.declared.refusal.Refusal.{Refusal}
 
-pub new_told : (p : Position) → begun_told (new_of p) ≡ in_order (when 12 (not (sound p)) ∷ []) (result (fresh_of p))
+pub new_told : (p : Position) → told (new_of p) ≡ in_order (when 12 (not (sound p)) ∷ []) (result (fresh_of p))
 unfolding new_of
-new_told p = refused_unless begun_told 12 0 (sound p) _ _ _ _ refl (none_left _)
+new_told p = refused_unless told 12 0 (sound p) _ _ _ _ refl (none_left _)
 
 -- 13, then the outcome, or none yet
-pub outcome_told : (g : Game) → told_if_any (outcome_of g) ≡ in_order (when 13 (not (valid g)) ∷ []) (told_if_any (judged_of g))
+pub outcome_told : (g : Game) → told_if_any (outcome_of g) ≡ in_order (when 13 (not (valid g)) ∷ []) (told_if_any (Ok (judged_of g)))
 unfolding outcome_of
 outcome_told g = refused_unless told_if_any 13 0 (valid g) _ _ _ _ refl (none_left _)
 
@@ -60,18 +59,18 @@ reversible_told g = refused_unless told 13 0 (valid g) _ _ _ _ refl (none_left _
 
 -- a game's list: 13, 10, then nothing once there is an outcome, else that of the current position
 pub game_list_told : (g : Game) (limit : ℕ)
-    → listed_told (legal_moves_of g limit)
+    → told (legal_moves_of g limit)
     ≡ in_order (when 13 (not (valid g)) ∷ when 10 (not (leb limit 256)) ∷ [])
-    (listed_told (cond (ended (judged_of g)) (no_list (Ok tt)) (movegen.legal_moves_of (last_of g) limit)))
+    (told (cond (ended (judged_of g)) (Ok no_moves) (movegen.legal_moves_of (last_of g) limit)))
 unfolding legal_moves_of
 game_list_told g limit =
-    refused_unless listed_told 13 0 (valid g) _ _ _ _ refl (refused_unless listed_told 10 0 (leb limit 256) _ _ _ _ refl (none_left _))
+    refused_unless told 13 0 (valid g) _ _ _ _ refl (refused_unless told 10 0 (leb limit 256) _ _ _ _ refl (none_left _))
 
 -- of a game whose array has 51 entries, as every value of the type has
 module _ (g : Game) (long : length g.kept ≡ 51) (m : Move) where
   -- past 13, 11 and 14
   reached_told : valid g ≡ true → squares_of m ≡ true
-      → played_told (reached_of g m (after_of (last_of g) m))
+      → told (reached_of g m (after_of (last_of g) m))
       ≡ in_order (when 17 (ltb 256 (length (legal (board_of (last_of g))))) ∷ when 15 (not (listed (legal (board_of (last_of g))) m)) ∷ []) (result (moved_of g m (position_of (successor (board_of (last_of g)) m))))
   unfolding in_order
   reached_told v q = go (ltb 256 (length (legal (board_of (last_of g))))) refl (listed (legal (board_of (last_of g))) m) refl
@@ -80,12 +79,12 @@ module _ (g : Game) (long : length g.kept ≡ 51) (m : Move) where
       s = last_sound g (valid_says g v) long
 
       go : (t : Bool) → ltb 256 (length (legal (board_of (last_of g)))) ≡ t → (u : Bool) → listed (legal (board_of (last_of g))) m ≡ u
-          → played_told (reached_of g m (after_of (last_of g) m)) ≡ in_order (when 17 t ∷ when 15 (not u) ∷ []) (result (moved_of g m (position_of (successor (board_of (last_of g)) m))))
-      go true t u e = ap (λ (x : Result Position Refusal). played_told (reached_of g m x)) (after_many (last_of g) s m q t)
-      go false t false e = ap (λ (x : Result Position Refusal). played_told (reached_of g m x)) (after_none (last_of g) s m q t e)
-      go false t true e = ap (λ (x : Result Position Refusal). played_told (reached_of g m x)) (after_one (last_of g) s m q t e)
+          → told (reached_of g m (after_of (last_of g) m)) ≡ in_order (when 17 t ∷ when 15 (not u) ∷ []) (result (moved_of g m (position_of (successor (board_of (last_of g)) m))))
+      go true t u e = ap (λ (x : Result Position Refusal). told (reached_of g m x)) (after_many (last_of g) s m q t)
+      go false t false e = ap (λ (x : Result Position Refusal). told (reached_of g m x)) (after_none (last_of g) s m q t e)
+      go false t true e = ap (λ (x : Result Position Refusal). told (reached_of g m x)) (after_one (last_of g) s m q t e)
 
-  pub play_told : played_told (play_of g m)
+  pub play_told : told (play_of g m)
       ≡ in_order
       (when 13 (not (valid g)) ∷ when 11 (not (squares_of m)) ∷ when 14 (ended (judged_of g))
       ∷ when 17 (ltb 256 (length (legal (board_of (last_of g))))) ∷ when 15 (not (listed (legal (board_of (last_of g))) m)) ∷ [])
@@ -94,7 +93,7 @@ module _ (g : Game) (long : length g.kept ≡ 51) (m : Move) where
   play_told = go (valid g) refl (squares_of m) refl (ended (judged_of g))
     where
       go : (v : Bool) → valid g ≡ v → (q : Bool) → squares_of m ≡ q → (o : Bool)
-          → played_told (cond v (cond q (cond o (refused_play g (refusal 14)) (reached_of g m (after_of (last_of g) m))) (refused_play g (refusal 11))) (refused_play g (refusal 13)))
+          → told (cond v (cond q (cond o (Err (refusal 14)) (reached_of g m (after_of (last_of g) m))) (Err (refusal 11))) (Err (refusal 13)))
           ≡ in_order
           (when 13 (not v) ∷ when 11 (not q) ∷ when 14 o
           ∷ when 17 (ltb 256 (length (legal (board_of (last_of g))))) ∷ when 15 (not (listed (legal (board_of (last_of g))) m)) ∷ [])

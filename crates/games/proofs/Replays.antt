@@ -9,9 +9,8 @@ use Rattle.positions.specs.Acceptance.{sound}
 use Rattle.positions.specs.declared.moves.Move.{Move}
 use Rattle.positions.specs.declared.position.Position.{Position}
 use Rattle.games.specs.Play.{fresh_of, new_of, play_of, outcome_of}
-use Rattle.games.specs.Demand3.{answers_to, game_after, heard_of, Demand3}
+use Rattle.games.specs.Demand3.{answers_to, game_after, game_of, heard_of, Demand3}
 use Rattle.games.specs.Replay.{heard_by}
-use Rattle.games.specs.declared.game.Begun.{Begun}
 use Rattle.games.specs.declared.game.Game.{Game}
 use Rattle.games.proofs.Laws.{new_is, demand3}
 use Rattle.games.proofs.Runs.{answers_length}
@@ -20,7 +19,7 @@ module _ (start : Position) (s : sound start ≡ true) (ms : List Move) where
   heard_is : (xs : List ℕ) (g : Game) → xs ≡ answers_to play_of (fresh_of start) ms → g ≡ game_after play_of (fresh_of start) ms
       → Demand3 start ms (record { begun = new_of start; answers = xs; game = g; outcome = outcome_of g })
   unfolding heard_of new_of
-  heard_is xs g e f = rw (e, f) (rw (ap (λ (b : Begun). b.game) (new_is start s)) at (demand3 start s ms))
+  heard_is xs g e f = rw (e, f) (rw (ap game_of (new_is start s)) at (demand3 start s ms))
 
   -- the answers as written, later bytes behind them
   pub demand_held : (out rest : List ℕ) (g : Game) → out ≡ answers_to play_of (fresh_of start) ms ++ rest → g ≡ game_after play_of (fresh_of start) ms

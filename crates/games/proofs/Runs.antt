@@ -1,4 +1,5 @@
 -- Laws on a list of plays, one play at a time, and on the numbers that records are lent as.
+use Rattle.std.specs.Prelude.{Err}
 use mathlib.Core.Path.{◌≡◌, refl, sym, ap, ap₂, ◌∙◌}
 use Prim.Native.Nat.{ℕ, zero, suc, ◌+◌, ◌*◌, ◌/◌, ◌<◌}
 use native.Mathlib.Omega.{arith}
@@ -15,7 +16,7 @@ use Rattle.positions.specs.Moves.{move, squares_of}
 use Rattle.positions.specs.declared.moves.Move.{Move}
 use Rattle.positions.proofs.Records.{off_from, off_to}
 use Rattle.games.specs.Games.{valid}
-use Rattle.games.specs.Play.{refused_play, play_of}
+use Rattle.games.specs.Play.{after_play, play_of}
 use Rattle.games.specs.Demand3.{answers_to, game_after}
 use Rattle.games.specs.Replay.{moves_in, square_in}
 use Rattle.games.specs.declared.game.Game.{Game}
@@ -25,26 +26,26 @@ use Rattle.games.specs.declared.game.Game.{Game}
 pub answers_length : (g : Game) (ms : List Move) → length (answers_to play_of g ms) ≡ length ms
 unfolding answers_to
 answers_length g [] = refl
-answers_length g (m ∷ ms) = ap suc (answers_length (play_of g m).game ms)
+answers_length g (m ∷ ms) = ap suc (answers_length (after_play g (play_of g m)) ms)
 
 answers_snoc : (g : Game) (ms : List Move) (m : Move)
-    → answers_to play_of g (ms ++ (m ∷ [])) ≡ answers_to play_of g ms ++ (answer_number_of (play_of (game_after play_of g ms) m).answer ∷ [])
+    → answers_to play_of g (ms ++ (m ∷ [])) ≡ answers_to play_of g ms ++ (answer_number_of (play_of (game_after play_of g ms) m) ∷ [])
 unfolding answers_to game_after
 answers_snoc g [] m = refl
-answers_snoc g (x ∷ ms) m = ap (λ (l : List ℕ). answer_number_of (play_of g x).answer ∷ l) (answers_snoc (play_of g x).game ms m)
+answers_snoc g (x ∷ ms) m = ap (λ (l : List ℕ). answer_number_of (play_of g x) ∷ l) (answers_snoc (after_play g (play_of g x)) ms m)
 
-after_snoc : (g : Game) (ms : List Move) (m : Move) → game_after play_of g (ms ++ (m ∷ [])) ≡ (play_of (game_after play_of g ms) m).game
+after_snoc : (g : Game) (ms : List Move) (m : Move) → game_after play_of g (ms ++ (m ∷ [])) ≡ after_play (game_after play_of g ms) (play_of (game_after play_of g ms) m)
 unfolding game_after
 after_snoc g [] m = refl
-after_snoc g (x ∷ ms) m = after_snoc (play_of g x).game ms m
+after_snoc g (x ∷ ms) m = after_snoc (after_play g (play_of g x)) ms m
 
 pub answers_more : (d : Move) (g : Game) (ms : List Move) (i : ℕ) → i < length ms
     → answers_to play_of g (take (i + 1) ms)
-    ≡ answers_to play_of g (take i ms) ++ (answer_number_of (play_of (game_after play_of g (take i ms)) (get_or ms i d)).answer ∷ [])
+    ≡ answers_to play_of g (take i ms) ++ (answer_number_of (play_of (game_after play_of g (take i ms)) (get_or ms i d)) ∷ [])
 answers_more d g ms i h = rw (add-one, take-suc ms i d) (answers_snoc g (take i ms) (get_or ms i d))
 
 pub after_more : (d : Move) (g : Game) (ms : List Move) (i : ℕ) → i < length ms
-    → game_after play_of g (take (i + 1) ms) ≡ (play_of (game_after play_of g (take i ms)) (get_or ms i d)).game
+    → game_after play_of g (take (i + 1) ms) ≡ after_play (game_after play_of g (take i ms)) (play_of (game_after play_of g (take i ms)) (get_or ms i d))
 after_more d g ms i h = rw (add-one, take-suc ms i d) (after_snoc g (take i ms) (get_or ms i d))
 
 -- a number is written behind those written
@@ -87,7 +88,7 @@ in_high : (n : ℕ) → leb n 50 ≡ false → is_square (square_in n) ≡ false
 unfolding square_in
 in_high n e = rw e (high_square 51 refl)
 
-off_play : (g : Game) (m : Move) → squares_of m ≡ false → play_of g m ≡ cond (valid g) (refused_play g (refusal 11)) (refused_play g (refusal 13))
+off_play : (g : Game) (m : Move) → squares_of m ≡ false → play_of g m ≡ cond (valid g) (Err (refusal 11)) (Err (refusal 13))
 unfolding play_of
 off_play g m e = rw e
 

@@ -33,6 +33,7 @@ use Rattle.games.proofs.Moves.{man_agrees, promotion_agrees, taking_agrees, men_
 use Rattle.games.proofs.Counters.{second_agrees}
 use Rattle.games.proofs.Tests.{outcome_agrees}
 use Rattle.games.proofs.Valid.{valid_says, material_fits, alone_window, alone_last, alone_long, alone_first, alone_second, alone_valid, more_window, more_last, more_long, more_first, more_second, more_valid}
+use Rattle.std.specs.Prelude.{Some}
 
 -- the window as boards
 abbrev pub boards : Game → List Board
@@ -108,7 +109,7 @@ pub room : (p : Board) (n f s : ℕ) → ended (judge p n f s) ≡ false → f <
 unfolding judge
 room p n f s e = leb-false 50 f (go (can_move p) (leb 3 n) (leb 50 f) e)
   where
-    go : (x y z : Bool) → ended (cond x (cond y (drawn Repetition) (cond z (drawn TwentyFiveMoves) (king_ending p s))) (won (other p.side))) ≡ false → z ≡ false
+    go : (x y z : Bool) → ended (cond x (cond y (Some (drawn Repetition)) (cond z (Some (drawn TwentyFiveMoves)) (king_ending p s))) (Some (won (other p.side)))) ≡ false → z ≡ false
     go false y z q = absurd (true≢false q)
     go true true z q = absurd (true≢false q)
     go true false true q = absurd (true≢false q)

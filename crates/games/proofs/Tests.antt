@@ -1,5 +1,5 @@
 -- The tests of the game and those of the book agree on an accepted board: squares of a record, king endings, the outcome.
-use Rattle.std.specs.Prelude.{None, Ok}
+use Rattle.std.specs.Prelude.{None, Ok, Some}
 use mathlib.Core.Path.{◌≡◌, refl, sym, ap, ap₂, ◌∙◌}
 use Prim.Native.Nat.{ℕ, zero, suc, ◌+◌, ◌-◌, ◌^◌, ◌<◌, ◌≤◌, min}
 use native.Mathlib.Nat.{min-eq_left, min-eq_right}
@@ -153,7 +153,7 @@ stopped k n h = go (leb 32 n) refl
 -- ---- the outcome
 -- both go through the tests in the same order
 in_order : (c : Color) (x y z u v : Bool)
-    → cond x (cond y (drawn Repetition) (cond z (drawn TwentyFiveMoves) (cond u (drawn SixteenMoves) (cond v (drawn FiveMoves) (Ok None))))) (won (other c))
+    → cond x (cond y (Some (drawn Repetition)) (cond z (Some (drawn TwentyFiveMoves)) (cond u (Some (drawn SixteenMoves)) (cond v (Some (drawn FiveMoves)) None)))) (Some (won (other c)))
     ≡ told_as (first_to_hold (book.lost c (not x) ∷ book.draw Repetition y ∷ book.draw TwentyFiveMoves z ∷ book.draw SixteenMoves u ∷ book.draw FiveMoves v ∷ []))
 unfolding first_to_hold
 in_order c false y z u v = refl

@@ -14,11 +14,10 @@ use Rattle.positions.specs.declared.position.Position.{Position}
 use Rattle.positions.proofs.Accepts.{says_sound}
 use Rattle.movegen.specs.Lists.{after_of}
 use Rattle.movegen.proofs.Listed.{after_sound}
-use Rattle.games.specs.Demand3.{game_after}
+use Rattle.games.specs.Demand3.{game_after, game_of}
 use Rattle.games.specs.Games.{last_of, valid, stood, irreversible, material_after, judged_of, ended}
-use Rattle.games.specs.Play.{alone_of, fresh_of, appended_of, moved_of, refused_play, reached_of, new_of, play_of}
+use Rattle.games.specs.Play.{alone_of, fresh_of, appended_of, moved_of, reached_of, new_of, play_of, after_play}
 use Rattle.games.specs.declared.game.Game.{Game}
-use Rattle.games.specs.declared.game.Played.{Played}
 use Rattle.games.proofs.Laws.{new_is}
 use Rattle.games.proofs.Stands.{room}
 use Rattle.games.proofs.Valid.{valid_says, material_fits, alone_long, alone_valid, more_long, more_valid}
@@ -45,12 +44,12 @@ module _ (g : Game) (f : Fit g) (m : Move) where
           let r = room (board_of (last_of g)) (stood g) g.reversible g.material o in
           record { valid = more_valid g q k v f.long r s (material_fits (board_of (last_of g)) m g.material); long = more_long g q k v f.long r }
 
-  pub play_fit : Fit (play_of g m).game
+  pub play_fit : Fit (after_play g (play_of g m))
   unfolding play_of
   play_fit = go (valid g) (squares_of m) (ended (judged_of g)) refl (after_of (last_of g) m) refl
     where
       go : (v t o : Bool) → ended (judged_of g) ≡ o → (a : Result Position Refusal) → after_of (last_of g) m ≡ a
-          → Fit (cond {A = Played} v (cond t (cond o (refused_play g (refusal 14)) (reached_of g m a)) (refused_play g (refusal 11))) (refused_play g (refusal 13))).game
+          → Fit (after_play g (cond v (cond t (cond o (Err (refusal 14)) (reached_of g m a)) (Err (refusal 11))) (Err (refusal 13))))
       go false t o e a h = f
       go true false o e a h = f
       go true true true e a h = f
@@ -61,10 +60,10 @@ module _ (g : Game) (f : Fit g) (m : Move) where
 pub plays_fit : (g : Game) → Fit g → (moves : List Move) → Fit (game_after play_of g moves)
 unfolding game_after
 plays_fit g f [] = f
-plays_fit g f (m ∷ ms) = plays_fit (play_of g m).game (play_fit g f m) ms
+plays_fit g f (m ∷ ms) = plays_fit (after_play g (play_of g m)) (play_fit g f m) ms
 
 -- begun from a sound position
-pub plays_valid : (start : Position) → sound start ≡ true → (moves : List Move) → valid (game_after play_of (new_of start).game moves) ≡ true
+pub plays_valid : (start : Position) → sound start ≡ true → (moves : List Move) → valid (game_after play_of (game_of (new_of start)) moves) ≡ true
 unfolding fresh_of
 plays_valid start s moves =
     rw (new_is start s) (plays_fit (fresh_of start) (record { valid = alone_valid start 0 s (omega arith); long = alone_long start 0 }) moves).valid

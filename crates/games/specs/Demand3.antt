@@ -1,9 +1,10 @@
 -- The claim about whole games, demand 3 of the requirement (docs/RULES.md, "The book"). A game is begun from any
 -- position that is not refused 12. Any list of moves is played on it, refused ones too. Each play gets the game that
--- the play before it handed back. `Heard` is what the caller is answered. `Demand3` says: every answer, the last
+-- the plays before it led to; a refused play changes nothing. `Heard` is what the caller is answered. `Demand3` says: every answer, the last
 -- position and the outcome are those of the book (Book.antt); the hash is right; the pieces on the board add up; and
 -- every accepted move took as many pieces as possible. It is one claim about the whole list, not one for each play.
-use Rattle.std.specs.Prelude.{◌≡◌, ℕ, ◌+◌, List, [], ◌∷◌, None, Ok, Result, Some}
+use Rattle.std.specs.Prelude.{◌≡◌, ℕ, ◌+◌, List, [], ◌∷◌, None, Ok, Result, Some, Err}
+use Rattle.std.specs.Result.{result_unwrap_or}
 use Rattle.squares.specs.Refusals.{answer_number_of}
 use Rattle.squares.specs.Sets.{size}
 use Rattle.squares.specs.declared.piece.Color.{Color}
@@ -13,11 +14,9 @@ use Rattle.positions.specs.declared.moves.Move.{Move}
 use Rattle.positions.specs.declared.position.Position.{Position}
 use Rattle.rules.specs.Rules.{AtMost, NoJump}
 use Rattle.games.specs.Book.{Book, tally_of, standing, begun_book, Verdict, goes_on, ends, book_answer, book_next, book_outcome, book_answers, book_after}
-use Rattle.games.specs.Games.{last_of}
-use Rattle.games.specs.Play.{new_of, play_of, outcome_of}
-use Rattle.games.specs.declared.game.Begun.{Begun}
+use Rattle.games.specs.Games.{blank_position, last_of}
+use Rattle.games.specs.Play.{fresh_of, new_of, after_play, play_of, outcome_of}
 use Rattle.games.specs.declared.game.Game.{Game}
-use Rattle.games.specs.declared.game.Played.{Played}
 use Rattle.std.specs.declared.option.Option.{Option}
 use Rattle.games.specs.declared.game.Outcome.{Outcome}
 use Rattle.squares.specs.declared.refusal.Refusal.{Refusal}
@@ -25,27 +24,31 @@ use Rattle.squares.specs.declared.refusal.Refusal.{Refusal}
 -- ---- what the caller is answered
 
 -- the answer to each play: 0 where it was accepted, else the number of the refusal
-unfoldable pub answers_to : (Game → Move → Played) → Game → List Move → List ℕ
+unfoldable pub answers_to : (Game → Move → Result Game Refusal) → Game → List Move → List ℕ
 answers_to play g [] = []
-answers_to play g (m ∷ ms) = answer_number_of (play g m).answer ∷ answers_to play (play g m).game ms
+answers_to play g (m ∷ ms) = answer_number_of (play g m) ∷ answers_to play (after_play g (play g m)) ms
 
 -- the game after the list
-unfoldable pub game_after : (Game → Move → Played) → Game → List Move → Game
+unfoldable pub game_after : (Game → Move → Result Game Refusal) → Game → List Move → Game
 game_after play g [] = g
-game_after play g (m ∷ ms) = game_after play (play g m).game ms
+game_after play g (m ∷ ms) = game_after play (after_play g (play g m)) ms
+
+-- the new game; where it is refused, the game begun from the empty board with White to move
+abbrev pub game_of : Result Game Refusal → Game
+game_of r = result_unwrap_or r (fresh_of blank_position)
 
 -- all that is answered: the new game, the answer to each play, the game after the list, and its outcome
 pub record Heard : Type 0 where
-  pub begun : Begun
+  pub begun : Result Game Refusal
   pub answers : List ℕ
   pub game : Game
   pub outcome : Result (Option Outcome) Refusal
 
 -- what three functions for new game, play and outcome answer
-unfoldable pub heard_of : (Position → Begun) → (Game → Move → Played) → (Game → Result (Option Outcome) Refusal) → Position → List Move → Heard
+unfoldable pub heard_of : (Position → Result Game Refusal) → (Game → Move → Result Game Refusal) → (Game → Result (Option Outcome) Refusal) → Position → List Move → Heard
 heard_of new play outcome start moves =
-    let after = game_after play (new start).game moves in
-    record { begun = new start; answers = answers_to play (new start).game moves; game = after; outcome = outcome after }
+    let after = game_after play (game_of (new start)) moves in
+    record { begun = new start; answers = answers_to play (game_of (new start)) moves; game = after; outcome = outcome after }
 
 -- what the program answers, by the definitions in the contracts of new game, play and outcome
 abbrev pub heard : Position → List Move → Heard
@@ -53,10 +56,10 @@ heard = heard_of new_of play_of outcome_of
 
 -- ---- what the book says
 
--- the book's verdict as the program answers it: an outcome or none, never a refusal
-abbrev pub told_as : Verdict → Result (Option Outcome) Refusal
-told_as goes_on = Ok None
-told_as (ends o) = Ok (Some o)
+-- the book's verdict as the program answers it: an outcome or none
+abbrev pub told_as : Verdict → Option Outcome
+told_as goes_on = None
+told_as (ends o) = Some o
 
 -- the book after the list
 abbrev pub book_of : Position → List Move → Book
@@ -79,14 +82,14 @@ NoneOpen b m = m.captured ≡ 0 → NoJump b
 
 pub record Demand3 (start : Position) (moves : List Move) (h : Heard) : Type 0 where
   -- the new game is not refused, and its position is the start
-  pub begins : h.begun.answer ≡ Ok tt
-  pub start_stands : board_of (last_of h.begun.game) ≡ board_of start
+  pub begins : answer_number_of h.begun ≡ 0
+  pub start_stands : board_of (last_of (game_of h.begun)) ≡ board_of start
   -- every play is answered as the book answers it: 0 where it is accepted, else the refusal's number
   pub answers : h.answers ≡ book_answers (begun_book (board_of start)) moves
   -- after the list the position is that of the book: the same pieces on the same squares, and the same side to move
   pub position : board_of (last_of h.game) ≡ standing (book_of start moves)
   -- the outcome is that of the book, and not a refusal
-  pub outcome : h.outcome ≡ told_as (book_outcome (book_of start moves))
+  pub outcome : h.outcome ≡ Ok (told_as (book_outcome (book_of start moves)))
   -- the hash in the game is the one computed afresh from its position
   pub hash : (last_of h.game).hash ≡ hash_of (board_of (last_of h.game))
   -- for each colour: men now + promotions + men taken = men at the start

@@ -1,6 +1,6 @@
 -- A game by value (docs/RULES.md, "Games and outcomes"): the positions since the last capture or man move, the current
 -- one last, and two counters of plies; what refusal 13 tests, how often the position has occurred, and the outcome.
-use Rattle.std.specs.Prelude.{ℕ, ◌+◌, min, Bool, true, false, not, cond, ◌&&◌, ◌||◌, List, [], ◌∷◌, eqb, leb, take, get_or, Err, None, Ok, Result, Some}
+use Rattle.std.specs.Prelude.{ℕ, ◌+◌, min, Bool, true, false, not, cond, ◌&&◌, ◌||◌, List, [], ◌∷◌, eqb, leb, take, get_or, None, Some}
 use Rattle.squares.specs.Sets.{size}
 use Rattle.squares.specs.Squares.{contains_of}
 use Rattle.squares.specs.Pieces.{other}
@@ -19,7 +19,6 @@ use Rattle.games.specs.declared.game.Termination.{Termination}
 use Rattle.games.specs.declared.game.Termination.TheVariants.{NoMoves, Repetition, TwentyFiveMoves, SixteenMoves, FiveMoves}
 use Rattle.std.specs.declared.option.Option.{Option}
 use Rattle.games.specs.declared.game.Outcome.{Outcome}
-use Rattle.squares.specs.declared.refusal.Refusal.{Refusal}
 
 -- ---- what is kept
 
@@ -72,11 +71,6 @@ material_after b m n = cond (is_capture m || promotes b m) 0 (min 32 (n + 1))
 
 -- ---- the outcome
 
--- the result of a test; a refused test counts as false
-abbrev pub says_of : Result Bool Refusal → Bool
-says_of (Ok b) = b
-says_of (Err e) = false
-
 -- a capture or a quiet move is open to the side to move
 unfoldable pub can_move : Board → Bool
 can_move b = some (captures b) || some (quiets b)
@@ -89,31 +83,30 @@ lone_king c b = (eqb (size (colored c b)) 1 && eqb (colored c b) (kings_of c b))
 unfoldable pub faces : Color → ℕ → ℕ → Board → Bool
 faces c least most b = lone_king c b && (leb least (size (colored (other c) b)) && leb (size (colored (other c) b)) most)
 
-abbrev pub won : Color → Result (Option Outcome) Refusal
-won c = Ok (Some (record { winner = Some c; termination = NoMoves }))
+abbrev pub won : Color → Outcome
+won c = record { winner = Some c; termination = NoMoves }
 
-abbrev pub drawn : Termination → Result (Option Outcome) Refusal
-drawn t = Ok (Some (record { winner = None; termination = t }))
+abbrev pub drawn : Termination → Outcome
+drawn t = record { winner = None; termination = t }
 
 -- the last two tests, by the plies since the last capture or promotion: against three pieces, against at most two
-unfoldable pub king_ending : Board → ℕ → Result (Option Outcome) Refusal
+unfoldable pub king_ending : Board → ℕ → Option Outcome
 king_ending b material =
-    cond ((faces White 3 3 b || faces Black 3 3 b) && leb 32 material) (drawn SixteenMoves)
-    (cond ((faces White 0 2 b || faces Black 0 2 b) && leb 10 material) (drawn FiveMoves) (Ok None))
+    cond ((faces White 3 3 b || faces Black 3 3 b) && leb 32 material) (Some (drawn SixteenMoves))
+    (cond ((faces White 0 2 b || faces Black 0 2 b) && leb 10 material) (Some (drawn FiveMoves)) None)
 
 -- the tests in order; `times` is how often the board has occurred
-unfoldable pub judge : Board → ℕ → ℕ → ℕ → Result (Option Outcome) Refusal
+unfoldable pub judge : Board → ℕ → ℕ → ℕ → Option Outcome
 judge b times reversible material =
     cond (can_move b)
-    (cond (leb 3 times) (drawn Repetition) (cond (leb 50 reversible) (drawn TwentyFiveMoves) (king_ending b material)))
-    (won (other b.side))
+    (cond (leb 3 times) (Some (drawn Repetition)) (cond (leb 50 reversible) (Some (drawn TwentyFiveMoves)) (king_ending b material)))
+    (Some (won (other b.side)))
 
 -- the outcome of a valid game
-unfoldable pub judged_of : Game → Result (Option Outcome) Refusal
+unfoldable pub judged_of : Game → Option Outcome
 judged_of g = judge (board_of (last_of g)) (stood g) g.reversible g.material
 
 -- there is an outcome
-abbrev pub ended : Result (Option Outcome) Refusal → Bool
-ended (Ok (Some o)) = true
-ended (Ok None) = false
-ended (Err e) = false
+abbrev pub ended : Option Outcome → Bool
+ended (Some o) = true
+ended None = false

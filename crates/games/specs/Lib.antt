@@ -3,5 +3,4 @@ pub mod Play
 pub mod Book
 pub mod Demand3
 pub mod Replay
-pub mod Told
 pub mod Computed

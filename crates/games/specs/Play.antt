@@ -1,6 +1,7 @@
 -- What each entry on games answers, refused calls too (docs/RULES.md, "Games and outcomes"). The order of refusals
 -- (docs/RULES.md, "Refusals"): new game 12; outcome 13; a game's list 13, 10, 17; a move record 13, 11, 14, 17, 15.
 use Rattle.std.specs.Prelude.{ℕ, ◌+◌, ◌-◌, cond, List, [], ◌∷◌, ◌++◌, leb, replicate, Bool, Err, None, Ok, Result, Some}
+use Rattle.std.specs.Result.{result_unwrap_or}
 use Prim.Native.Char.{code}
 use Rattle.squares.specs.declared.piece.Color.TheVariants.{White, Black}
 use Rattle.squares.specs.declared.refusal.Refusal.{Refusal}
@@ -12,13 +13,12 @@ use Rattle.positions.specs.Moves.{squares_of}
 use Rattle.positions.specs.declared.moves.Move.{Move}
 use Rattle.positions.specs.declared.position.Position.{Position}
 use Rattle.movegen.specs.Lists as movegen
-use Rattle.movegen.specs.Lists.{no_list, refused_list, after_of}
-use Rattle.movegen.specs.declared.movegen.Listed.{Listed}
+use Rattle.movegen.specs.Lists.{after_of}
+use Rattle.captures.specs.Lists.{no_moves}
+use Rattle.captures.specs.declared.moves.MoveList.{MoveList}
 use Rattle.games.specs.Games.{blank_position, window_of, last_of, valid, stood, irreversible, material_after, judged_of, ended}
-use Rattle.games.specs.declared.game.Begun.{Begun}
 use Rattle.games.specs.declared.game.Game.{Game}
 use Rattle.games.specs.declared.game.Outcome.{Outcome}
-use Rattle.games.specs.declared.game.Played.{Played}
 use Rattle.squares.specs.declared.piece.Color.{Color}
 use Rattle.std.specs.declared.option.Option.{Option}
 
@@ -32,12 +32,8 @@ alone_of p material = record { kept = p ∷ replicate 50 blank_position; len = 1
 unfoldable pub fresh_of : Position → Game
 fresh_of p = alone_of p 0
 
--- where refused: the game begun from the empty board with White to move
-abbrev pub not_begun : Refusal → Begun
-not_begun e = record { answer = Err e; game = fresh_of blank_position }
-
-unfoldable pub new_of : Position → Begun
-new_of p = cond (sound p) (record { answer = Ok tt; game = fresh_of p }) (not_begun (refusal 12))
+unfoldable pub new_of : Position → Result Game Refusal
+new_of p = cond (sound p) (Ok (fresh_of p)) (Err (refusal 12))
 
 -- from the starting position
 unfoldable pub initial_game : Game
@@ -61,27 +57,27 @@ moved_of g m q =
     let material = material_after (board_of (last_of g)) m g.material in
     cond (irreversible (board_of (last_of g)) m) (alone_of q material) (appended_of g q material)
 
--- where refused: the game as it was handed in
-abbrev pub refused_play : Game → Refusal → Played
-refused_play g e = record { answer = Err e; game = g }
-
 -- the game with the position after the move, or the refusal that stopped it: 17, then 15
-abbrev pub reached_of : Game → Move → Result Position Refusal → Played
-reached_of g m (Ok q) = record { answer = Ok tt; game = moved_of g m q }
-reached_of g m (Err e) = refused_play g e
+abbrev pub reached_of : Game → Move → Result Position Refusal → Result Game Refusal
+reached_of g m (Ok q) = Ok (moved_of g m q)
+reached_of g m (Err e) = Err e
 
-unfoldable pub play_of : Game → Move → Played
+unfoldable pub play_of : Game → Move → Result Game Refusal
 play_of g m =
     cond (valid g)
     (cond (squares_of m)
-    (cond (ended (judged_of g)) (refused_play g (refusal 14)) (reached_of g m (after_of (last_of g) m)))
-    (refused_play g (refusal 11)))
-    (refused_play g (refusal 13))
+    (cond (ended (judged_of g)) (Err (refusal 14)) (reached_of g m (after_of (last_of g) m)))
+    (Err (refusal 11)))
+    (Err (refusal 13))
+
+-- the game that a player goes on with: a refused play changes nothing
+abbrev pub after_play : Game → Result Game Refusal → Game
+after_play g r = result_unwrap_or r g
 
 -- ---- what is asked of a game
 
 unfoldable pub outcome_of : Game → Result (Option Outcome) Refusal
-outcome_of g = cond (valid g) (judged_of g) (Err (refusal 13))
+outcome_of g = cond (valid g) (Ok (judged_of g)) (Err (refusal 13))
 
 unfoldable pub is_over_of : Game → Result Bool Refusal
 is_over_of g = cond (valid g) (Ok (ended (judged_of g))) (Err (refusal 13))
@@ -97,13 +93,13 @@ unfoldable pub reversible_plies_of : Game → Result ℕ Refusal
 reversible_plies_of g = cond (valid g) (Ok g.reversible) (Err (refusal 13))
 
 -- no moves if there is an outcome; else the list of the current position, or 17 if it has more than `limit` moves
-unfoldable pub legal_moves_of : Game → ℕ → Listed
+unfoldable pub legal_moves_of : Game → ℕ → Result MoveList Refusal
 legal_moves_of g limit =
     cond (valid g)
     (cond (leb limit 256)
-    (cond (ended (judged_of g)) (no_list (Ok tt)) (movegen.legal_moves_of (last_of g) limit))
-    (refused_list (refusal 10)))
-    (refused_list (refusal 13))
+    (cond (ended (judged_of g)) (Ok no_moves) (movegen.legal_moves_of (last_of g) limit))
+    (Err (refusal 10)))
+    (Err (refusal 13))
 
 -- ---- the result of a finished game, as text: 2-0, 1-1 or 0-2
 

@@ -11,4 +11,4 @@ returns c =
     let s = c.requires in
     let a = c.has_captures.ensures ∙ captures_told p s in
     let b = c.has_quiet_moves.ensures ∙ quiets_told p s in
-    rw (c.says.ensures, a, c.says-2.ensures, b)
+    rw (c.unwrap_or.ensures, a, c.unwrap_or-2.ensures, b)

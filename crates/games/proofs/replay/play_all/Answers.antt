@@ -33,10 +33,9 @@ loop-i-preserved c =
     let k : i < length ms = omega arith in
     let q : i < length out = omega (arith, c.requires) in
     let m = moves_at blank ns i (third i (length ns) h) in
-    let r = c.play-r.result in
-    let p : r ≡ play_of now (get_or ms i blank) =
-    c.play-r.ensures
-    ∙ ap₂ play_of c.loop-i.invariant.3 c.move_in-mv.ensures
+    let p : c.play-played.result ≡ play_of now (get_or ms i blank) =
+    c.play-played.ensures
+    ∙ ap₂ play_of c.loop-i.invariant.3 c.move_in.ensures
     ∙ played_in now (get_or ns (3 * i) 0) (get_or ns (3 * i + 1) 0) (get_or ns (3 * i + 2) 0)
     ∙ ap (play_of now) (sym m) in
     let n : length (answers_to play_of start (take i ms)) ≡ i = answers_length start (take i ms) ∙ length-take-le i ms (omega arith) in (
@@ -49,7 +48,7 @@ loop-i-preserved c =
         c.code.ensures,
         p,
       ),
-      rw (after_more blank start ms i k, p),
+      rw (after_more blank start ms i k, c.unwrap_or-g.ensures, p, c.loop-i.invariant.3),
     )
 
 pub returns : goal.returns

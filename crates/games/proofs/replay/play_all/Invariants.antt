@@ -1,7 +1,7 @@
 -- After i plays the first i answers are written, the later ones are as they were, and the game is that of the first i moves.
 use mathlib.Core.Path.{◌≡◌}
 use mathlib.Core.List.{◌++◌}
-use Prim.Native.Nat.{◌≤◌, ◌-◌}
+use Prim.Native.Nat.{◌≤◌}
 use lib.ListN.{length, take, drop}
 use Rattle.games.specs.Play.{play_of}
 use Rattle.games.specs.Demand3.{answers_to, game_after}
@@ -9,10 +9,7 @@ use Rattle.games.specs.Replay.{moves_in}
 use Rattle.games.proofs.replay.play_all.Given as goal
 
 abbrev pub invariant-loop-i : goal.invariant-loop-i
-invariant-loop-i l = (l.i ≤ l.n)
+invariant-loop-i l = (l.i ≤ l.i-end)
     × (length l.answers ≡ length l.initial.answers)
     × (l.answers ≡ answers_to play_of l.initial.g (take l.i (moves_in l.moves)) ++ drop l.i l.initial.answers)
     × (l.g ≡ game_after play_of l.initial.g (take l.i (moves_in l.moves)))
-
-abbrev pub decreases-loop-i : goal.decreases-loop-i
-decreases-loop-i l = l.n - l.i

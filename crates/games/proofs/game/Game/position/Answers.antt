@@ -1,15 +1,21 @@
 -- 13, else the current position.
-use mathlib.Core.Path.{sym, ◌∙◌}
+use Rattle.std.proofs.Common.{rules}
+use Rattle.std.specs.Prelude.{Err}
+use mathlib.Core.Path.{◌≡◌, sym, ◌∙◌}
+use Rattle.squares.proofs.Refusals.{holds, stopped}
+use Rattle.games.specs.Games.{valid}
 use Rattle.games.specs.Play.{stands_of}
 use Rattle.games.proofs.game.Game.position.Goals as goal
 
-pub last-requires : goal.last-requires
-last-requires c = sym c.valid.ensures ∙ c.if-valid.true
-
-pub returns-then-valid : goal.returns-then-valid
+pub returns-in_err-unless : goal.returns-in_err-unless
 unfolding stands_of
-returns-then-valid c = rw (sym c.valid.ensures ∙ c.if-valid.true, c.last.ensures)
+returns-in_err-unless c =
+    let q : c.from_residual.result ≡ Err c.in_err-unless.field-0.0 = search rules in
+    q ∙ stopped _ (valid c.args.self) _ (rw c.valid.ensures at c.in_err-unless.ensures)
+
+pub last-requires : goal.last-requires
+last-requires c = sym c.valid.ensures ∙ holds _ _ c.in_ok-unless.ensures
 
 pub returns : goal.returns
 unfolding stands_of
-returns c = rw (sym c.valid.ensures ∙ c.if-valid.false)
+returns c = rw (sym c.valid.ensures ∙ holds _ _ c.in_ok-unless.ensures, c.last.ensures)

@@ -1,12 +1,18 @@
 -- 13, else the counter.
-use mathlib.Core.Path.{sym, ◌∙◌}
+use Rattle.std.proofs.Common.{rules}
+use Rattle.std.specs.Prelude.{Err}
+use mathlib.Core.Path.{◌≡◌, sym, ◌∙◌}
+use Rattle.squares.proofs.Refusals.{holds, stopped}
+use Rattle.games.specs.Games.{valid}
 use Rattle.games.specs.Play.{reversible_plies_of}
 use Rattle.games.proofs.game.Game.reversible_plies.Goals as goal
 
-pub returns-then-valid : goal.returns-then-valid
+pub returns-in_err-unless : goal.returns-in_err-unless
 unfolding reversible_plies_of
-returns-then-valid c = rw (sym c.valid.ensures ∙ c.if-valid.true)
+returns-in_err-unless c =
+    let q : c.from_residual.result ≡ Err c.in_err-unless.field-0.0 = search rules in
+    q ∙ stopped _ (valid c.args.self) _ (rw c.valid.ensures at c.in_err-unless.ensures)
 
 pub returns : goal.returns
 unfolding reversible_plies_of
-returns c = rw (sym c.valid.ensures ∙ c.if-valid.false)
+returns c = rw (sym c.valid.ensures ∙ holds _ _ c.in_ok-unless.ensures)
