@@ -7,4 +7,4 @@ use Rattle.requests.proofs.plays.tell_record.Goals as goal
 
 pub returns : goal.returns
 unfolding record_told
-returns c = pieces.adds_then c.put_byte-k.ensures (pieces.adds_as (ap decimal c.number.ensures) c.put_decimal.ensures)
+returns c = pieces.adds_then c.put_byte-k.ensures (pieces.adds_as (ap decimal c.answer_number.ensures) c.put_decimal.ensures)

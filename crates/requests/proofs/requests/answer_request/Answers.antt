@@ -16,8 +16,8 @@ returns-in-Hub2fen c = rw (c.in-Hub2fen.is, ← c.position-in-Hub2fen.ensures) c
 pub returns-in-Square : goal.returns-in-Square
 returns-in-Square c = rw (c.in-Square.is, ← c.square.ensures) c.square-in-Square.ensures
 
-pub returns-in-Ok : goal.returns-in-Ok
-returns-in-Ok c = rw c.in-Ok.is c.parts.ensures
+pub returns-in-Parts : goal.returns-in-Parts
+returns-in-Parts c = rw c.in-Parts.is c.parts.ensures
 
 pub returns-in-Bits : goal.returns-in-Bits
 returns-in-Bits c = rw (c.in-Bits.is, ← c.whole.ensures) c.bits.ensures

@@ -4,9 +4,9 @@ use Rattle.texts.proofs.Pieces as laws
 use Rattle.wording.specs.Output.{flaw_word}
 use Rattle.wording.proofs.output.put_flaw.Goals as goal
 
-pub returns-in-Ok : goal.returns-in-Ok
+pub returns-in-Length : goal.returns-in-Length
 unfolding flaw_word
-returns-in-Ok c = laws.adds_as (sym (ap flaw_word c.in-Ok.is)) c.put.ensures
+returns-in-Length c = laws.adds_as (sym (ap flaw_word c.in-Length.is)) c.put.ensures
 
 pub returns-in-Escape : goal.returns-in-Escape
 unfolding flaw_word
@@ -23,12 +23,12 @@ unfolding flaw_word
 returns-in-Words c =
     laws.adds_as (sym (ap flaw_word c.in-Words.is)) c.put-in-Words.ensures
 
-pub returns-in-Ok : goal.returns-in-Ok
+pub returns-in-Number : goal.returns-in-Number
 unfolding flaw_word
-returns-in-Ok c =
-    laws.adds_as (sym (ap flaw_word c.in-Ok.is)) c.put-in-Ok.ensures
+returns-in-Number c =
+    laws.adds_as (sym (ap flaw_word c.in-Number.is)) c.put-in-Number.ensures
 
-pub returns-in-Ok : goal.returns-in-Ok
+pub returns-in-Side : goal.returns-in-Side
 unfolding flaw_word
-returns-in-Ok c =
-    laws.adds_as (sym (ap flaw_word c.in-Ok.is)) c.put-in-Ok.ensures
+returns-in-Side c =
+    laws.adds_as (sym (ap flaw_word c.in-Side.is)) c.put-in-Side.ensures
