@@ -83,7 +83,7 @@ choice_only (x ∷ []) = refl
 choice_only (x ∷ (y ∷ l)) = refl
 
 -- ---- on a position
-of_refused : {e f : Refusal} → ◌≡◌ {A = Result Move Refusal} (Err e) (Err f) → e ≡ f
+of_refused : {A : Type 0} {e f : Refusal} → ◌≡◌ {A = Result A Refusal} (Err e) (Err f) → e ≡ f
 of_refused e = cc
 
 module _ (p : Position) (h : Said) where
