@@ -21,8 +21,8 @@ use Rattle.rules.specs.Lists.{keep}
 use Rattle.rules.specs.Ordered.{legal}
 use Rattle.rules.proofs.Lists.{keep_snoc}
 use Rattle.capture_laws.proofs.Stored.{few_entries}
-use Rattle.movegen.specs.Lists.{refused_list, listed_of, legal_moves_of}
-use Rattle.movegen.specs.declared.movegen.Listed.{Listed}
+use Rattle.captures.specs.declared.moves.MoveList.{MoveList}
+use Rattle.movegen.specs.Lists.{listed_of, legal_moves_of}
 use Rattle.notation.specs.Choice.{as_hub, by_ends, or_else, fitting, only, choice_of, answered, fit_of, one_more}
 use Rattle.notation.specs.declared.notation.Said.{Said}
 use Rattle.notation.specs.declared.notation.Choice.{Choice}
@@ -83,12 +83,9 @@ choice_only (x ∷ []) = refl
 choice_only (x ∷ (y ∷ l)) = refl
 
 -- ---- on a position
-of_refused : {e f : Refusal} → ◌≡◌ {A = Result Move Refusal} (Err e) (Err f) → e ≡ f
-of_refused e = cc
-
 module _ (p : Position) (h : Said) where
-  abbrev told : Bool → Bool → Listed
-  told s t = cond s (cond t (record { answer = Ok tt; list = list_of (legal (board_of p)) }) (refused_list TooManyMoves)) (refused_list BadPosition)
+  abbrev told : Bool → Bool → Result MoveList Refusal
+  told s t = cond s (cond t (Ok (list_of (legal (board_of p)))) (Err TooManyMoves)) (Err BadPosition)
 
   abbrev said : Bool → Bool → Result Move Refusal
   said s t = cond s (cond t (only (fitting h (legal (board_of p)))) (Err TooManyMoves)) (Err BadPosition)
@@ -101,22 +98,21 @@ module _ (p : Position) (h : Said) where
   unfolding fit_of
   said_is = refl
 
-  pub fit_done : (l : Listed) → l ≡ legal_moves_of p 256 → l.answer ≡ Ok tt → answered (choice_of (fitting h (entries l.list))) ≡ fit_of p h
-  fit_done l e d =
-      ap (λ (x : Listed). answered (choice_of (fitting h (entries x.list)))) (e ∙ told_is)
-      ∙ go (sound p) (leb (length (legal (board_of p))) 256) refl (sym (ap (λ (x : Listed). x.answer) (e ∙ told_is)) ∙ d) ∙ said_is
+  pub fit_done : (l : MoveList) → Ok l ≡ legal_moves_of p 256 → answered (choice_of (fitting h (entries l))) ≡ fit_of p h
+  fit_done l e = go (sound p) (leb (length (legal (board_of p))) 256) refl (e ∙ told_is) ∙ said_is
     where
-      go : (s t : Bool) → leb (length (legal (board_of p))) 256 ≡ t → (told s t).answer ≡ Ok tt
-          → answered (choice_of (fitting h (entries (told s t).list))) ≡ said s t
+      go : (s t : Bool) → leb (length (legal (board_of p))) 256 ≡ t → Ok l ≡ told s t → answered (choice_of (fitting h (entries l))) ≡ said s t
       go true true e d =
-          ap (λ (xs : List Move). answered (choice_of (fitting h xs))) (few_entries (legal (board_of p)) (leb-true _ _ e)) ∙ choice_only (fitting h (legal (board_of p)))
+          let q : l ≡ list_of (legal (board_of p)) = cc in
+          ap (λ (x : MoveList). answered (choice_of (fitting h (entries x)))) q
+          ∙ ap (λ (xs : List Move). answered (choice_of (fitting h xs))) (few_entries (legal (board_of p)) (leb-true _ _ e)) ∙ choice_only (fitting h (legal (board_of p)))
       go true false e d = absurd (let z : ◌≡◌ {A = ℕ} 0 1 = cc in omega arith)
       go false t e d = absurd (let z : ◌≡◌ {A = ℕ} 0 1 = cc in omega arith)
 
-  pub fit_refused : (l : Listed) (x : Refusal) → l ≡ legal_moves_of p 256 → l.answer ≡ Err x → Err x ≡ fit_of p h
-  fit_refused l x e d = go (sound p) (leb (length (legal (board_of p))) 256) (sym (ap (λ (x : Listed). x.answer) (e ∙ told_is)) ∙ d) ∙ said_is
+  pub fit_refused : (x : Refusal) → Err x ≡ legal_moves_of p 256 → Err x ≡ fit_of p h
+  fit_refused x e = go (sound p) (leb (length (legal (board_of p))) 256) (e ∙ told_is) ∙ said_is
     where
-      go : (s t : Bool) → (told s t).answer ≡ Err x → Err x ≡ said s t
+      go : (s t : Bool) → Err x ≡ told s t → Err x ≡ said s t
       go true true d = absurd (let z : ◌≡◌ {A = ℕ} 0 1 = cc in omega arith)
-      go true false d = ap Err (sym (of_refused d))
-      go false t d = ap Err (sym (of_refused d))
+      go true false d = let q : x ≡ TooManyMoves = cc in ap Err q
+      go false t d = let q : x ≡ BadPosition = cc in ap Err q

@@ -9,11 +9,11 @@ play_said-requires c =
     let q = stands_at c.args.g _ (sym c.position.ensures ∙ c.in-Ok.is) in
     record { g_value = q.0; p_value = q.1 }
 
-pub returns-in-Ok : goal.returns-in-Ok
+pub returns-in-Ok-read_move : goal.returns-in-Ok-read_move
 unfolding play_str_of
-returns-in-Ok c =
+returns-in-Ok-read_move c =
     let q = stands_at c.args.g _ (sym c.position.ensures ∙ c.in-Ok.is) in
-    rw (q.0, ← c.read_move.ensures, c.in-Ok.is) c.play_said.ensures
+    rw (q.0, ← c.read_move.ensures, c.in-Ok-read_move.is) c.play_said.ensures
 
 pub returns-in-Err-read_move : goal.returns-in-Err-read_move
 unfolding play_str_of
