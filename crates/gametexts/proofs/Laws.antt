@@ -1,5 +1,5 @@
--- What playing a text comes to. An accepted text is the play of a listed move, and this move is handed back. A refused text leaves
--- the game as it came and hands back a blank move. Hub's text of a legal move plays that move.
+-- What playing a text comes to. An accepted text is the play of a listed move, and this move is handed back. Hub's text of a legal
+-- move plays that move.
 use Rattle.std.specs.Prelude.{Err, Ok, Result}
 use mathlib.Core.Path.{◌≡◌, refl, sym, ap, ◌∙◌}
 use Prim.Native.Nat.{ℕ, ◌≤◌}
@@ -10,7 +10,7 @@ use lib.ListN.{length}
 use borrow.Author.Tests.{le-ltb}
 use Rattle.squares.specs.declared.refusal.Refusal.{Refusal}
 use Rattle.squares.specs.declared.refusal.Refusal.TheVariants.{BadGame, GameOver}
-use Rattle.squares.proofs.Refusals.{not_done}
+use Rattle.squares.proofs.Refusals.{not_ok}
 use Rattle.positions.specs.Acceptance.{Sound}
 use Rattle.positions.specs.Boards.{board_of}
 use Rattle.positions.specs.Hash.{position_of}
@@ -31,8 +31,7 @@ use Rattle.notation.proofs.MoveTrip.{listed_squares, move_back}
 use Rattle.games.specs.Games.{last_of, valid, judged_of, ended}
 use Rattle.games.specs.Play.{moved_of, reached_of, play_of}
 use Rattle.games.specs.declared.game.Game.{Game}
-use Rattle.games.specs.declared.game.Played.{Played}
-use Rattle.gametexts.specs.Texts.{blank_move, refused_text, move_where, beside, play_said, play_heard, play_str_of}
+use Rattle.gametexts.specs.Texts.{beside, play_said, play_heard, play_str_of}
 use Rattle.gametexts.specs.declared.game.PlayedText.{PlayedText}
 
 -- a listed move of a sound position with at most 256 moves
@@ -47,7 +46,7 @@ module _ (g : Game) (v : valid g ≡ true) (o : ended (judged_of g) ≡ false) (
   unfolding play_of
   reached q = rw (v, q, o)
 
-  pub listed_played : play_of g m ≡ record { answer = Ok tt; game = moved_of g m (position_of (successor (board_of (last_of g)) m)) }
+  pub listed_played : play_of g m ≡ Ok (moved_of g m (position_of (successor (board_of (last_of g)) m)))
   listed_played =
       let q = listed_squares (last_of g) m l.sound l.few l.in_list in
       reached q ∙ ap (reached_of g m) (after_one (last_of g) (says_sound (last_of g) l.sound) m q (le-ltb _ _ l.few) l.in_list)
@@ -56,11 +55,9 @@ module _ (g : Game) (v : valid g ≡ true) (o : ended (judged_of g) ≡ false) (
 
 -- the text plays m: the record of m is accepted, and the text hands back the game after it, and m
 pub record Plays (g : Game) (text : List ℕ) (m : Move) : Type 0 where
-  pub accepted : (play_of g m).answer ≡ Ok tt
-  pub handed : play_str_of g text ≡ record { answer = Ok tt; game = (play_of g m).game; mv = m }
-
-beside_done : (m : Move) (p : Played) → p.answer ≡ Ok tt → beside m p ≡ record { answer = Ok tt; game = p.game; mv = m }
-beside_done m p e = ap (λ (a : Result Unit Refusal). record { answer = a; game = p.game; mv = move_where a m }) e
+  pub game : Game
+  pub accepted : play_of g m ≡ Ok game
+  pub handed : play_str_of g text ≡ Ok (record { game = game; mv = m })
 
 -- what holds of an accepted text: it was read, it means the listed move m, and it plays m
 pub record Accepted (g : Game) (text : List ℕ) (m : Move) : Type 0 where
@@ -70,56 +67,31 @@ pub record Accepted (g : Game) (text : List ℕ) (m : Move) : Type 0 where
   pub played : Plays g text m
 
 -- an accepted text means the move that is handed back
-pub accepted_says : (g : Game) (text : List ℕ) → (play_str_of g text).answer ≡ Ok tt → Accepted g text (play_str_of g text).mv
+pub accepted_says : (g : Game) (text : List ℕ) (r : PlayedText) → play_str_of g text ≡ Ok r → Accepted g text r.mv
 unfolding play_str_of play_said
-accepted_says g text e = go (valid g) refl (read_move_of text) refl
+accepted_says g text r e = go (valid g) refl (read_move_of text) refl
   where
-    meant : (m : Move) → Accepted g text m → Accepted g text (play_str_of g text).mv
-    meant m a = rw (ap (λ (p : PlayedText). p.mv) a.played.handed) a
+    meant : (m : Move) (h : Game) → play_of g m ≡ Ok h → Ok (record { game = h; mv = m }) ≡ Ok r → play_str_of g text ≡ Ok (record { game = h; mv = m })
+        → (s : Said) → read_move_of text ≡ Ok s → Fitted (last_of g) s m → Accepted g text r.mv
+    meant m h d q p s t f =
+        let x : m ≡ r.mv = cc in
+        rw x at record { said = s; read = t; fitted = f; played = record { game = h; accepted = d; handed = p } }
+
+    done : (m : Move) (s : Said) → read_move_of text ≡ Ok s → Fitted (last_of g) s m → play_str_of g text ≡ beside m (play_of g m)
+        → (a : Result Game Refusal) → play_of g m ≡ a → Accepted g text r.mv
+    done m s t f b (Ok h) d = let q = b ∙ ap (beside m) d in meant m h d (sym q ∙ e) q s t f
+    done m s t f b (Err x) d = not_ok x (sym (b ∙ ap (beside m) d) ∙ e)
 
     at : (h : Said) → read_move_of text ≡ Ok h → valid g ≡ true → (t : Bool) → ended (judged_of g) ≡ t → (f : Result Move Refusal) → fit_of (last_of g) h ≡ f
-        → Accepted g text (play_str_of g text).mv
-    at h r v true o f q = not_done GameOver (rw (v, r, o) at e)
-    at h r v false o (Err x) q = not_done x (rw (v, r, o, q) at e)
-    at h r v false o (Ok m) q =
-        let d : (play_of g m).answer ≡ Ok tt = rw (v, r, o, q) at e in
-        let b : play_str_of g text ≡ beside m (play_of g m) = rw (v, r, o, q) in
-        meant m
-        (record {
-          said = h;
-          read = r;
-          fitted = fit_says (last_of g) h m q;
-          played = record { accepted = d; handed = b ∙ beside_done m (play_of g m) d };
-        })
+        → Accepted g text r.mv
+    at h s v true o f q = not_ok GameOver (rw (v, s, o) at e)
+    at h s v false o (Err x) q = not_ok x (rw (v, s, o, q) at e)
+    at h s v false o (Ok m) q = done m h s (fit_says (last_of g) h m q) (rw (v, s, o, q)) (play_of g m) refl
 
-    go : (t : Bool) → valid g ≡ t → (a : Result Said Refusal) → read_move_of text ≡ a → Accepted g text (play_str_of g text).mv
-    go false v a r = not_done BadGame (rw v at e)
-    go true v (Err x) r = not_done x (rw (v, r) at e)
-    go true v (Ok h) r = at h r v (ended (judged_of g)) refl (fit_of (last_of g) h) refl
-
--- ---- a refused text: the game as it came, and a blank move
-
-refused_is : (g : Game) (e x : Refusal) → ◌≡◌ {A = Result Unit Refusal} (Err e) (Err x) → refused_text g e ≡ refused_text g x
-refused_is g e x h = ap (λ (a : Result Unit Refusal). record { answer = a; game = g; mv = blank_move }) h
-
-pub refused_says : (g : Game) (text : List ℕ) (e : Refusal) → (play_str_of g text).answer ≡ Err e → play_str_of g text ≡ refused_text g e
-unfolding play_str_of play_said
-refused_says g text e k = go (valid g) refl (read_move_of text) refl
-  where
-    at : (h : Said) → read_move_of text ≡ Ok h → valid g ≡ true → (t : Bool) → ended (judged_of g) ≡ t → (f : Result Move Refusal) → fit_of (last_of g) h ≡ f
-        → play_str_of g text ≡ refused_text g e
-    at h r v true o f q = rw (v, r, o) (refused_is g GameOver e (rw (v, r, o) at k))
-    at h r v false o (Err x) q = rw (v, r, o, q) (refused_is g x e (rw (v, r, o, q) at k))
-    at h r v false o (Ok m) q =
-        let f = fit_says (last_of g) h m q in
-        let l : Listed (last_of g) m = record { sound = sound_says (last_of g) f.accepted; few = f.few; in_list = f.in_list } in
-        let d : (play_of g m).answer ≡ Err e = rw (v, r, o, q) at k in
-        not_done e (sym d ∙ ap (λ (p : Played). p.answer) (listed_played g v o m l))
-
-    go : (t : Bool) → valid g ≡ t → (a : Result Said Refusal) → read_move_of text ≡ a → play_str_of g text ≡ refused_text g e
-    go false v a r = rw v (refused_is g BadGame e (rw v at k))
-    go true v (Err x) r = rw (v, r) (refused_is g x e (rw (v, r) at k))
-    go true v (Ok h) r = at h r v (ended (judged_of g)) refl (fit_of (last_of g) h) refl
+    go : (t : Bool) → valid g ≡ t → (a : Result Said Refusal) → read_move_of text ≡ a → Accepted g text r.mv
+    go false v a s = not_ok BadGame (rw v at e)
+    go true v (Err x) s = not_ok x (rw (v, s) at e)
+    go true v (Ok h) s = at h s v (ended (judged_of g)) refl (fit_of (last_of g) h) refl
 
 -- ---- Hub's text of a legal move
 
@@ -129,10 +101,15 @@ told p m l = rw (says_sound p l.sound) at (move_back p m l.sound l.few l.in_list
 
 pub hub_played : (g : Game) (m : Move) → valid g ≡ true → ended (judged_of g) ≡ false → Listed (last_of g) m → Plays g (move_text m) m
 unfolding play_str_of play_said
-hub_played g m v o l = record { accepted = d; handed = rw v (go (read_move_of (move_text m)) refl) ∙ beside_done m (play_of g m) d }
+hub_played g m v o l =
+    record {
+      game = moved_of g m (position_of (successor (board_of (last_of g)) m));
+      accepted = d;
+      handed = rw v (go (read_move_of (move_text m)) refl) ∙ ap (beside m) d;
+    }
   where
-    d : (play_of g m).answer ≡ Ok tt
-    d = ap (λ (p : Played). p.answer) (listed_played g v o m l)
+    d : play_of g m ≡ Ok (moved_of g m (position_of (successor (board_of (last_of g)) m)))
+    d = listed_played g v o m l
 
     go : (a : Result Said Refusal) → read_move_of (move_text m) ≡ a → play_heard g a ≡ beside m (play_of g m)
     go (Ok h) r = let f = rw r at (told (last_of g) m l) in rw (o, f)

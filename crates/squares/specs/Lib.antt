@@ -1,6 +1,7 @@
 pub mod Refusals
 pub mod Pieces
 pub mod Sets
+pub mod Steps
 pub mod Squares
 pub mod Directions
 pub mod Folds

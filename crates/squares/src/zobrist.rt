@@ -13,7 +13,7 @@
 ghost use Rattle.std.specs.Prelude.{◌≡◌, ◌*◌, ◌%◌, ◌^◌};
 ghost use Rattle.squares.specs.Keys.{splitmix64_of, block, set_key_of, piece_key_of, side_key};
 
-use crate::bitboard::{ALL, Bitboard};
+use crate::bitboard::{ALL, Bitboard, Members};
 use crate::piece::{Color, PieceKind};
 use crate::square;
 use crate::square::Square;
@@ -25,16 +25,11 @@ pub struct Drawn {
     pub output: u64,
 }
 
-// The low 64 bits of a product, computed from halves of 32 bits.
+// The low 64 bits of a product.
 pub fn wrapping_mul(a: u64, b: u64) -> u64
     ensures { result ≡ a * b % 2 ^ 64 }
 {
-    let ah = a / 0x1_0000_0000;
-    let al = a % 0x1_0000_0000;
-    let bh = b / 0x1_0000_0000;
-    let bl = b % 0x1_0000_0000;
-    let middle = std::num::wrapping_add_u64(ah * bl, al * bh);
-    std::num::wrapping_add_u64(al * bl, middle << 32)
+    a.wrapping_mul(b)
 }
 
 // Draws once from a state.
@@ -345,12 +340,9 @@ pub fn set_key(color: Color, kind: PieceKind, set: Bitboard) -> u64
     }
     let keys = PIECE_KEYS;
     let from = 64 * index(color, kind);
-    let mut left = set & ALL;
     let mut key: u64 = 0;
-    while left != 0 {
-        let bit = u64::trailing_zeros(left) as usize;
-        key ^= keys[from + bit];
-        left &= left - 1;
+    for bit in Members(set & ALL) {
+        key ^= keys[from + bit as usize];
     }
     key
 }

@@ -55,33 +55,31 @@ returns-then-set-eq0 c = empty_key _ _ _ c.if-set-eq0.true
 pub overflow_mul-from : goal.overflow_mul-from
 overflow_mul-from c = omega (arith, c.index-from.ensures, block_lt c.args.color c.args.kind)
 
-pub loop-left-init : goal.loop-left-init
-loop-left-init c = (record { sum = xor_zero_l _ }, lt_of_le_of_lt (and_le_r c.args.set 0x003F_F7FE_FFDF_FBFF) (omega arith))
+pub loop-bit-init : goal.loop-bit-init
+loop-bit-init c = rw c.into_iter-bit-iterator.ensures.into_iter_gives (record { sum = xor_zero_l _ }, lt_of_le_of_lt (and_le_r c.args.set 0x003F_F7FE_FFDF_FBFF) (omega arith))
 
 -- the entry that is read stands in the table
-in_table : (c : Color) (k : PieceKind) (from left : ℕ) → from ≡ block c k → (left ≡ 0 → ⊥) → left < 2 ^ 54 → (lowest left < 64) × (64 * from + lowest left < 256)
-in_table c k from left e p h =
-    let l = lowest_lt 64 left (omega arith) (omega arith) in (l, omega (arith, block_lt c k))
+in_table : (c : Color) (k : PieceKind) (from left bit : ℕ) → from ≡ block c k → 0 < left → left < 2 ^ 54 → bit ≡ lowest left → 64 * from + bit < 256
+in_table c k from left bit e p h q = omega (arith, block_lt c k, lowest_lt 64 left p (omega arith))
 
-pub overflow_cast-bit : goal.overflow_cast-bit
-overflow_cast-bit c =
-    omega (arith, (in_table c.args.color c.args.kind c.index-from.result c.loop-left.left c.index-from.ensures c.loop-left-test.true c.loop-left.invariant.1).0)
+pub overflow_add-key : goal.overflow_add-key
+overflow_add-key c =
+    omega (arith, in_table c.args.color c.args.kind c.index-from.result c.loop-bit.bit-iterator.0 _ c.index-from.ensures c.in-Some.ensures.steps.0 c.loop-bit.invariant.1 c.in-Some.ensures.steps.1)
 
 pub offset_bounds-keys-from : goal.offset_bounds-keys-from
 offset_bounds-keys-from c =
-    omega (arith, (in_table c.args.color c.args.kind c.index-from.result c.loop-left.left c.index-from.ensures c.loop-left-test.true c.loop-left.invariant.1).1)
+    omega (arith, in_table c.args.color c.args.kind c.index-from.result c.loop-bit.bit-iterator.0 _ c.index-from.ensures c.in-Some.ensures.steps.0 c.loop-bit.invariant.1 c.in-Some.ensures.steps.1)
 
 pub bounds-keys-from : goal.bounds-keys-from
 bounds-keys-from c =
-    (in_table c.args.color c.args.kind c.index-from.result c.loop-left.left c.index-from.ensures c.loop-left-test.true c.loop-left.invariant.1).1
+    in_table c.args.color c.args.kind c.index-from.result c.loop-bit.bit-iterator.0 _ c.index-from.ensures c.in-Some.ensures.steps.0 c.loop-bit.invariant.1 c.in-Some.ensures.steps.1
 
-pub loop-left-smaller : goal.loop-left-smaller
-loop-left-smaller c = omega (arith, and_le_r c.loop-left.left (c.loop-left.left - 1))
-
-pub loop-left-preserved : goal.loop-left-preserved
-loop-left-preserved c =
-    (turn c.loop-left.invariant.0 (omega arith) c.loop-left.invariant.1, omega (arith, and_le_l c.loop-left.left (c.loop-left.left - 1)))
+pub loop-bit-preserved : goal.loop-bit-preserved
+loop-bit-preserved c =
+    let left = c.loop-bit.bit-iterator.0 in
+    let s = c.in-Some.ensures.steps in
+    rw (s.2, s.1) (turn c.loop-bit.invariant.0 s.0 c.loop-bit.invariant.1, omega (arith, and_le_l left (left - 1), c.loop-bit.invariant.1))
 
 pub returns : goal.returns
 unfolding keys outputs output advance scramble
-returns c = ended _ _ _ _ _ _ _ c.index-from.ensures (omega arith) c.loop-left.invariant.0 refl
+returns c = ended _ _ _ _ _ _ _ c.index-from.ensures c.in-None.ensures.steps.0 (rw c.into_iter-bit-iterator.ensures.into_iter_gives at c.loop-bit.invariant.0) refl

@@ -13,8 +13,5 @@ keyed table from s = xor_over (λ i. get_or table (from + i) 0) s
 pub record Left (table : List ℕ) (from left key whole : ℕ) : Type 0 where
   pub sum : bit_xor key (keyed table from left) ≡ whole
 
-abbrev pub invariant-loop-left : goal.invariant-loop-left
-invariant-loop-left l = Left l.keys l.from l.left l.key (keyed l.keys l.from l.initial.left) × (l.left < 2 ^ 54)
-
-abbrev pub decreases-loop-left : goal.decreases-loop-left
-decreases-loop-left l = l.left
+abbrev pub invariant-loop-bit : goal.invariant-loop-bit
+invariant-loop-bit l = Left l.keys l.from l.bit-iterator.0 l.key (keyed l.keys l.from l.initial.bit-iterator.0) × (l.bit-iterator.0 < 2 ^ 54)
