@@ -78,8 +78,11 @@ abbrev pub kind_if : Bool → PieceKind
 kind_if true = King
 kind_if false = Man
 
+abbrev pub piece_of : Color → Bool → Piece
+piece_of c king = record { color = c; kind = kind_if king }
+
 abbrev pub standing_of : Color → Bool → Result (Option Piece) Refusal
-standing_of c king = Ok (Some (record { color = c; kind = kind_if king }))
+standing_of c king = Ok (Some (piece_of c king))
 
 -- what is on square n; refusal 11 where there is no such square
 unfoldable pub piece_at_of : Board → ℕ → Result (Option Piece) Refusal

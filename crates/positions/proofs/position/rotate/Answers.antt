@@ -40,21 +40,23 @@ ended s {left} {out} z e =
     sym (or_zero_r out) ∙ ap (bit_or out) (sym (ap (union_over turned) z ∙ union_none turned)) ∙ e.sum
     ∙ ap (λ (m : ℕ). union_over turned (bit_and s m)) (sym all_is) ∙ is_rotated s
 
-pub loop-left-init : goal.loop-left-init
-loop-left-init c = (record { sum = or_zero_l _ }, lt_of_le_of_lt (and_le_r c.args.set 0x003F_F7FE_FFDF_FBFF) (omega arith))
+pub loop-bit-init : goal.loop-bit-init
+loop-bit-init c =
+    rw c.into_iter-bit-iterator.ensures.into_iter_gives (record { sum = or_zero_l _ }, lt_of_le_of_lt (and_le_r c.args.set 0x003F_F7FE_FFDF_FBFF) (omega arith))
 
 pub overflow_sub-out : goal.overflow_sub-out
 overflow_sub-out c =
-    let h : c.loop-left.left < 2 ^ 54 = c.loop-left.invariant.1 in
-    let low = lowest_in 64 c.loop-left.left (omega arith) (omega arith) in
-    omega (arith, member_lt 54 c.loop-left.left (lowest c.loop-left.left) h low)
+    let left = c.loop-bit.bit-iterator.0 in
+    let s = c.in-Some.ensures.steps in
+    let h : left < 2 ^ 54 = c.loop-bit.invariant.1 in
+    let low = lowest_in 64 left s.0 (omega arith) in
+    omega (arith, s.1, member_lt 54 left (lowest left) h low)
 
-pub loop-left-smaller : goal.loop-left-smaller
-loop-left-smaller c = omega (arith, and_le_r c.loop-left.left (c.loop-left.left - 1))
-
-pub loop-left-preserved : goal.loop-left-preserved
-loop-left-preserved c =
-    (turn c.loop-left.invariant.0 (omega arith) c.loop-left.invariant.1, omega (arith, and_le_l c.loop-left.left (c.loop-left.left - 1)))
+pub loop-bit-preserved : goal.loop-bit-preserved
+loop-bit-preserved c =
+    let left = c.loop-bit.bit-iterator.0 in
+    let s = c.in-Some.ensures.steps in
+    rw (s.2, s.1) (turn c.loop-bit.invariant.0 s.0 c.loop-bit.invariant.1, omega (arith, and_le_l left (left - 1), c.loop-bit.invariant.1))
 
 pub returns : goal.returns
-returns c = ended c.args.set (omega arith) c.loop-left.invariant.0
+returns c = ended c.args.set c.in-None.ensures.steps.0 (rw c.into_iter-bit-iterator.ensures.into_iter_gives at c.loop-bit.invariant.0)

@@ -13,8 +13,5 @@ turned i = (1 * 2 ^ (53 - i)) % 2 ^ 64
 pub record Left (left out whole : ℕ) : Type 0 where
   pub sum : bit_or out (union_over turned left) ≡ whole
 
-abbrev pub invariant-loop-left : goal.invariant-loop-left
-invariant-loop-left l = Left l.left l.out (union_over turned l.initial.left) × (l.left < 2 ^ 54)
-
-abbrev pub decreases-loop-left : goal.decreases-loop-left
-decreases-loop-left l = l.left
+abbrev pub invariant-loop-bit : goal.invariant-loop-bit
+invariant-loop-bit l = Left l.bit-iterator.0 l.out (union_over turned l.initial.bit-iterator.0) × (l.bit-iterator.0 < 2 ^ 54)

@@ -1,25 +1,36 @@
 -- The tests of refusals 12 and 10 in this order, then the score.
-use mathlib.Core.Path.{sym, ◌∙◌}
+use Rattle.std.proofs.Common.{rules}
+use Rattle.std.specs.Prelude.{Err}
+use mathlib.Core.Path.{◌≡◌, sym, ◌∙◌}
 use lib.Dec.{lit<}
+use Rattle.squares.specs.declared.refusal.Refusal.TheVariants.{BadPosition, BeyondLimit}
 use Rattle.squares.proofs.Bools.{and_left}
+use Rattle.squares.proofs.Refusals.{holds, fails}
 use Rattle.positions.specs.Acceptance.{sound}
 use Rattle.scores.proofs.Integers.{read}
 use Rattle.scores.proofs.ScoreSums.{refused_12, refused_10, scored_of}
 use Rattle.scores.proofs.eval.Classical.evaluate.Goals as goal
 
+pub returns-in_err-unless : goal.returns-in_err-unless
+returns-in_err-unless c =
+    let q : c.from_residual.result ≡ Err BadPosition = search rules in
+    q ∙ refused_12 c.args.self c.args.p c.sound.result c.sound.ensures (fails _ _ c.in_err-unless.ensures)
+
+pub returns-in_err-unless-2 : goal.returns-in_err-unless-2
+returns-in_err-unless-2 c =
+    let q : c.from_residual-in_err-unless-2.result ≡ Err BeyondLimit = search rules in
+    q
+    ∙ refused_10 c.args.self c.args.p c.sound.result c.sound.ensures c.fits.result c.fits.ensures (holds _ _ c.in_ok-unless.ensures) (fails _ _ c.in_err-unless-2.ensures)
+
 pub side_score-requires : goal.side_score-requires
 unfolding sound
-side_score-requires c = record { self_value = sym c.fits.ensures ∙ c.if-fits.true; p_value = and_left _ _ (sym c.sound.ensures ∙ c.if-sound.true) }
+side_score-requires c =
+    record {
+      self_value = sym c.fits.ensures ∙ holds _ _ c.in_ok-unless-2.ensures;
+      p_value = and_left _ _ (sym c.sound.ensures ∙ holds _ _ c.in_ok-unless.ensures);
+    }
 
-pub returns-then-fits : goal.returns-then-fits
-returns-then-fits c =
+pub returns : goal.returns
+returns c =
     scored_of c.args.self c.args.p c.sound.result c.sound.ensures
-    c.fits.result c.fits.ensures c.if-sound.true _ c.if-fits.true (read c.side_score.ensures (lit< tt)).is
-
-pub returns-else-fits : goal.returns-else-fits
-returns-else-fits c =
-    refused_10 c.args.self c.args.p c.sound.result c.sound.ensures
-    c.fits.result c.fits.ensures c.if-sound.true c.if-fits.false
-
-pub returns-else-sound : goal.returns-else-sound
-returns-else-sound c = refused_12 c.args.self c.args.p c.sound.result c.sound.ensures c.if-sound.false
+    c.fits.result c.fits.ensures (holds _ _ c.in_ok-unless.ensures) _ (holds _ _ c.in_ok-unless-2.ensures) (read c.side_score.ensures (lit< tt)).is
