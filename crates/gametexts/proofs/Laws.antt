@@ -71,11 +71,12 @@ pub accepted_says : (g : Game) (text : List ℕ) (r : PlayedText) → play_str_o
 unfolding play_str_of play_said
 accepted_says g text r e = go (valid g) refl (read_move_of text) refl
   where
-    meant : (m : Move) (h : Game) → play_of g m ≡ Ok h → Ok (record { game = h; mv = m }) ≡ Ok r → play_str_of g text ≡ Ok (record { game = h; mv = m })
+    meant : (m : Move) (h : Game) → play_of g m ≡ Ok h → ◌≡◌ {A = Result PlayedText Refusal} (Ok (record { game = h; mv = m })) (Ok r) → play_str_of g text ≡ Ok (record { game = h; mv = m })
         → (s : Said) → read_move_of text ≡ Ok s → Fitted (last_of g) s m → Accepted g text r.mv
     meant m h d q p s t f =
         let x : m ≡ r.mv = cc in
-        rw x at record { said = s; read = t; fitted = f; played = record { game = h; accepted = d; handed = p } }
+        let a : Accepted g text m = record { said = s; read = t; fitted = f; played = record { game = h; accepted = d; handed = p } } in
+        rw x at a
 
     done : (m : Move) (s : Said) → read_move_of text ≡ Ok s → Fitted (last_of g) s m → play_str_of g text ≡ beside m (play_of g m)
         → (a : Result Game Refusal) → play_of g m ≡ a → Accepted g text r.mv
