@@ -13,7 +13,7 @@ use Rattle.texts.proofs.Cuts.{rest}
 use Rattle.texts.specs.Bytes.{bytes}
 use Rattle.texts.specs.Lent.{written}
 use Rattle.wording.specs.Words.{same_text}
-use Rattle.texts.proofs.Pieces.{written_length}
+use Rattle.texts.proofs.Pieces.{written_length, starts}
 use Rattle.requests.specs.Requests.{help_text, longest, answer_room, answer_of}
 use Rattle.line_laws.specs.Lines.{whole_of, open_line, carried_of, last_answer}
 use Rattle.std.specs.Prelude.{Option, IsTrue, ◌↔◌}
@@ -116,6 +116,9 @@ given_help l e = rw e
 pub given_line : (l : List ℕ) → same_text l (bytes "--help") ≡ false → answer_of l ++ (10 ∷ []) ≡ given_output l
 unfolding given_output
 given_line l e = rw e
+
+-- what decides what is written for arguments
+pub ruleset given_rules = (given_help, given_line, help_short, starts)
 
 -- ---- the line that is carried over
 take_min : (n : ℕ) (l : List ℕ) → take (min n (length l)) l ≡ take n l

@@ -17,18 +17,15 @@ use Rattle.line_laws.specs.Lines.{output_of, whole_of, whole_lines, carried_of, 
 use Rattle.line_laws.specs.Steps.{Answered}
 use Rattle.line_laws.specs.Runs.{Writes, CutWrites, Run, Fault, Stopped, Follows, Begins}
 use Rattle.line_laws.specs.Runs as runs
+use Rattle.line_laws.proofs.LineLaws.{whole_nil}
+use Rattle.line_laws.proofs.StepLaws.{all_whole, onward_whole}
 use Rattle.frame.specs.Output.{Put}
 use Rattle.frame.specs.declared.output.Failure.{Failure}
 use Rattle.frame.specs.declared.output.Failure.TheVariants as failure
 use Rattle.lines.specs.Contents.{Grew, ReadTo}
-use Rattle.lines.specs.Steps.{SentOf, SentTo}
+use Rattle.lines.specs.Steps.{SentOf, AllSent, CutSent}
 use Rattle.lines.specs.Fed.{FedTo}
 use Rattle.lines.proofs.RunLaws.{run_law, stop_law, read_stop_law}
-
--- a write that failed
-pub put_cut : (a b : Option (List ℕ)) (out : List ℕ) (e : Failure) → Put a b out (Err e) → (n : ℕ) × Appends a b (take n out)
-put_cut a b out failure.Read h = absurd h
-put_cut a b out failure.Write h = h
 
 -- ---- the writes of a turn, up to a place of s
 pub record Writing (a b : Option (List ℕ)) (s : List ℕ) (at : ℕ) : Type 0 where
@@ -41,8 +38,13 @@ pub none_written : (a : Option (List ℕ)) (s : List ℕ) → Writing a a s 0
 none_written a s = record { written = []; sent = Appends-nil a; whole = λ v w. w; cut = λ v w. w }
 
 module _ {a b : Option (List ℕ)} {s : List ℕ} {at : ℕ} (j : Writing a b s at) where
-  pub all_written : whole_of (drop at s) ≡ 0 → (w : List ℕ) × Writes answer_of s 0 w × Appends a b w
-  all_written e = (j.written, subst (λ (l : List ℕ). Writes answer_of s 0 l) (append-nil j.written) (j.whole [] (runs.none e)), j.sent)
+  pub all_written : {out : List ℕ} {to put : ℕ} → Answered answer_of s at out to put → to ≡ at → AllSent a b s
+  all_written q e =
+      record {
+        written = j.written;
+        writes = subst (λ (l : List ℕ). Writes answer_of s 0 l) (append-nil j.written) (j.whole [] (runs.none (q.goes_on e)));
+        sent = j.sent;
+      }
 
   -- the writer gets what a step put, or a beginning of it
   module _ (c : Option (List ℕ)) {out : List ℕ} {to : ℕ} (q : Answered answer_of s at out to (length out)) where
@@ -56,11 +58,16 @@ module _ {a b : Option (List ℕ)} {s : List ℕ} {at : ℕ} (j : Writing a b s 
           cut = λ v w. subst (λ (l : List ℕ). CutWrites answer_of s 0 l) (sym (append_assoc j.written t v)) (j.cut (t ++ v) (runs.CutWrites.more (length out) out q w));
         }
 
-    pub step_cut : (n : ℕ) → Appends b c (take n out) → (w : List ℕ) × CutWrites answer_of s 0 w × Appends a c w
-    step_cut n more =
+    pub step_cut : (e : Failure) → Put b c out (Err e) → CutSent a c s
+    step_cut failure.Read h = absurd h
+    step_cut failure.Write (n, more) =
         let t = take n (take (length out) out) in
         let e : take n out ≡ t = ap (take n) (sym (take-length out)) in
-        (j.written ++ t, j.cut t (runs.fails n (length out) out q), Appends-trans a b c j.written t j.sent (subst (Appends b c) e more))
+        record {
+          written = j.written ++ t;
+          writes = j.cut t (runs.fails n (length out) out q);
+          sent = Appends-trans a b c j.written t j.sent (subst (Appends b c) e more);
+        }
 
 -- ---- the turns of a run, up to what was carried over
 pub record Feeding (left after old new : Option (List ℕ)) (carried : List ℕ) : Type 0 where
@@ -214,13 +221,17 @@ module _ {left mid old now : Option (List ℕ)} {carried : List ℕ} (j : Feedin
 -- ---- a turn: a piece was read after the bytes that were carried over, and the whole lines of s, the bytes then, are answered
 module _ {left mid old now : Option (List ℕ)} {carried : List ℕ} (j : Feeding left mid old now carried) {after : Option (List ℕ)} (then : Option (List ℕ))
     {new : List ℕ} {n : ℕ} (g : Grew mid after carried new n) (s : List ℕ) (q : s ≡ new) where
-  pub turn_more : (w : List ℕ) × Writes answer_of s 0 w × Appends now then w → (last : List ℕ) → last ≡ carried_of longest new → Feeding left after old then last
-  turn_more h last e =
+  pub turn_more : AllSent now then s → (last : List ℕ) → last ≡ carried_of longest new → Feeding left after old then last
+  turn_more w last e =
       let k = take-length last in
       subst (Feeding left after old then) k
-      (fed_turn j after then g.piece g.taken h.0 h.2 (subst (λ (x : List ℕ). Writes answer_of x 0 h.0) (q ∙ g.grown) h.1) (length last) last
+      (fed_turn j after then g.piece g.taken w.written w.sent (subst (λ (x : List ℕ). Writes answer_of x 0 w.written) (q ∙ g.grown) w.writes) (length last) last
       (k ∙ e ∙ ap (carried_of longest) g.grown))
 
-  pub turn_cut : (e : Failure) → SentOf s (Err e) → SentTo now then s (Err e) → FedTo left after old then (Err e)
+  pub turn_cut : (e : Failure) → SentOf s (Err e) → CutSent now then s → FedTo left after old then (Err e)
   turn_cut failure.Read h w = absurd h
-  turn_cut failure.Write h w = fed_write j after then g.piece g.taken w.0 w.2 (subst (λ (x : List ℕ). CutWrites answer_of x 0 w.0) (q ∙ g.grown) w.1)
+  turn_cut failure.Write h w =
+      fed_write j after then g.piece g.taken w.written w.sent (subst (λ (x : List ℕ). CutWrites answer_of x 0 w.written) (q ∙ g.grown) w.writes)
+
+-- the steps of a turn
+pub ruleset write_steps = (none_written, all_written, step_written, whole_nil, all_whole, onward_whole)

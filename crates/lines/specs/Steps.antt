@@ -13,8 +13,18 @@ SentOf s (Ok n) = (n ≤ length s) × (n ≡ whole_of s)
 SentOf s (Err failure.Read) = ⊥
 SentOf s (Err failure.Write) = Unit
 
--- what the writer got, where its bytes are known: the writes of the turn; or those up to one that failed, and a
--- beginning of that one
+-- what the writer got, where its bytes are known: the writes of the turn
+pub record AllSent (old new : Option (List ℕ)) (s : List ℕ) : Type 0 where
+  pub written : List ℕ
+  pub writes : Writes answer_of s 0 written
+  pub sent : Appends old new written
+
+-- or those up to one that failed, and a beginning of that one
+pub record CutSent (old new : Option (List ℕ)) (s : List ℕ) : Type 0 where
+  pub written : List ℕ
+  pub writes : CutWrites answer_of s 0 written
+  pub sent : Appends old new written
+
 abbrev pub SentTo : Option (List ℕ) → Option (List ℕ) → List ℕ → Result ℕ Failure → Type 0
-SentTo old new s (Ok n) = (w : List ℕ) × Writes answer_of s 0 w × Appends old new w
-SentTo old new s (Err e) = (w : List ℕ) × CutWrites answer_of s 0 w × Appends old new w
+SentTo old new s (Ok n) = AllSent old new s
+SentTo old new s (Err e) = CutSent old new s

@@ -21,6 +21,7 @@ const ROOM: usize = 23 * asked::LONGEST;
 
 // How many bytes the buffers have.
 const INPUT: usize = 131072;
+
 const OUTPUT: usize = 1572864;
 
 // The input that is not answered yet: between two reads, the start of a line that is not whole.
@@ -152,6 +153,7 @@ impl Answers {
     }
 
     // At the end of the input: answers the last line, which has no line feed, if there is such a line.
+    #[tactic(auto, using(crate::proofs::Contents::last_none, crate::proofs::Contents::last_some))]
     pub fn last_answer(&mut self, line: &[u8])
         ensures { self.new ≡ last_answer answer_of line.now }
     {
@@ -163,6 +165,7 @@ impl Answers {
 
     // Puts what is written for the arguments, given as one line: the help for `--help`, else the answer and a line
     // feed.
+    #[tactic(auto, using(crate::proofs::Contents::given_rules))]
     pub fn given_answer(&mut self, line: &[u8])
         ensures { self.new ≡ given_output line.now }
     {

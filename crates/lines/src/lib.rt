@@ -36,6 +36,7 @@ use std::io::{Input, Read, Write};
 
 // Writes the answers to the whole lines of s. It stops at the first write that fails. Returns how many bytes these
 // lines are.
+#[tactic(auto, using(crate::proofs::Turns::write_steps))]
 fn write_answers<W: Write>(to: &mut W, s: &[u8], answers: &mut Answers) -> Result<usize, Failure>
     ensures sent { SentOf s.now result }
     ensures sent_to { SentTo (W.contents to.old) (W.contents to.new) s.now result }

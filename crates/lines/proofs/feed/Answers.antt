@@ -13,7 +13,7 @@ pub loop-init : goal.loop-init
 loop-init g c = (
   omega (arith, ap length c.requires),
   subst (turns.Feeding (g.R.Read.remaining c.args.from.now) (g.R.Read.remaining c.args.from.now) (g.W.Write.contents c.args.to.now) (g.W.Write.contents c.args.to.now)) (sym c.requires)
-  (turns.none_fed _ _),
+      (turns.none_fed _ _),
 )
 
 pub returns-in_err-read_more : goal.returns-in_err-read_more
