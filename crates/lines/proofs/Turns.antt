@@ -1,21 +1,18 @@
 -- What was written so far in a turn and in a run, where the bytes of the reader and the writer are known. Each fact says
 -- how any writes that follow go on from there.
-use Prim.Native.Nat.{ℕ, ◌+◌, ◌-◌, ◌≤◌}
+use Prim.Native.Nat.{ℕ, ◌+◌}
 use mathlib.Core.Path.{◌≡◌, refl, ap, sym, ◌∙◌, subst}
-use mathlib.Core.Bool.{Bool, true, false}
 use mathlib.Core.List.{List, [], ◌∷◌, ◌++◌, append_assoc, append-nil}
 use native.Mathlib.Omega.{arith}
-use lib.ListN.{length, take, drop, length-drop}
-use lib.Seq.{take-add, take-length, length-take-le, drop_at}
-use Rattle.std.proofs.Common.{drop_of_length-le}
-use borrow.Rule.Slice.PartMut.{put_mid, post_of}
+use lib.ListN.{length, take}
+use lib.Seq.{take-length}
 use Rattle.std.specs.Prelude.{None, Some, IfSome, Option, Result, Ok, Err}
 use Rattle.std.specs.Io.KnownBytes.{Appends, Consumes, Keeps, IsAtEnd}
 use Rattle.std.proofs.KnownBytes.{Appends-nil, Appends-trans, Consumes-nil, Consumes-trans, Consumes-kept}
 use Rattle.requests.specs.Requests.{longest, answer_of}
-use Rattle.line_laws.specs.Lines.{output_of, whole_of, whole_lines, carried_of, last_answer, together}
+use Rattle.line_laws.specs.Lines.{output_of, whole_lines, carried_of, last_answer, together}
 use Rattle.line_laws.specs.Steps.{Answered}
-use Rattle.line_laws.specs.Runs.{Writes, CutWrites, Run, Fault, Stopped, Follows, Begins}
+use Rattle.line_laws.specs.Runs.{Writes, CutWrites, Run, Fault, Stopped, Begins}
 use Rattle.line_laws.specs.Runs as runs
 use Rattle.line_laws.proofs.LineLaws.{whole_nil}
 use Rattle.line_laws.proofs.StepLaws.{all_whole, onward_whole}

@@ -101,7 +101,8 @@ fn run<E: Env, R: Read, W: Write>(
     answers: &mut Answers,
 ) -> Result<(), Failure>
     requires { input.old ≡ [] }
-    ensures { Ran line.old line.new (R.remaining from.old) (R.remaining from.new) (W.contents to.old) (W.contents to.new) result }
+    ensures { Ran line.old line.new (R.remaining from.old) (R.remaining from.new)
+        (W.contents to.old) (W.contents to.new) result }
 {
     match arguments::arguments(rt, line) {
         Ok(Some(n)) => answer_given(to, &line[..n], answers),

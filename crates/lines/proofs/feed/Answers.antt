@@ -1,7 +1,5 @@
 -- What is carried over leaves room for a read.
 use mathlib.Core.Path.{ap, sym, subst}
-use mathlib.Core.List.{List}
-use Prim.Native.Nat.{ℕ}
 use lib.ListN.{length}
 use native.Mathlib.Omega.{arith}
 use Rattle.std.proofs.KnownBytes.{Keeps-refl}

@@ -1,7 +1,6 @@
 -- What is moved is what is carried over.
 use mathlib.Core.Path.{◌≡◌, ap, sym, ◌∙◌}
-use mathlib.Core.List.{List}
-use Prim.Native.Nat.{ℕ, ◌+◌, ◌-◌, min}
+use Prim.Native.Nat.{◌+◌, ◌-◌, min}
 use native.Mathlib.Omega.{arith}
 use Rattle.requests.specs.Requests.{longest}
 use Rattle.line_laws.specs.Lines.{whole_of, carried_of}
