@@ -1,6 +1,6 @@
 -- What was written so far in a turn and in a run, where the bytes of the reader and the writer are known. Each fact says
 -- how any writes that follow go on from there.
-use Prim.Native.Nat.{ℕ, ◌+◌}
+use Prim.Native.Nat.{ℕ}
 use mathlib.Core.Path.{◌≡◌, refl, ap, sym, ◌∙◌, subst}
 use mathlib.Core.List.{List, [], ◌∷◌, ◌++◌, append_assoc, append-nil}
 use native.Mathlib.Omega.{arith}

@@ -1,7 +1,7 @@
 -- Line by line: the answers so far are those to the lines so far.
 use mathlib.Core.Path.{ap, sym, ◌∙◌, subst}
 use mathlib.Core.List.{List, [], ◌∷◌, ◌++◌}
-use Prim.Native.Nat.{ℕ, ◌+◌, ◌-◌}
+use Prim.Native.Nat.{ℕ, ◌-◌}
 use lib.ListN.{length, take, drop}
 use lib.Seq.{take-length}
 use native.Mathlib.Omega.{arith}
