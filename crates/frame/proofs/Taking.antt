@@ -6,13 +6,13 @@ use mathlib.Core.Bool.{Bool, true, false, ◌||◌}
 use native.Mathlib.Omega.{arith}
 use native.Mathlib.Numerals.{add-one}
 use Rattle.std.specs.declared.option.Option.{Option}
-use Rattle.std.proofs.KnownBytes.{Consumes-nil, Consumes-trans, Consumes-kept}
-use Rattle.std.specs.Io.KnownBytes.{Consumes, Keeps}
+use Rattle.std.proofs.KnownBytes.{Consumes-nil, Consumes-trans}
+use Rattle.std.specs.Io.KnownBytes.{Consumes}
 use lib.Dec.{eqb}
 use lib.ListN.{length, take, drop, set, length-set, length-drop}
 use lib.Seq.{drop-drop, take-suc-set, drop-set-lt, take-append-add, take-append-le, length-take-le}
 use borrow.Author.Tests.{ne_eqb}
-use borrow.Rule.Slice.PartMut.{put_mid, post_of, same_len_mid, take_put}
+use borrow.Rule.Slice.PartMut.{put_mid, post_of, same_len_mid}
 use Rattle.texts.specs.Bytes.{holds}
 use Rattle.texts.proofs.Cuts.{rest}
 use Rattle.frame.specs.Input.{LineIn}
@@ -69,17 +69,11 @@ module _ (a b c : Option (List ℕ)) (buf : List ℕ) (n : ℕ) (before : Consum
         ∙ ap (λ (l : List ℕ). take n buf ++ l) (take-append-le k part post fits) in
         subst (Consumes a c) (sym e) (Consumes-trans a b c (take n buf) (take k part) before more)
 
-    pub taken_same : Keeps b c → Consumes a c (take n (put_mid n (length buf - n) buf part))
-    taken_same same = subst (Consumes a c) (sym (take_put n (length buf - n) buf part h)) (Consumes-kept a b c (take n buf) before same)
-
   -- a byte more
   pub byte_more : (x : ℕ) → n < length buf → Consumes b c (x ∷ []) → Consumes a c (take (n + 1) (set buf n x))
   byte_more x h more =
       let e : take (n + 1) (set buf n x) ≡ take n buf ++ (x ∷ []) = ap (λ (k : ℕ). take k (set buf n x)) (add-one n) ∙ take-suc-set buf n x h in
       subst (Consumes a c) (sym e) (Consumes-trans a b c (take n buf) (x ∷ []) before more)
 
-  pub feed_more : (x : ℕ) → x ≡ 10 → Consumes b c (x ∷ []) → Consumes a c (take n buf ++ (10 ∷ []))
-  feed_more x e more = Consumes-trans a b c (take n buf) (10 ∷ []) before (subst (λ (y : ℕ). Consumes b c (y ∷ [])) e more)
-
-  pub no_more : Keeps b c → Consumes a c (take n buf)
-  no_more same = Consumes-kept a b c (take n buf) before same
+-- read by read
+pub ruleset by_reads = (part_fits, same_buffer, taken_more)

@@ -55,6 +55,7 @@ pub fn read_line<R: Read>(from: &mut R, buf: &mut [u8]) -> Result<usize, Failure
 
 // Reads up to the end of the input or the end of the buffer. Returns how many bytes that is. A full buffer may be the
 // start of a longer input, so it has one byte more than the longest input that the program takes.
+#[tactic(auto, using(crate::proofs::Taking::by_reads))]
 pub fn read_all<R: Read>(from: &mut R, buf: &mut [u8]) -> Result<usize, Failure>
     ensures taken_in { TakenIn (length buf.new) result }
     ensures taken_from { TakenFrom (R.remaining from.old) (R.remaining from.new) buf.new result }
