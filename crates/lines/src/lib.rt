@@ -16,7 +16,6 @@
 // `read_stop_law`). What is written for arguments is what is written for an input of that line alone (`given_law`).
 #![tactic(auto)]
 
-ghost use Rattle.std.specs.Prelude.{◌≡◌, []};
 ghost use Rattle.requests.specs.Requests.{answer_of};
 ghost use Rattle.frame.specs.Output.{Put};
 ghost use Rattle.line_laws.specs.Lines.{last_answer};
@@ -62,15 +61,10 @@ fn write_last<W: Write>(to: &mut W, line: &[u8], answers: &mut Answers) -> Resul
 
 // Each turn reads once and answers the lines that are whole then. After a read or a write that fails, nothing more is
 // answered or written. After u64::MAX turns, which no run reaches, it ends as if a read had failed.
-fn feed<R: Read, W: Write>(
-    from: &mut R,
-    to: &mut W,
-    input: &mut Unanswered,
-    answers: &mut Answers,
-) -> Result<(), Failure>
-    requires { input.old ≡ [] }
+fn feed<R: Read, W: Write>(from: &mut R, to: &mut W, answers: &mut Answers) -> Result<(), Failure>
     ensures { FedTo (R.remaining from.old) (R.remaining from.new) (W.contents to.old) (W.contents to.new) result }
 {
+    let mut input = Unanswered::new();
     for _ in 0..u64::MAX {
         if input.read_more(from)? == 0 {
             return write_last(to, input.as_slice(), answers);
@@ -97,16 +91,14 @@ fn run<E: Env, R: Read, W: Write>(
     from: &mut R,
     to: &mut W,
     line: &mut [u8],
-    input: &mut Unanswered,
     answers: &mut Answers,
 ) -> Result<(), Failure>
-    requires { input.old ≡ [] }
     ensures { Ran line.old line.new (R.remaining from.old) (R.remaining from.new)
         (W.contents to.old) (W.contents to.new) result }
 {
     match arguments::arguments(rt, line) {
         Ok(Some(n)) => answer_given(to, &line[..n], answers),
-        Ok(None) => feed(from, to, input, answers),
+        Ok(None) => feed(from, to, answers),
         Err(TooLong) => answer_given(to, line, answers),
     }
 }
@@ -115,12 +107,8 @@ fn run<E: Env, R: Read, W: Write>(
 // error.
 pub fn serve<R: Env + Input + Print + Eprint>(rt: &R) {
     let mut line = [0u8; 65537];
-    let mut input = Unanswered::new();
     let mut answers = Answers::new();
     let mut from = rt.reader();
     let mut to = io::writer(rt);
-    output::report(
-        rt,
-        run(rt, &mut from, &mut to, &mut line, &mut input, &mut answers),
-    );
+    output::report(rt, run(rt, &mut from, &mut to, &mut line, &mut answers));
 }

@@ -9,8 +9,8 @@ use Rattle.lines.proofs.feed.Goals as goal
 
 pub loop-init : goal.loop-init
 loop-init g c = (
-  omega (arith, ap length c.requires),
-  subst (turns.Feeding (g.R.Read.remaining c.args.from.now) (g.R.Read.remaining c.args.from.now) (g.W.Write.contents c.args.to.now) (g.W.Write.contents c.args.to.now)) (sym c.requires)
+  omega (arith, ap length c.new-input.ensures),
+  subst (turns.Feeding (g.R.Read.remaining c.args.from.now) (g.R.Read.remaining c.args.from.now) (g.W.Write.contents c.args.to.now) (g.W.Write.contents c.args.to.now)) (sym c.new-input.ensures)
       (turns.none_fed _ _),
 )
 
