@@ -1,5 +1,5 @@
 -- One word more is joined to those before it.
-use Prim.Native.Nat.{ℕ, ◌+◌, ◌≤◌, ◌<◌}
+use Prim.Native.Nat.{ℕ, ◌+◌, ◌<◌}
 use mathlib.Core.Path.{◌≡◌, refl, ap, sym, ◌∙◌, subst}
 use mathlib.Core.List.{List, [], ◌∷◌, ◌++◌, append_assoc}
 use mathlib.Core.Bool.{Bool}
@@ -11,14 +11,7 @@ use borrow.Author.Tests.{ne_eqb}
 use Rattle.texts.specs.Bytes.{joined}
 use Rattle.texts.specs.Lent.{written, Holds, Adds}
 use Rattle.texts.proofs.Pieces.{start, holds_length}
-use Rattle.frame.specs.Arguments.{next_word, WordIn, Joined, GivenIn}
-use Rattle.frame.specs.declared.arguments.Given.{Given}
-use Rattle.frame.specs.declared.arguments.Given.TheVariants as given
-use Rattle.frame.specs.declared.arguments.Word.{Word}
-use Rattle.frame.specs.declared.arguments.Word.TheVariants as word
-
-pub word_bytes : (s : List ℕ) (r : Word) (n : ℕ) → WordIn s r → r ≡ word.Bytes n → n ≤ length s
-word_bytes s r n h e = subst (λ (x : Word). WordIn s x) e h
+use Rattle.frame.specs.Arguments.{next_word, Joined}
 
 -- the words before number i were joined over the old buffer, up to the place
 pub record Joining (old new : List ℕ) (at i : ℕ) : Type 0 where
@@ -77,6 +70,3 @@ all_given {old} {new} {at} {i} j some room =
           j.held.bytes ∙ ap (λ (x : List ℕ). x ++ drop (length t) old) (take_all (length old) t (omega (arith, free, p)))
           ∙ ap (λ (k : ℕ). t ++ drop k old) (sym p);
     }
-
-pub given_line : (old new : List ℕ) (r : Given) (n : ℕ) → GivenIn old new r → r ≡ given.Line n → Joined old new n
-given_line old new r n h e = subst (λ (x : Given). GivenIn old new x) e h

@@ -1,52 +1,21 @@
 -- One more read, or one more byte of a line.
-use Prim.Native.Nat.{ℕ, zero, suc, ◌+◌, ◌-◌, ◌≤◌, ◌<◌}
+use Prim.Native.Nat.{ℕ, ◌+◌, ◌-◌, ◌≤◌, ◌<◌}
 use mathlib.Core.Path.{◌≡◌, refl, ap, sym, ◌∙◌, subst}
 use mathlib.Core.List.{List, [], ◌∷◌, ◌++◌}
 use mathlib.Core.Bool.{Bool, true, false, ◌||◌}
 use native.Mathlib.Omega.{arith}
 use native.Mathlib.Numerals.{add-one}
-use Rattle.std.specs.Prelude.{Result, Ok, Err, None, Some}
 use Rattle.std.specs.declared.option.Option.{Option}
-use Rattle.std.specs.Io.{ReadsAtMost}
-use Rattle.std.proofs.KnownBytes.{Consumes-nil, Consumes-trans, Consumes-kept}
-use Rattle.std.specs.Io.KnownBytes.{ReadConsumes, Consumes, Keeps}
+use Rattle.std.proofs.KnownBytes.{Consumes-nil, Consumes-trans}
+use Rattle.std.specs.Io.KnownBytes.{Consumes}
 use lib.Dec.{eqb}
 use lib.ListN.{length, take, drop, set, length-set, length-drop}
 use lib.Seq.{drop-drop, take-suc-set, drop-set-lt, take-append-add, take-append-le, length-take-le}
 use borrow.Author.Tests.{ne_eqb}
-use borrow.Rule.Slice.PartMut.{put_mid, post_of, same_len_mid, take_put}
+use borrow.Rule.Slice.PartMut.{put_mid, post_of, same_len_mid}
 use Rattle.texts.specs.Bytes.{holds}
 use Rattle.texts.proofs.Cuts.{rest}
-use Rattle.frame.specs.Input.{came_of, CameIn, CameFrom, LineIn}
-use Rattle.frame.specs.declared.input.Came.{Came}
-use Rattle.frame.specs.declared.input.Came.TheVariants as came
-
--- ---- one read
-fits : {E : Type 0} (got : Result ℕ E) (space : List ℕ) → ReadsAtMost got space → CameIn (length space) (came_of got)
-unfolding came_of
-fits (Ok zero) space h = tt
-fits (Ok (suc k)) space h = (h.0, λ some. omega arith)
-fits (Err e) space h = tt
-
-pub came_in : {E : Type 0} (got : Result ℕ E) (space : List ℕ) (r : Came) → ReadsAtMost got space → r ≡ came_of got → CameIn (length space) r
-came_in got space r h e = subst (λ (x : Came). CameIn (length space) x) (sym e) (fits got space h)
-
-nothing : (a b : Option (List ℕ)) → Consumes a b [] → Keeps a b
-nothing None b h = tt
-nothing (Some x) None h = absurd h
-nothing (Some x) (Some y) h = sym h
-
-took : {E : Type 0} (a b : Option (List ℕ)) (got : Result ℕ E) (space : List ℕ) → ReadConsumes a b got space → CameFrom a b space (came_of got)
-unfolding came_of
-took a b (Ok zero) space h = (nothing a b h.0, λ some. h.1 refl some)
-took a b (Ok (suc k)) space h = h.0
-took a b (Err e) space h = h
-
-pub came_took : {E : Type 0} (a b : Option (List ℕ)) (got : Result ℕ E) (space : List ℕ) (r : Came) → ReadConsumes a b got space → r ≡ came_of got → CameFrom a b space r
-came_took a b got space r h e = subst (λ (x : Came). CameFrom a b space x) (sym e) (took a b got space h)
-
-pub came_bytes : (space : ℕ) (r : Came) (n : ℕ) → CameIn space r → r ≡ came.Bytes n → (n ≤ space) × (0 < space → 0 < n)
-came_bytes space r n h e = subst (λ (x : Came). CameIn space x) e h
+use Rattle.frame.specs.Input.{LineIn}
 
 -- a read into the part of a buffer from a place on
 module _ (buf part : List ℕ) (n : ℕ) (h : n < length buf) (e : length part ≡ length (take (length buf - n) (drop n buf))) where
@@ -56,8 +25,8 @@ module _ (buf part : List ℕ) (n : ℕ) (h : n < length buf) (e : length part �
   pub same_buffer : length (put_mid n (length buf - n) buf part) ≡ length buf
   same_buffer = same_len_mid n (length buf - n) buf part e
 
-  pub part_came : (r : Came) (k : ℕ) → CameIn (length part) r → r ≡ came.Bytes k → (n + k ≤ length buf) × (0 < k)
-  part_came r k c q = let b = came_bytes (length part) r k c q in (omega (arith, b.0, part_length), b.1 (omega (arith, part_length)))
+  pub part_fits : (k : ℕ) → k ≤ length part → n + k ≤ length buf
+  part_fits k c = omega (arith, c, part_length)
 
 -- ---- a line, byte by byte
 pub line_start : (o : List ℕ) → LineIn o o 0
@@ -100,17 +69,11 @@ module _ (a b c : Option (List ℕ)) (buf : List ℕ) (n : ℕ) (before : Consum
         ∙ ap (λ (l : List ℕ). take n buf ++ l) (take-append-le k part post fits) in
         subst (Consumes a c) (sym e) (Consumes-trans a b c (take n buf) (take k part) before more)
 
-    pub taken_same : Keeps b c → Consumes a c (take n (put_mid n (length buf - n) buf part))
-    taken_same same = subst (Consumes a c) (sym (take_put n (length buf - n) buf part h)) (Consumes-kept a b c (take n buf) before same)
-
   -- a byte more
   pub byte_more : (x : ℕ) → n < length buf → Consumes b c (x ∷ []) → Consumes a c (take (n + 1) (set buf n x))
   byte_more x h more =
       let e : take (n + 1) (set buf n x) ≡ take n buf ++ (x ∷ []) = ap (λ (k : ℕ). take k (set buf n x)) (add-one n) ∙ take-suc-set buf n x h in
       subst (Consumes a c) (sym e) (Consumes-trans a b c (take n buf) (x ∷ []) before more)
 
-  pub feed_more : (x : ℕ) → x ≡ 10 → Consumes b c (x ∷ []) → Consumes a c (take n buf ++ (10 ∷ []))
-  feed_more x e more = Consumes-trans a b c (take n buf) (10 ∷ []) before (subst (λ (y : ℕ). Consumes b c (y ∷ [])) e more)
-
-  pub no_more : Keeps b c → Consumes a c (take n buf)
-  no_more same = Consumes-kept a b c (take n buf) before same
+-- read by read
+pub ruleset by_reads = (part_fits, same_buffer, taken_more)

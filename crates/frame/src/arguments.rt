@@ -3,29 +3,16 @@
 // No contract says which arguments there are, since that of the library's `arg` does not. `join` only fills a buffer,
 // and its contract says which bytes it adds. Only the code shows that the words joined are the arguments, in order.
 // An argument need not be UTF-8: its bytes are passed on as they are.
-ghost use Rattle.std.specs.Prelude.{◌≡◌, length};
+ghost use Rattle.std.specs.Prelude.{length};
 ghost use Rattle.texts.specs.Lent.{Adds};
 ghost use Rattle.frame.specs.Arguments.{next_word, WordIn, GivenIn};
 
 use std::env::{Env, FillError};
 use wording::output;
 
-// The arguments: a line of so many bytes, at the start of the buffer; none; or too long, so that no byte of the
-// buffer would be free.
+// The arguments, or one of them, have no room: at least one byte of the buffer would have to be free.
 #[derive(Clone, Copy)]
-pub enum Given {
-    Line(usize),
-    Nothing,
-    Long,
-}
-
-// One argument: so many bytes, or too long; or there is none of this number.
-#[derive(Clone, Copy)]
-enum Word {
-    Bytes(usize),
-    Long,
-    Absent,
-}
+pub struct TooLong;
 
 // Puts a word at a place of the buffer, after a space unless it is the first word. What has no room is left out.
 // Returns the place after the word.
@@ -39,19 +26,21 @@ fn join(buf: &mut [u8], at: usize, first: bool, word: &[u8]) -> usize
     output::put(buf, k, word)
 }
 
-// Puts the argument of this number at the start of the word.
-fn read_word<E: Env>(rt: &E, i: usize, word: &mut [u8]) -> Word
+// Puts the argument of this number at the start of the word. Returns how many bytes it has, or nothing where there is
+// no argument of this number.
+fn read_word<E: Env>(rt: &E, i: usize, word: &mut [u8]) -> Result<Option<usize>, TooLong>
     ensures { WordIn word.new result }
 {
     match rt.arg(i, word) {
-        Ok(n) => Word::Bytes(n),
-        Err(FillError::TooLong) => Word::Long,
-        Err(FillError::NotPresent) => Word::Absent,
+        Ok(n) => Ok(Some(n)),
+        Err(FillError::NotPresent) => Ok(None),
+        Err(FillError::TooLong) => Err(TooLong),
     }
 }
 
-// Puts the arguments, joined by single spaces, at the start of the buffer. The bytes after them stay.
-pub fn arguments<E: Env>(rt: &E, buf: &mut [u8]) -> Given
+// Puts the arguments, joined by single spaces, at the start of the buffer. Returns how many bytes that is, or nothing
+// where there are no arguments. The bytes after them stay.
+pub fn arguments<E: Env>(rt: &E, buf: &mut [u8]) -> Result<Option<usize>, TooLong>
     ensures { GivenIn buf.old buf.new result }
 {
     // Linux passes no argument of more bytes.
@@ -59,24 +48,17 @@ pub fn arguments<E: Env>(rt: &E, buf: &mut [u8]) -> Given
     let mut at = 0;
     let mut i = 1;
     while i < usize::MAX {
-        match read_word(rt, i, &mut word) {
-            Word::Bytes(n) => {
-                at = join(buf, at, i == 1, &word[..n]);
-                i += 1;
-            }
-            Word::Long => {
-                return Given::Long;
-            }
-            Word::Absent => {
-                break;
-            }
-        }
+        let Some(n) = read_word(rt, i, &mut word)? else {
+            break;
+        };
+        at = join(buf, at, i == 1, &word[..n]);
+        i += 1;
     }
     if i == 1 {
-        return Given::Nothing;
+        return Ok(None);
     }
     if at == buf.len() {
-        return Given::Long;
+        return Err(TooLong);
     }
-    Given::Line(at)
+    Ok(Some(at))
 }

@@ -7,116 +7,66 @@
 //
 // A read fails where the reader answers an error. The reason is not asked: a call that a signal interrupts, or that
 // would have to wait on a descriptor that must not wait, counts as one that failed.
-ghost use Rattle.std.specs.Prelude.{◌≡◌, length};
-ghost use Rattle.frame.specs.Input.{came_of, CameIn, CameFrom, SingleFrom, TakenIn, TakenFrom, TakenLine, LineFrom};
+ghost use Rattle.std.specs.Prelude.{length};
+ghost use Rattle.frame.specs.Input.{CameIn, CameFrom, SingleFrom, TakenIn, TakenFrom, TakenLine, LineFrom};
 
-use std::io;
+use crate::output::Failure;
 use std::io::Read;
 
-// What one read brought: so many bytes, or the end of the input; or it failed.
-#[derive(Clone, Copy)]
-pub enum Came {
-    Bytes(usize),
-    End,
-    Failed,
-}
-
-// What the read of one byte brought.
-#[derive(Clone, Copy)]
-enum Single {
-    Byte(u8),
-    End,
-    Failed,
-}
-
-// What was read: so many bytes, at the start of the buffer; or a read failed.
-#[derive(Clone, Copy)]
-pub enum Taken {
-    Bytes(usize),
-    Failed,
-}
-
-// What the answer of a read means: an error is a failure, and no byte is the end of the input.
-fn what_came(got: io::Result<usize>) -> Came
-    ensures { result ≡ came_of got }
-{
-    match got {
-        Ok(n) => {
-            if n == 0 {
-                return Came::End;
-            }
-            Came::Bytes(n)
-        }
-        Err(_) => Came::Failed,
-    }
-}
-
-// Reads once, into the start of the space. A space without bytes gives the end of the input.
-pub fn read_once<R: Read>(from: &mut R, space: &mut [u8]) -> Came
+// Reads once, into the start of the space. Returns how many bytes that is: 0 is the end of the input, or the space has
+// no byte.
+pub fn read_once<R: Read>(from: &mut R, space: &mut [u8]) -> Result<usize, Failure>
     ensures came_in { CameIn (length space.new) result }
     ensures came_from { CameFrom (R.remaining from.old) (R.remaining from.new) space.new result }
 {
-    let got = from.read(space);
-    what_came(got)
+    match from.read(space) {
+        Ok(n) => Ok(n),
+        Err(_) => Err(Failure::Read),
+    }
 }
 
-fn read_byte<R: Read>(from: &mut R) -> Single
+// Reads one byte. Returns nothing at the end of the input.
+fn read_byte<R: Read>(from: &mut R) -> Result<Option<u8>, Failure>
     ensures { SingleFrom (R.remaining from.old) (R.remaining from.new) result }
 {
     let mut one = [0u8; 1];
-    match read_once(from, &mut one) {
-        Came::Bytes(_) => Single::Byte(one[0]),
-        Came::End => Single::End,
-        Came::Failed => Single::Failed,
+    if read_once(from, &mut one)? == 0 {
+        return Ok(None);
     }
+    Ok(Some(one[0]))
 }
 
-// Reads byte by byte up to a line feed, the end of the input or the end of the buffer. The line feed is not put into
-// the buffer. A full buffer may be the start of a longer line. The bytes of the buffer after the line stay.
-pub fn read_line<R: Read>(from: &mut R, buf: &mut [u8]) -> Taken
+// Reads byte by byte up to a line feed, the end of the input or the end of the buffer. Returns how many bytes the line
+// has: the line feed is not put into the buffer. A full buffer may be the start of a longer line. The bytes of the
+// buffer after the line stay.
+pub fn read_line<R: Read>(from: &mut R, buf: &mut [u8]) -> Result<usize, Failure>
     ensures line { TakenLine buf.old buf.new result }
     ensures line_from { LineFrom (R.remaining from.old) (R.remaining from.new) buf.new result }
 {
-    let mut n = 0;
-    while n < buf.len() {
-        match read_byte(from) {
-            Single::Byte(b) => {
-                if b == b'\n' {
-                    return Taken::Bytes(n);
-                }
-                buf[n] = b;
-                n += 1;
-            }
-            Single::End => {
-                return Taken::Bytes(n);
-            }
-            Single::Failed => {
-                return Taken::Failed;
-            }
+    for n in 0..buf.len() {
+        match read_byte(from)? {
+            None => return Ok(n),
+            Some(b'\n') => return Ok(n),
+            Some(b) => buf[n] = b,
         }
     }
-    Taken::Bytes(n)
+    Ok(buf.len())
 }
 
-// Reads up to the end of the input or the end of the buffer. A full buffer may be the start of a longer input, so it
-// has one byte more than the longest input that the program takes.
-pub fn read_all<R: Read>(from: &mut R, buf: &mut [u8]) -> Taken
+// Reads up to the end of the input or the end of the buffer. Returns how many bytes that is. A full buffer may be the
+// start of a longer input, so it has one byte more than the longest input that the program takes.
+#[tactic(auto, using(crate::proofs::Taking::by_reads))]
+pub fn read_all<R: Read>(from: &mut R, buf: &mut [u8]) -> Result<usize, Failure>
     ensures taken_in { TakenIn (length buf.new) result }
     ensures taken_from { TakenFrom (R.remaining from.old) (R.remaining from.new) buf.new result }
 {
     let mut n = 0;
     while n < buf.len() {
-        match read_once(from, &mut buf[n..]) {
-            Came::Bytes(k) => {
-                n += k;
-            }
-            Came::End => {
-                return Taken::Bytes(n);
-            }
-            Came::Failed => {
-                return Taken::Failed;
-            }
+        let k = read_once(from, &mut buf[n..])?;
+        if k == 0 {
+            return Ok(n);
         }
+        n += k;
     }
-    Taken::Bytes(n)
+    Ok(n)
 }

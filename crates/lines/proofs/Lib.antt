@@ -1,4 +1,3 @@
-pub mod Moved
 pub mod RunLaws
-pub mod Buffers
+pub mod Contents
 pub mod Turns

@@ -18,7 +18,7 @@ use Rattle.line_laws.proofs.OutputLaws.{one_line}
 use Rattle.line_laws.proofs.RunLaws as laws
 use Rattle.line_laws.proofs.SomeRuns as some
 use Rattle.lines.specs.Given.{given_output}
-use Rattle.lines.proofs.Buffers.{given_line}
+use Rattle.lines.proofs.Contents.{given_line}
 
 -- all lines that are too long have one answer
 pub long_same : (l m : List ℕ) → longest < length l → longest < length m → answer_of l ≡ answer_of m

@@ -1,35 +1,28 @@
 -- What was written so far in a turn and in a run, where the bytes of the reader and the writer are known. Each fact says
 -- how any writes that follow go on from there.
-use Prim.Native.Nat.{ℕ, ◌+◌, ◌-◌, ◌≤◌}
+use Prim.Native.Nat.{ℕ}
 use mathlib.Core.Path.{◌≡◌, refl, ap, sym, ◌∙◌, subst}
-use mathlib.Core.Bool.{Bool, true, false}
 use mathlib.Core.List.{List, [], ◌∷◌, ◌++◌, append_assoc, append-nil}
 use native.Mathlib.Omega.{arith}
-use lib.ListN.{length, take, drop, length-drop}
-use lib.Seq.{take-add, take-length, length-take-le, drop_at}
-use Rattle.std.proofs.Common.{drop_of_length-le}
-use borrow.Rule.Slice.PartMut.{put_mid, post_of}
-use Rattle.std.specs.Prelude.{None, Some, IfSome}
-use Rattle.std.specs.declared.option.Option.{Option}
+use lib.ListN.{length, take}
+use lib.Seq.{take-length}
+use Rattle.std.specs.Prelude.{None, Some, IfSome, Option, Result, Ok, Err}
 use Rattle.std.specs.Io.KnownBytes.{Appends, Consumes, Keeps, IsAtEnd}
 use Rattle.std.proofs.KnownBytes.{Appends-nil, Appends-trans, Consumes-nil, Consumes-trans, Consumes-kept}
 use Rattle.requests.specs.Requests.{longest, answer_of}
-use Rattle.line_laws.specs.Lines.{output_of, whole_of, whole_lines, carried_of, last_answer, together}
+use Rattle.line_laws.specs.Lines.{output_of, whole_lines, carried_of, last_answer, together}
 use Rattle.line_laws.specs.Steps.{Answered}
-use Rattle.line_laws.specs.Runs.{Writes, CutWrites, Run, Fault, Stopped, Follows, Begins}
+use Rattle.line_laws.specs.Runs.{Writes, CutWrites, Run, Fault, Stopped, Begins}
 use Rattle.line_laws.specs.Runs as runs
-use Rattle.frame.specs.Output.{Put, PutAtEnd}
-use Rattle.frame.specs.declared.output.Ended.{Ended}
-use Rattle.frame.specs.declared.output.Ended.TheVariants as ended
+use Rattle.line_laws.proofs.LineLaws.{whole_nil}
+use Rattle.line_laws.proofs.StepLaws.{all_whole, onward_whole}
+use Rattle.frame.specs.Output.{Put}
+use Rattle.frame.specs.declared.output.Failure.{Failure}
+use Rattle.frame.specs.declared.output.Failure.TheVariants as failure
+use Rattle.lines.specs.Contents.{Grew, ReadTo}
+use Rattle.lines.specs.Steps.{SentOf, AllSent, CutSent}
 use Rattle.lines.specs.Fed.{FedTo}
 use Rattle.lines.proofs.RunLaws.{run_law, stop_law, read_stop_law}
-
--- ---- a write, by whether it was whole
-pub put_whole : (a b : Option (List ℕ)) (out : List ℕ) (w : Bool) → Put a b out w → w ≡ true → Appends a b out
-put_whole a b out w h e = subst (Put a b out) e h
-
-pub put_cut : (a b : Option (List ℕ)) (out : List ℕ) (w : Bool) → Put a b out w → w ≡ false → (n : ℕ) × Appends a b (take n out)
-put_cut a b out w h e = subst (Put a b out) e h
 
 -- ---- the writes of a turn, up to a place of s
 pub record Writing (a b : Option (List ℕ)) (s : List ℕ) (at : ℕ) : Type 0 where
@@ -42,23 +35,36 @@ pub none_written : (a : Option (List ℕ)) (s : List ℕ) → Writing a a s 0
 none_written a s = record { written = []; sent = Appends-nil a; whole = λ v w. w; cut = λ v w. w }
 
 module _ {a b : Option (List ℕ)} {s : List ℕ} {at : ℕ} (j : Writing a b s at) where
-  pub all_written : whole_of (drop at s) ≡ 0 → (w : List ℕ) × Writes answer_of s 0 w × Appends a b w
-  all_written e = (j.written, subst (λ (l : List ℕ). Writes answer_of s 0 l) (append-nil j.written) (j.whole [] (runs.none e)), j.sent)
+  pub all_written : {out : List ℕ} {to put : ℕ} → Answered answer_of s at out to put → to ≡ at → AllSent a b s
+  all_written q e =
+      record {
+        written = j.written;
+        writes = subst (λ (l : List ℕ). Writes answer_of s 0 l) (append-nil j.written) (j.whole [] (runs.none (q.goes_on e)));
+        sent = j.sent;
+      }
 
-  module _ (c : Option (List ℕ)) {out : List ℕ} {to put : ℕ} (q : Answered answer_of s at out to put) where
-    pub step_written : Appends b c (take put out) → Writing a c s to
+  -- the writer gets what a step put, or a beginning of it
+  module _ (c : Option (List ℕ)) {out : List ℕ} {to : ℕ} (q : Answered answer_of s at out to (length out)) where
+    pub step_written : Appends b c out → Writing a c s to
     step_written more =
-        let t = take put out in
+        let t = take (length out) out in
         record {
           written = j.written ++ t;
-          sent = Appends-trans a b c j.written t j.sent more;
-          whole = λ v w. subst (λ (l : List ℕ). Writes answer_of s 0 l) (sym (append_assoc j.written t v)) (j.whole (t ++ v) (runs.Writes.more put out q w));
-          cut = λ v w. subst (λ (l : List ℕ). CutWrites answer_of s 0 l) (sym (append_assoc j.written t v)) (j.cut (t ++ v) (runs.CutWrites.more put out q w));
+          sent = Appends-trans a b c j.written t j.sent (subst (Appends b c) (sym (take-length out)) more);
+          whole = λ v w. subst (λ (l : List ℕ). Writes answer_of s 0 l) (sym (append_assoc j.written t v)) (j.whole (t ++ v) (runs.Writes.more (length out) out q w));
+          cut = λ v w. subst (λ (l : List ℕ). CutWrites answer_of s 0 l) (sym (append_assoc j.written t v)) (j.cut (t ++ v) (runs.CutWrites.more (length out) out q w));
         }
 
-    pub step_cut : (n : ℕ) → Appends b c (take n (take put out)) → (w : List ℕ) × CutWrites answer_of s 0 w × Appends a c w
-    step_cut n more =
-        let t = take n (take put out) in (j.written ++ t, j.cut t (runs.fails n put out q), Appends-trans a b c j.written t j.sent more)
+    pub step_cut : (e : Failure) → Put b c out (Err e) → CutSent a c s
+    step_cut failure.Read h = absurd h
+    step_cut failure.Write (n, more) =
+        let t = take n (take (length out) out) in
+        let e : take n out ≡ t = ap (take n) (sym (take-length out)) in
+        record {
+          written = j.written ++ t;
+          writes = j.cut t (runs.fails n (length out) out q);
+          sent = Appends-trans a b c j.written t j.sent (subst (Appends b c) e more);
+        }
 
 -- ---- the turns of a run, up to what was carried over
 pub record Feeding (left after old new : Option (List ℕ)) (carried : List ℕ) : Type 0 where
@@ -86,12 +92,16 @@ unfolding together
 together_more [] p = append-nil p
 together_more (q ∷ ps) p = ap (λ (x : List ℕ). q ++ x) (together_more ps p) ∙ sym (append_assoc q (together ps) p)
 
--- a part that was put after the first n bytes, up to the end
-pub drop_part : (buf part : List ℕ) (n : ℕ) → n ≤ length buf → length part ≡ length buf - n → drop n (put_mid n (length buf - n) buf part) ≡ part
-drop_part buf part n h e =
-    let post = post_of n (length buf - n) buf in
-    let none : post ≡ [] = drop_of_length-le (drop n buf) (omega (arith, length-drop n buf)) in
-    drop_at (take n buf) (part ++ post) n (length-take-le n buf h) ∙ ap (λ (x : List ℕ). part ++ x) none ∙ append-nil part
+no_bytes : (p : List ℕ) → length p ≡ 0 → p ≡ []
+no_bytes [] e = refl
+no_bytes (q ∷ p) e = absurd (omega arith)
+
+-- nothing was taken
+kept_by : (a b : Option (List ℕ)) (p : List ℕ) → length p ≡ 0 → Consumes a b p → Keeps a b
+kept_by None b p e h = tt
+kept_by (Some x) None p e h = absurd h
+kept_by (Some x) (Some y) [] e h = sym h
+kept_by (Some x) (Some y) (q ∷ p) e h = absurd (omega arith)
 
 -- what may follow what was taken
 rest_any : (a : Option (List ℕ)) (P : List ℕ → Type 0) → ((x : List ℕ) → P x) → IfSome a P
@@ -108,7 +118,7 @@ module _ {left mid old now : Option (List ℕ)} {carried : List ℕ} (j : Feedin
   same = ap together (append-nil j.pieces)
 
   -- ---- the end of the input
-  fed_whole : (after new : Option (List ℕ)) → Keeps mid after → IsAtEnd after → Appends now new (last_answer answer_of carried) → FedTo left after old new ended.Whole
+  fed_whole : (after new : Option (List ℕ)) → Keeps mid after → IsAtEnd after → Appends now new (last_answer answer_of carried) → FedTo left after old new (Ok tt)
   fed_whole after new kept end more =
       let l = last_answer answer_of carried in
       let t = take (length l) l in
@@ -123,7 +133,7 @@ module _ {left mid old now : Option (List ℕ)} {carried : List ℕ} (j : Feedin
       }
 
   fed_cut : (after new : Option (List ℕ)) → Keeps mid after → IsAtEnd after → (n : ℕ) → Appends now new (take n (last_answer answer_of carried))
-      → FedTo left after old new ended.Write
+      → FedTo left after old new (Err failure.Write)
   fed_cut after new kept end n more =
       let l = last_answer answer_of carried in
       let t = take n (take (length l) l) in
@@ -138,17 +148,20 @@ module _ {left mid old now : Option (List ℕ)} {carried : List ℕ} (j : Feedin
             (subst (λ (p : List ℕ). Begins (j.written ++ t) (output_of answer_of (p ++ []))) same (stop_law (j.stop runs.last [] t (runs.at_last n (length l) l (take-length l))) [] refl));
       }
 
-  fed_end : (after new : Option (List ℕ)) (r : Ended) → Keeps mid after → IsAtEnd after → PutAtEnd now new (last_answer answer_of carried) r → FedTo left after old new r
-  fed_end after new ended.Whole kept end h = fed_whole after new kept end h
-  fed_end after new ended.Read kept end h = absurd h
-  fed_end after new ended.Write kept end h = fed_cut after new kept end h.0 h.1
+  fed_end : (after new : Option (List ℕ)) (r : Result (Unit {0}) Failure) → Keeps mid after → IsAtEnd after → Put now new (last_answer answer_of carried) r → FedTo left after old new r
+  fed_end after new (Ok done) kept end h = fed_whole after new kept end h
+  fed_end after new (Err failure.Read) kept end h = absurd h
+  fed_end after new (Err failure.Write) kept end h = fed_cut after new kept end h.0 h.1
 
-  pub fed_last : (after new : Option (List ℕ)) (line : List ℕ) (r : Ended) → line ≡ carried → Keeps mid after → IsAtEnd after
-      → PutAtEnd now new (last_answer answer_of line) r → FedTo left after old new r
-  fed_last after new line r e kept end h = fed_end after new r kept end (subst (λ (x : List ℕ). PutAtEnd now new (last_answer answer_of x) r) e h)
+  pub fed_last : (after new : Option (List ℕ)) (s line : List ℕ) (n : ℕ) (r : Result (Unit {0}) Failure) → s ≡ line → Grew mid after carried line n → n ≡ 0
+      → Put now new (last_answer answer_of s) r → FedTo left after old new r
+  fed_last after new s line n r q g z h =
+      let none : length g.piece ≡ 0 = g.count ∙ z in
+      let e : s ≡ carried = q ∙ g.grown ∙ ap (λ (p : List ℕ). carried ++ p) (no_bytes g.piece none) ∙ append-nil carried in
+      fed_end after new r (kept_by mid after g.piece none g.taken) (g.end z) (subst (λ (x : List ℕ). Put now new (last_answer answer_of x) r) e h)
 
   -- ---- a read that fails
-  pub fed_read : (after : Option (List ℕ)) → Keeps mid after → FedTo left after old now ended.Read
+  pub fed_read : (after : Option (List ℕ)) → Keeps mid after → FedTo left after old now (Err failure.Read)
   fed_read after kept =
       record {
         input = together j.pieces;
@@ -159,6 +172,10 @@ module _ {left mid old now : Option (List ℕ)} {carried : List ℕ} (j : Feedin
             j.sent;
       }
 
+  pub fed_failed : (after : Option (List ℕ)) (new : List ℕ) (e : Failure) → ReadTo mid after carried new (Err e) → FedTo left after old now (Err e)
+  fed_failed after new failure.Read h = fed_read after h.1
+  fed_failed after new failure.Write h = absurd h
+
   -- ---- a piece more
   module _ (after new : Option (List ℕ)) (piece : List ℕ) (read : Consumes mid after piece) (w : List ℕ) (more : Appends now new w) where
     taken_more : Consumes left after (together (j.pieces ++ (piece ∷ [])))
@@ -167,7 +184,7 @@ module _ {left mid old now : Option (List ℕ)} {carried : List ℕ} (j : Feedin
     sent_more : Appends old new (j.written ++ w)
     sent_more = Appends-trans old now new j.written w j.sent more
 
-    pub fed_write : CutWrites answer_of (carried ++ piece) 0 w → FedTo left after old new ended.Write
+    pub fed_write : CutWrites answer_of (carried ++ piece) 0 w → FedTo left after old new (Err failure.Write)
     fed_write cut =
         record {
           input = together (j.pieces ++ (piece ∷ []));
@@ -198,18 +215,20 @@ module _ {left mid old now : Option (List ℕ)} {carried : List ℕ} (j : Feedin
               (j.stop f (piece ∷ ps) (w ++ v) (runs.Stopped.turn kept buffer whole e r)));
         }
 
--- ---- a turn in the buffer: the bytes before `have` were carried over, and n bytes were read after them
-joined_in : (buf new : List ℕ) (have n : ℕ) → take have new ≡ take have buf → take (have + n) new ≡ take have buf ++ take n (drop have new)
-joined_in buf new have n e = take-add have n new ∙ ap (λ (x : List ℕ). x ++ take n (drop have new)) e
+-- ---- a turn: a piece was read after the bytes that were carried over, and the whole lines of s, the bytes then, are answered
+module _ {left mid old now : Option (List ℕ)} {carried : List ℕ} (j : Feeding left mid old now carried) {after : Option (List ℕ)} (then : Option (List ℕ))
+    {new : List ℕ} {n : ℕ} (g : Grew mid after carried new n) (s : List ℕ) (q : s ≡ new) where
+  pub turn_more : AllSent now then s → (last : List ℕ) → last ≡ carried_of longest new → Feeding left after old then last
+  turn_more w last e =
+      let k = take-length last in
+      subst (Feeding left after old then) k
+      (fed_turn j after then g.piece g.taken w.written w.sent (subst (λ (x : List ℕ). Writes answer_of x 0 w.written) (q ∙ g.grown) w.writes) (length last) last
+      (k ∙ e ∙ ap (carried_of longest) g.grown))
 
-module _ {left mid old now : Option (List ℕ)} (buf : List ℕ) (have : ℕ) (j : Feeding left mid old now (take have buf)) (after then : Option (List ℕ))
-    (new : List ℕ) (n : ℕ) (kept : take have new ≡ take have buf) (read : Consumes mid after (take n (drop have new))) where
-  pub turn_more : (w : List ℕ) × Writes answer_of (take (have + n) new) 0 w × Appends now then w → (r : ℕ) (last : List ℕ)
-      → take r last ≡ carried_of longest (take (have + n) new) → Feeding left after old then (take r last)
-  turn_more h r last e =
-      let k = joined_in buf new have n kept in
-      fed_turn j after then (take n (drop have new)) read h.0 h.2 (subst (λ (x : List ℕ). Writes answer_of x 0 h.0) k h.1) r last (e ∙ ap (carried_of longest) k)
+  pub turn_cut : (e : Failure) → SentOf s (Err e) → CutSent now then s → FedTo left after old then (Err e)
+  turn_cut failure.Read h w = absurd h
+  turn_cut failure.Write h w =
+      fed_write j after then g.piece g.taken w.written w.sent (subst (λ (x : List ℕ). CutWrites answer_of x 0 w.written) (q ∙ g.grown) w.writes)
 
-  pub turn_cut : (w : List ℕ) × CutWrites answer_of (take (have + n) new) 0 w × Appends now then w → FedTo left after old then ended.Write
-  turn_cut h =
-      fed_write j after then (take n (drop have new)) read h.0 h.2 (subst (λ (x : List ℕ). CutWrites answer_of x 0 h.0) (joined_in buf new have n kept) h.1)
+-- the steps of a turn
+pub ruleset write_steps = (none_written, all_written, step_written, whole_nil, all_whole, onward_whole)

@@ -1,0 +1,153 @@
+-- What the buffers contain: an answer after those before it, the help, and the start of a line that was carried over.
+use Prim.Native.Nat.{ℕ, zero, suc, ◌+◌, ◌-◌, ◌≤◌, ◌<◌, min}
+use mathlib.Core.Path.{◌≡◌, refl, ap, sym, ◌∙◌}
+use mathlib.Core.List.{List, [], ◌∷◌, ◌++◌, append_assoc}
+use mathlib.Core.Bool.{Bool, true, false, true≢false}
+use native.Mathlib.Omega.{arith}
+use lib.Dec.{leb}
+use lib.ListN.{length, take, drop, set, length-append, length-drop, take-append-drop}
+use lib.Seq.{take_all, take_at, take-suc-set, take-append-add, take-append-le, drop-append-le, length-take-le, paste, take-paste}
+use borrow.Author.Tests.{leb-true, leb-false}
+use borrow.Rule.Slice.PartMut.{put_mid, post_of, same_len_mid}
+use Rattle.texts.proofs.Cuts.{rest}
+use Rattle.texts.specs.Bytes.{bytes}
+use Rattle.texts.specs.Lent.{written}
+use Rattle.wording.specs.Words.{same_text}
+use Rattle.texts.proofs.Pieces.{written_length, starts}
+use Rattle.requests.specs.Requests.{help_text, longest, answer_room, answer_of}
+use Rattle.line_laws.specs.Lines.{whole_of, open_line, carried_of, last_answer}
+use Rattle.std.specs.Prelude.{Option, IsTrue, ◌↔◌}
+use Rattle.std.specs.Io.KnownBytes.{Consumes, IsAtEnd}
+use Rattle.lines.specs.Contents.{output_size, Grew}
+use Rattle.lines.specs.Given.{given_output}
+
+-- how many bytes are seen of a buffer of m bytes
+pub seen : (bytes now : List ℕ) (count m : ℕ) → length bytes ≡ m → count ≤ m → take count bytes ≡ now → length now ≡ count
+seen bytes now count m long h v = sym (ap length v) ∙ length-take-le count bytes (omega (arith, long))
+
+-- without room for an answer, some are there
+pub some_put : (q : Bool) (n : ℕ) → IsTrue q ↔ (n + answer_room ≤ output_size) → q ≡ false → 0 < n
+some_put q zero h f = absurd (true≢false (sym (h.1 (omega arith)) ∙ f))
+some_put q (suc n) h f = omega arith
+
+-- ---- a part is put into a buffer of m bytes, from the place at on
+module _ (buf part : List ℕ) (at m : ℕ) (long : length buf ≡ m) where
+  lent : length (take (m - at) (drop at buf)) ≡ m - at
+  lent =
+      ap (λ (k : ℕ). length (take (k - at) (drop at buf))) (sym long)
+      ∙ ap length (rest buf at) ∙ length-drop at buf ∙ ap (λ (k : ℕ). k - at) long
+
+  pub put_part : (n : ℕ) → at ≤ m → n ≤ length part → take (at + n) (put_mid at (m - at) buf part) ≡ take at buf ++ take n part
+  put_part n h fits =
+      let post = post_of at (m - at) buf in
+      ap (λ (k : ℕ). take (k + n) (put_mid at (m - at) buf part)) (sym (length-take-le at buf (omega (arith, long))))
+      ∙ take-append-add (take at buf) (part ++ post) n
+      ∙ ap (λ (l : List ℕ). take at buf ++ l) (take-append-le n part post fits)
+
+-- ---- a text t and a line feed, put at the place at of out
+module _ (out t part : List ℕ) (at n m : ℕ) (long : length out ≡ m) (fits : at + suc (length t) ≤ m) (e : n ≡ min (length t) (length (take (m - at) (drop at out))))
+    (p : part ≡ written t (take (m - at) (drop at out))) where
+  room : length (take (m - at) (drop at out)) ≡ m - at
+  room = lent out part at m long
+
+  pub put_all : n ≡ length t
+  put_all = omega (arith, e, room)
+
+  put_length : length (put_mid at (m - at) out part) ≡ length out
+  put_length = same_len_mid at (m - at) out part (ap length p ∙ written_length t (take (m - at) (drop at out)))
+
+  -- what follows the text
+  after : List ℕ
+  after = drop (length t) (take (m - at) (drop at out)) ++ post_of at (m - at) out
+
+  put_is : put_mid at (m - at) out part ≡ (take at out ++ t) ++ after
+  unfolding written after
+  put_is =
+      let k = take (m - at) (drop at out) in
+      let w : part ≡ t ++ drop (length t) k = p ∙ ap (λ (x : List ℕ). x ++ drop (length t) k) (take_all (length k) t (omega (arith, room))) in
+      ap (λ (x : List ℕ). take at out ++ (x ++ post_of at (m - at) out)) w
+      ∙ ap (λ (x : List ℕ). take at out ++ x) (append_assoc t (drop (length t) k) (post_of at (m - at) out))
+      ∙ sym (append_assoc (take at out) t (drop (length t) k ++ post_of at (m - at) out))
+
+  pub put_answer : take (at + (n + 1)) (set (put_mid at (m - at) out part) (at + n) 10) ≡ take at out ++ (t ++ (10 ∷ []))
+  put_answer =
+      let x = put_mid at (m - at) out part in
+      let k : at + (n + 1) ≡ suc (at + n) = omega arith in
+      let l : length (take at out ++ t) ≡ at + n = length-append (take at out) t ∙ omega (arith, put_all, length-take-le at out (omega (arith, long))) in
+      ap (λ (j : ℕ). take j (set x (at + n) 10)) k
+      ∙ take-suc-set x (at + n) 10 (omega (arith, put_all, put_length, long))
+      ∙ ap (λ (y : List ℕ). y ++ (10 ∷ [])) (ap (take (at + n)) put_is ∙ take_at (take at out ++ t) after (at + n) l)
+      ∙ append_assoc (take at out) t (10 ∷ [])
+
+-- ---- a read into the buffer after the bytes that were carried over
+module _ (buf part now : List ℕ) (count m : ℕ) (long : length buf ≡ m) (h : count < m) (v : take count buf ≡ now)
+    (e : length part ≡ length (take (m - count) (drop count buf))) where
+  pub came_more : {left after : Option (List ℕ)} (n : ℕ) → n ≤ length part → Consumes left after (take n part) × (n ≡ 0 → 0 < length part → IsAtEnd after)
+      → Grew left after now (take (count + n) (put_mid count (m - count) buf part)) n
+  came_more n fits came =
+      record {
+        piece = take n part;
+        grown = put_part buf part count m long n (omega arith) fits ∙ ap (λ (l : List ℕ). l ++ take n part) v;
+        count = length-take-le n part fits;
+        taken = came.0;
+        end = λ z. came.1 z (omega (arith, e, lent buf part count m long));
+      }
+
+-- ---- the last line
+pub last_none : (l : List ℕ) → length l ≡ 0 → [] ≡ last_answer answer_of l
+unfolding last_answer
+last_none [] e = refl
+last_none (b ∷ l) e = absurd (omega arith)
+
+pub last_some : (l : List ℕ) → (length l ≡ 0 → ⊥) → answer_of l ++ (10 ∷ []) ≡ last_answer answer_of l
+unfolding last_answer
+last_some [] e = absurd (e refl)
+last_some (b ∷ l) e = refl
+
+-- ---- the line of arguments
+pub help_short : length help_text ≤ answer_room
+unfolding help_text
+help_short = leb-true (length help_text) answer_room refl
+
+pub given_help : (l : List ℕ) → same_text l (bytes "--help") ≡ true → help_text ≡ given_output l
+unfolding given_output
+given_help l e = rw e
+
+pub given_line : (l : List ℕ) → same_text l (bytes "--help") ≡ false → answer_of l ++ (10 ∷ []) ≡ given_output l
+unfolding given_output
+given_line l e = rw e
+
+-- what decides what is written for arguments
+pub ruleset given_rules = (given_help, given_line, help_short, starts)
+
+-- ---- the line that is carried over
+take_min : (n : ℕ) (l : List ℕ) → take (min n (length l)) l ≡ take n l
+take_min n l = go (leb n (length l)) refl
+  where
+    go : (q : Bool) → leb n (length l) ≡ q → take (min n (length l)) l ≡ take n l
+    go true q = let k : min n (length l) ≡ n = omega (arith, leb-true n (length l) q) in ap (λ (m : ℕ). take m l) k
+    go false q =
+        let h = leb-false n (length l) q in
+        take_all (min n (length l)) l (omega arith) ∙ sym (take_all n l (omega arith))
+
+module _ (buf new : List ℕ) (used full r : ℕ) (in-buf : full ≤ length buf) (e : used ≡ whole_of (take full buf)) (low : used ≤ full) (k : r ≡ min (longest + 1) (full - used)) where
+  kept_length : length (drop used (take full buf)) ≡ full - used
+  kept_length = length-drop used (take full buf) ∙ ap (λ (n : ℕ). n - used) (length-take-le full buf in-buf)
+
+  kept_part : drop used buf ≡ drop used (take full buf) ++ drop full buf
+  kept_part =
+      ap (drop used) (sym (take-append-drop full buf))
+      ∙ drop-append-le used (take full buf) (drop full buf) (omega (arith, length-take-le full buf in-buf))
+
+  pub carried : new ≡ paste buf 0 (drop used buf) (used + r - used) → take r new ≡ carried_of longest (take full buf)
+  unfolding carried_of open_line
+  carried m =
+      let z : used + r - used ≡ r = omega arith in
+      let d = drop used (take full buf) in
+      let j : r ≡ min (longest + 1) (length d) = omega (arith, kept_length) in
+      let o : 0 + r ≡ r = omega arith in
+      ap (take r) (m ∙ ap (paste buf 0 (drop used buf)) z) ∙ ap (λ (n : ℕ). take n (paste buf 0 (drop used buf) r)) (sym o)
+      ∙ take-paste buf 0 (drop used buf) r (omega arith) (omega (arith, length-drop used buf))
+      ∙ ap (take r) kept_part ∙ take-append-le r d (drop full buf) (omega (arith, kept_length))
+      ∙ ap (λ (n : ℕ). take n d) j ∙ take_min (longest + 1) d
+      ∙ ap (λ (n : ℕ). take (longest + 1) (drop n (take full buf))) e

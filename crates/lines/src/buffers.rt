@@ -1,0 +1,186 @@
+// The buffers of the program: the input that is not answered yet, and the answers that are not written yet. Contracts
+// see each as the list of its bytes.
+ghost use Rattle.std.specs.Prelude.{◌≡◌, [], ◌∷◌, ◌++◌, ◌≤◌, ◌+◌, ◌↔◌, IsTrue, length};
+ghost use Rattle.requests.specs.Requests.{longest, answer_room, answer_of};
+ghost use Rattle.frame.specs.Output.{Put};
+ghost use Rattle.line_laws.specs.Lines.{whole_of, carried_of, last_answer};
+ghost use Rattle.line_laws.specs.Steps.{Answered};
+ghost use Rattle.lines.specs.Given.{given_output};
+ghost use Rattle.lines.specs.Contents.{output_size, ReadTo};
+
+use frame::output::Failure;
+use frame::{input, output};
+use requests::requests as asked;
+use std::io::{Read, Write};
+use std::marker::Model;
+use texts::bytes;
+use wording::words;
+
+// The room for an answer and its line feed: no answer is longer (law `answer_short`).
+const ROOM: usize = 23 * asked::LONGEST;
+
+// How many bytes the buffers have.
+const INPUT: usize = 131072;
+
+const OUTPUT: usize = 1572864;
+
+// The input that is not answered yet: between two reads, the start of a line that is not whole.
+#[derive(Drop)]
+pub struct Unanswered {
+    bytes: [u8; INPUT],
+    count: usize,
+}
+
+impl Model for Unanswered {
+    ghost use Rattle.std.specs.Prelude.{List, ℕ, ◌≤◌, take};
+    ghost use Rattle.lines.specs.Contents.{input_size};
+
+    ghost Value = { List ℕ };
+
+    ghost view = { λ u. take u.count u.bytes };
+
+    ghost invariant = { λ u. u.count ≤ input_size };
+}
+
+impl Unanswered {
+    pub fn new() -> Self
+        ensures { result ≡ [] }
+    {
+        Unanswered {
+            bytes: [0; INPUT],
+            count: 0,
+        }
+    }
+
+    pub fn as_slice(&self) -> &[u8]
+        ensures { result.now ≡ self.now }
+    {
+        &self.bytes[..self.count]
+    }
+
+    // Reads once, after the bytes that were carried over. Returns how many bytes that is: 0 is the end of the input.
+    pub fn read_more<R: Read>(&mut self, from: &mut R) -> Result<usize, Failure>
+        requires { length self.old ≤ longest + 1 }
+        ensures { ReadTo (R.remaining from.old) (R.remaining from.new) self.old self.new result }
+    {
+        let n = input::read_once(from, &mut self.bytes[self.count..])?;
+        self.count += n;
+        Ok(n)
+    }
+
+    // Carries over the line that is not whole yet, after the bytes of the whole lines: all of it, or one byte more than
+    // the longest line has. That is enough to show that the line is too long.
+    pub fn carry(&mut self, whole: usize)
+        requires { whole ≡ whole_of self.old }
+        ensures upper_bound { length self.new ≤ longest + 1 }
+        ensures carried { self.new ≡ carried_of longest self.old }
+    {
+        let kept = (self.count - whole).min(asked::LONGEST + 1);
+        self.bytes.copy_within(whole..whole + kept, 0);
+        self.count = kept;
+    }
+}
+
+// The answers that are not written yet.
+#[derive(Drop)]
+pub struct Answers {
+    bytes: [u8; OUTPUT],
+    count: usize,
+}
+
+impl Model for Answers {
+    ghost use Rattle.std.specs.Prelude.{List, ℕ, ◌≤◌, take};
+    ghost use Rattle.lines.specs.Contents.{output_size};
+
+    ghost Value = { List ℕ };
+
+    ghost view = { λ a. take a.count a.bytes };
+
+    ghost invariant = { λ a. a.count ≤ output_size };
+}
+
+impl Answers {
+    pub fn new() -> Self
+        ensures { result ≡ [] }
+    {
+        Answers {
+            bytes: [0; OUTPUT],
+            count: 0,
+        }
+    }
+
+    fn clear(&mut self)
+        ensures { self.new ≡ [] }
+    {
+        self.count = 0;
+    }
+
+    // Is there room for the longest answer?
+    fn has_room(&self) -> bool
+        ensures { IsTrue result ↔ (length self.now + answer_room ≤ output_size) }
+    {
+        ROOM <= OUTPUT - self.count
+    }
+
+    // Puts the answer to a line and its line feed.
+    fn answer(&mut self, line: &[u8])
+        requires { length self.old + answer_room ≤ output_size }
+        ensures { self.new ≡ self.old ++ (answer_of line.now ++ (10 ∷ [])) }
+    {
+        let n = asked::answer(line, &mut self.bytes[self.count..]);
+        self.bytes[self.count + n] = b'\n';
+        self.count += n + 1;
+    }
+
+    // Answers whole lines from a place on, as long as there is room for the longest answer. Returns the place after
+    // them.
+    pub fn answer_lines(&mut self, s: &[u8], from: usize) -> usize
+        requires { from ≤ length s.now }
+        ensures { Answered answer_of s.now from self.new result (length self.new) }
+    {
+        self.clear();
+        let mut at = from;
+        while self.has_room() {
+            let rest = &s[at..];
+            let n = bytes::find(rest, b'\n');
+            if n == rest.len() {
+                return at;
+            }
+            self.answer(&rest[..n]);
+            at += n + 1;
+        }
+        at
+    }
+
+    // At the end of the input: answers the last line, which has no line feed, if there is such a line.
+    #[tactic(auto, using(crate::proofs::Contents::last_none, crate::proofs::Contents::last_some))]
+    pub fn last_answer(&mut self, line: &[u8])
+        ensures { self.new ≡ last_answer answer_of line.now }
+    {
+        self.clear();
+        if line.len() > 0 {
+            self.answer(line);
+        }
+    }
+
+    // Puts what is written for the arguments, given as one line: the help for `--help`, else the answer and a line
+    // feed.
+    #[tactic(auto, using(crate::proofs::Contents::given_rules))]
+    pub fn given_answer(&mut self, line: &[u8])
+        ensures { self.new ≡ given_output line.now }
+    {
+        self.clear();
+        if words::same(line, b"--help") {
+            self.count = asked::help(&mut self.bytes);
+            return;
+        }
+        self.answer(line);
+    }
+
+    // Writes the answers.
+    pub fn write<W: Write>(&self, to: &mut W) -> Result<(), Failure>
+        ensures { Put (W.contents to.old) (W.contents to.new) self.now result }
+    {
+        output::write(to, &self.bytes[..self.count])
+    }
+}
