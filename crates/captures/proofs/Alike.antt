@@ -12,14 +12,14 @@ use borrow.Author.Tests.{leb-false, lt-ltb, lt-leb}
 use Rattle.squares.specs.Sets.{members}
 use Rattle.positions.specs.declared.moves.Move.{Move}
 use Rattle.captures.specs.declared.movegen.Captures.{Captures}
-use Rattle.captures.specs.Lists.{blank, listed}
-use Rattle.captures.specs.Record.{Ending, moves_in, start_of, note_of}
+use Rattle.captures.specs.Lists.{blank, listed, list_of}
+use Rattle.captures.specs.Record.{Ending, list_in, moves_in, start_of, note_of}
 use Rattle.captures.specs.All.{all_captures_of}
 use Rattle.captures.specs.Men.{onto, man_endings, man_captures, men_captures_of}
 use Rattle.captures.specs.Kings.{skip_of, king_endings, king_captures, kings_captures_of}
 use Rattle.captures.proofs.Limit.{Found, found, takes, add_in, note_in}
 use Rattle.captures.proofs.Stored.{filled}
-use Rattle.captures.proofs.Held.{move_to, Holds, holds_seen, none_holds, fold_holds}
+use Rattle.captures.proofs.Held.{move_to, Holds, holds_seen, holds_list, none_holds, fold_holds}
 
 -- what is found, where the shorter list t has room
 pub record Same {N M : ℕ} (A : Captures M) (t : Captures N) : Type 0 where
@@ -180,3 +180,10 @@ module _ {N M : ℕ} (l : N ≤ M) (them empty : ℕ) where
 
 pub few_alike : (N M : ℕ) → N ≤ M → (men kings them empty : ℕ) → Alike (all_captures_of M men kings them empty) (all_captures_of N men kings them empty)
 few_alike N M l men kings them empty = alike l them empty _ _ (all l them empty men kings)
+
+-- the list of a search is its moves and then blanks
+pub listed_all : (N : ℕ) → N ≤ 256 → (men kings them empty : ℕ) → list_in (all_captures_of N men kings them empty) ≡ list_of (moves_in (all_captures_of N men kings them empty))
+listed_all N l men kings them empty =
+    let w = all {N = N} {M = N} (omega arith) them empty men kings in
+    let s = all_captures_of N men kings them empty in
+    holds_list s w.short l w.short_holds ∙ ap (λ (x : Found). list_of x.moves) (sym (holds_seen s w.short w.short_holds))

@@ -10,8 +10,8 @@ abbrev pub view_of : Board → View
 view_of b = record { us = own b; them = enemy b; kings = b.kings; side = b.side }
 
 -- its men
-abbrev pub men_of : View → ℕ
-men_of v = without v.us v.kings
+abbrev pub own_men_of : View → ℕ
+own_men_of v = without v.us v.kings
 
 -- its kings
 abbrev pub own_kings_of : View → ℕ

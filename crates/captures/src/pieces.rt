@@ -4,11 +4,14 @@ ghost use Rattle.std.specs.Prelude.{◌≡◌};
 ghost use Rattle.captures.specs.Men.{men_captures_of};
 ghost use Rattle.captures.specs.Kings.{kings_captures_of};
 ghost use Rattle.captures.specs.All.{all_captures_of};
-ghost use Rattle.captures.specs.View.{men_of, own_kings_of, empty_of};
+ghost use Rattle.captures.specs.View.{own_men_of, own_kings_of, empty_of};
 
 use crate::movegen::{Captures, king_open, man_open};
 use crate::view::View;
 use squares::bitboard::Bitboard;
+
+// Most boards have no more captures than this.
+pub const ROOM: usize = 14;
 
 // The captures of all men, by bit. The first square of the moving man counts as empty. A man without a jump is skipped:
 // it would record nothing.
@@ -47,7 +50,7 @@ fn kings_captures<const N: usize>(s: &mut Captures<N>, kings: Bitboard, empty: B
 
 // The longest captures of all pieces. A list that has no room for them is marked.
 pub fn all_captures<const N: usize>(v: View) -> Captures<N>
-    ensures { result ≡ all_captures_of N (men_of v) (own_kings_of v) v.them (empty_of v) }
+    ensures { result ≡ all_captures_of N (own_men_of v) (own_kings_of v) v.them (empty_of v) }
 {
     let empty = v.empty();
     let mut s = Captures::new(v.them, empty);

@@ -1,7 +1,7 @@
 // A board as the side to move sees it. The search for moves and the depth counts need no more.
 ghost use Rattle.std.specs.Prelude.{◌≡◌};
 ghost use Rattle.positions.specs.Boards.{board_of};
-ghost use Rattle.captures.specs.View.{view_of, men_of, own_kings_of, empty_of};
+ghost use Rattle.captures.specs.View.{view_of, own_men_of, own_kings_of, empty_of};
 
 use positions::position::Position;
 use squares::bitboard;
@@ -32,7 +32,7 @@ impl View {
 
     // Its men.
     pub fn men(self) -> Bitboard
-        ensures { result ≡ men_of self }
+        ensures { result ≡ own_men_of self }
     {
         bitboard::difference(self.us, self.kings)
     }

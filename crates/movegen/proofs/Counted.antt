@@ -26,7 +26,7 @@ use Rattle.rules.proofs.Numbered.{member_sound}
 use Rattle.quiets.specs.declared.quiets.Listing.{Listing}
 use Rattle.movegen.specs.Counts.{then_count, sum_from, depth_count}
 use Rattle.movegen.specs.Generate.{seen, generate_of, next_of}
-use Rattle.movegen.specs.declared.movegen.View.{View}
+use Rattle.captures.specs.declared.view.View.{View}
 use Rattle.movegen.specs.declared.perft.Counted.{Counted}
 use Rattle.movegen.specs.declared.perft.Counted.TheVariants.{Count, Refused}
 use Rattle.capture_laws.proofs.Stored.{few_len, few_entries}

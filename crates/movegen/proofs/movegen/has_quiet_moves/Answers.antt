@@ -6,8 +6,7 @@ use Rattle.movegen.proofs.movegen.has_quiet_moves.Goals as goal
 
 pub returns-then-sound : goal.returns-then-sound
 returns-then-sound c =
-    let p = c.args.p in
-    quiets_tested p (sym c.sound.ensures ∙ c.if-sound.true) _ _ _ _ c.men.ensures c.kings.ensures c.empty.ensures c.has_quiet.ensures
+    quiets_tested c.args.p (sym c.sound.ensures ∙ c.if-sound.true) c.of.result c.of.ensures _ c.has_quiet.ensures
 
 pub returns : goal.returns
 unfolding has_quiet_moves_of
