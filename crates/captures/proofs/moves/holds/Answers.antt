@@ -10,5 +10,5 @@ use Rattle.captures.proofs.moves.holds.Goals as goal
 pub returns : goal.returns
 returns c =
     any_from_yields_List (λ x. same x c.args.mv) _ _ c.any.result c.any.ensures.ran
-        (YieldsList-from_take c.args.len (YieldsList-at c.take.ensures.source (YieldsList-from_slice c.args.moves.now cc)) cc) (λ x b q k. search (rules, tests))
+    (YieldsList-from_take c.args.len (YieldsList-at c.take.ensures.source (YieldsList-from_slice c.args.moves.now cc)) cc) (λ x b q k. search (rules, tests))
     ∙ sym (listed_any (take c.args.len c.args.moves.now) c.args.mv)

@@ -20,8 +20,8 @@ loop-d-init g t c = walked_none _ _ _ _ _ _ _ (search rules)
 pub loop-land-init : goal.loop-land-init
 loop-land-init g t c = ray_start _ _ _ _ _ _ _ _ _ (and_lt _ _ c.shift.type_inv)
 
-pub with_one-requires : goal.with_one-requires
-with_one-requires g t c =
+pub with_one-taken-requires : goal.with_one-taken-requires
+with_one-taken-requires g t c =
     let b = c.args.self.now in
     jump_more b.them b.empty c.args.captured _ c.difference-untaken.result c.slide.result c.shift.result c.difference-untaken.ensures c.shift.ensures c.loop-d.invariant.fits c.ranges.captured.fits (ray_first note_of _ _ _ _ _ _ _ _ _ _ _ c.loop-land.invariant c.loop-land-test.true)
 
@@ -39,7 +39,7 @@ loop-land-preserved g t c =
     let kept = king_kept _ _ _ _ _ _ _ _ _ c.loop-d.invariant in
     let on = ray_kept _ _ _ _ _ _ _ _ _ _ _ c.loop-land.invariant in
     let less = jump_fewer b.them b.empty a.captured _ c.difference-untaken.result c.slide.result c.shift.result c.difference-untaken.ensures c.shift.ensures c.loop-d.invariant.fits c.ranges.captured.fits (ray_first note_of _ _ _ _ _ _ _ _ _ _ _ c.loop-land.invariant ne) in
-    ray_step note_of _ _ _ _ _ _ _ _ _ _ _ c.loop-land.invariant c.shift-in-loop-land.result c.king_landing.new.self less ne c.shift-in-loop-land.ensures (king_on b _ _ _ _ _ (kept_trans kept on) (rw c.with_one.ensures.both at c.king_landing.ensures))
+    ray_step note_of _ _ _ _ _ _ _ _ _ _ _ c.loop-land.invariant c.shift-in-loop-land.result c.king_landing.new.self less ne c.shift-in-loop-land.ensures (king_on b _ _ _ _ _ (kept_trans kept on) (rw c.with_one-taken.ensures.both at c.king_landing.ensures))
 
 pub loop-d-preserved : goal.loop-d-preserved
 loop-d-preserved g t c =

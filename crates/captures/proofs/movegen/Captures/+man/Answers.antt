@@ -10,8 +10,8 @@ use Rattle.captures.proofs.movegen.Captures.+man.Goals.{then-land-ne0, else-land
 pub loop-dir-init : goal.loop-dir-init
 loop-dir-init g t c = walked_none _ _ _ _ _ _
 
-pub with_one-requires : goal.with_one-requires
-with_one-requires g t c =
+pub with_one-taken-requires : goal.with_one-taken-requires
+with_one-taken-requires g t c =
     let b = c.args.self.now in
     let ht : b.them < 2 ^ 64 = search rules in
     jump_more b.them b.empty c.args.captured _ c.difference-untaken.result c.shift.result c.shift-in-loop-dir.result c.difference-untaken.ensures c.shift-in-loop-dir.ensures ht c.ranges.captured.fits c.if-land-ne0.true
@@ -29,7 +29,7 @@ loop-dir-preserved g t c =
     let less = jump_fewer b.them b.empty a.captured _ c.difference-untaken.result c.shift.result c.shift-in-loop-dir.result c.difference-untaken.ensures c.shift-in-loop-dir.ensures ht c.ranges.captured.fits in
     elim c.if-land-ne0.branch [
       | then-land-ne0 w ↦
-          rw (w.self-is, w.extended-is) (walked_jump note_of b.them b.empty b a.at a.captured d s c.loop-dir.extended c.loop-dir.invariant lt _ _ j w.man.new.self (less w.if-land-ne0.true) w.if-land-ne0.true (man_on b s _ _ _ kept (rw w.with_one.ensures.both at w.man.ensures)))
+          rw (w.self-is, w.extended-is) (walked_jump note_of b.them b.empty b a.at a.captured d s c.loop-dir.extended c.loop-dir.invariant lt _ _ j w.man.new.self (less w.if-land-ne0.true) w.if-land-ne0.true (man_on b s _ _ _ kept (rw w.with_one-taken.ensures.both at w.man.ensures)))
       | else-land-ne0 w ↦
           rw (w.self-is, w.extended-is) (walked_past note_of b.them b.empty b a.at a.captured d s c.loop-dir.extended c.loop-dir.invariant lt _ _ j w.if-land-ne0.false)
     ]

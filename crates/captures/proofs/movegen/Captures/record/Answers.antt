@@ -1,5 +1,5 @@
 -- Each return is one case of the definition: too few, more than before, found already, one more.
-use Rattle.std.proofs.Common.{◌≡◌, ap₂, refl, true, false, ◌∙◌, eqb, ltb}
+use Rattle.std.proofs.Common.{arith, ◌≡◌, ap₂, refl, true, false, ◌∙◌, eqb, ltb}
 use mathlib.Core.Bool.{◌||◌, or-true}
 use borrow.Author.Tests.{eq-eqb, ne_eqb, lt-ltb, le-ltb}
 use Rattle.positions.specs.Moves.{move}
@@ -15,7 +15,7 @@ returns-then-count-eq0 g c =
     let n = c.count-count.result in
     let few : (eqb n 0 || ltb n a.self.now.best) ≡ true = elim c.then-count-eq0.branch [
       | then-count-eq0-via-then-count-eq0 w ↦ rw (eq-eqb n 0 w.if-count-eq0.true) refl
-      | then-count-eq0-via-else-count-eq0+then-count-self w ↦ rw (lt-ltb n a.self.now.best w.if-count-self.true) (or-true (eqb n 0))
+      | then-count-eq0-via-else-count-eq0+then-count-self w ↦ rw (lt-ltb n a.self.now.best (omega (arith, w.if-count-self.true))) (or-true (eqb n 0))
     ] in
     record_few a.self.now a.to a.captured n c.count-count.ensures few
 
@@ -23,7 +23,7 @@ pub returns-then-holds : goal.returns-then-holds
 returns-then-holds g c =
     let a = c.args in
     let n = c.count-count.result in
-    let enough : (eqb n 0 || ltb n a.self.now.best) ≡ false = rw (ne_eqb n 0 c.if-count-eq0.false, le-ltb n a.self.now.best c.if-count-self.false) refl in
+    let enough : (eqb n 0 || ltb n a.self.now.best) ≡ false = rw (ne_eqb n 0 c.if-count-eq0.false, le-ltb n a.self.now.best (omega (arith, c.if-count-self.false))) refl in
     let there : listed (moves_in a.self.now) (move_of a.self.now a.to a.captured) ≡ true = cc in
     record_there a.self.now a.to a.captured n c.count-count.ensures enough c.if-self-count.false there
 
@@ -31,7 +31,7 @@ pub returns : goal.returns
 returns g c =
     let a = c.args in
     let n = c.count-count.result in
-    let enough : (eqb n 0 || ltb n a.self.now.best) ≡ false = rw (ne_eqb n 0 c.if-count-eq0.false, le-ltb n a.self.now.best c.if-count-self.false) refl in
+    let enough : (eqb n 0 || ltb n a.self.now.best) ≡ false = rw (ne_eqb n 0 c.if-count-eq0.false, le-ltb n a.self.now.best (omega (arith, c.if-count-self.false))) refl in
     let made : move c.first.result c.first-2.result a.captured ≡ move_of a.self.now a.to a.captured = cc in
     elim c.if-self-count.branch [
       | then-self-count w ↦
