@@ -83,6 +83,7 @@ fn limited(moves: u32) -> Counted
 }
 
 // The number of moves that a search found, or 17 where it found more than 256.
+#[tactic(auto, unfolding(crate::specs::LastPly::listed_count, captures::specs::Record::list_in))]
 fn listed(found: &Captures<256>) -> Counted
     ensures { result ≡ listed_count (listing_of found.now) }
 {

@@ -39,6 +39,7 @@ fn forward(side: Color) -> usize
 }
 
 // Whether some piece of the set can step in direction `d` onto an empty square.
+#[tactic(auto, unfolding(crate::specs::Tests::steps_open))]
 fn steps(set: Bitboard, empty: Bitboard, d: usize) -> bool
     ensures { result ≡ steps_open set empty d }
 {
@@ -61,6 +62,7 @@ pub fn has_quiet(v: View) -> bool
 
 // Whether some man has an enemy next to it in direction `d`, with an empty square behind it. The test goes back from
 // the empty squares: the direction opposite to `d` has index 3 - d.
+#[tactic(auto, unfolding(crate::specs::Tests::men_jump))]
 fn men_jump(v: View, d: usize) -> bool
     requires { d < 4 }
     ensures { result ≡ men_jump (own_men_of v) v.them (empty_of v) d }
@@ -86,6 +88,7 @@ fn kings_open(v: View) -> bool
 }
 
 // Whether the side has a jump.
+#[tactic(auto, unfolding(crate::specs::Tests::has_capture_of, captures::specs::Walks::any_up_to))]
 pub fn has_capture(v: View) -> bool
     ensures { result ≡ has_capture_of (own_men_of v) (own_kings_of v) v.them (empty_of v) }
 {
