@@ -23,8 +23,7 @@ fn men_captures<const N: usize>(s: &mut Captures<N>, men: Bitboard, empty: Bitbo
         let at = 1u64 << u64::trailing_zeros(left);
         s.from = at;
         s.empty = empty | at;
-        let them = s.them;
-        if man_open(at, them, empty | at) {
+        if man_open(at, s.them, empty | at) {
             s.man(at, 0);
         }
         left = left & (left - 1);
@@ -40,8 +39,7 @@ fn kings_captures<const N: usize>(s: &mut Captures<N>, kings: Bitboard, empty: B
         let at = 1u64 << u64::trailing_zeros(left);
         s.from = at;
         s.empty = empty | at;
-        let them = s.them;
-        if king_open(at, them, empty | at) {
+        if king_open(at, s.them, empty | at) {
             s.king(at, 0, 4);
         }
         left = left & (left - 1);

@@ -14,7 +14,7 @@ ghost use Rattle.quiets.specs.Tests.{forward_of, steps_open, has_quiet_of, men_j
 ghost use Rattle.quiets.specs.Quiets.{quiet_moves_of, flight_of, flights, king_quiets, all_quiets};
 
 use captures::movegen;
-use captures::moves::{MAX_MOVES, MoveList};
+use captures::moves::{BLANK, MAX_MOVES, MoveList};
 use captures::view::View;
 use positions::moves::Move;
 use squares::bitboard;
@@ -106,12 +106,7 @@ pub fn quiet_moves(v: View) -> Listing
     let men = v.men();
     let empty = v.empty();
     let first = forward(v.side);
-    let blank = Move {
-        captured: 0,
-        from: 0,
-        to: 0,
-    };
-    let mut moves = [blank; 256];
+    let mut moves = [BLANK; 256];
     let mut len: usize = 0;
     let mut overflow = false;
     for k in 0..2 {
