@@ -13,6 +13,7 @@ use Rattle.captures.specs.Kings.{kings_captures_of}
 use Rattle.captures.specs.Lists.{list_of}
 use Rattle.captures.specs.Men.{men_captures_of}
 use Rattle.captures.specs.Record.{list_in, start_of}
+use native.Mathlib.Omega.{arith}
 use Rattle.captures.proofs.Limit.{Found, found, note_in}
 use Rattle.rules.specs.Lists.{keep, distinct, best, longest}
 use Rattle.rules.specs.Ordered.{count, captures, same_bits, legal}
@@ -20,12 +21,12 @@ use Rattle.rules.specs.Rules.{BitMove, numbered, Open, NoJump, Fair}
 use Rattle.rules.proofs.Agreement.{bits_some}
 use Rattle.rules.proofs.Laws.{no_jump}
 use Rattle.rules.proofs.Shortcut.{all_tried}
-use Rattle.capture_laws.proofs.Recorded.{Holds}
+use Rattle.captures.proofs.Held.{Holds, holds_list}
 use Rattle.capture_laws.proofs.Search.{search_of, search_holds, found_law}
 use Rattle.capture_laws.proofs.Stored.{cut_listed}
 
 -- the list of a search is these moves, then blanks, and its mark says whether there are more than 256
-abbrev pub Filled : Captures → List Move → Type 0
+abbrev pub Filled : Captures 256 → List Move → Type 0
 Filled s ms = (list_in s ≡ list_of ms) × (s.overflow ≡ ltb 256 (length ms))
 
 module _ (b : Board) (fair : Fair b) where
@@ -37,11 +38,11 @@ module _ (b : Board) (fair : Fair b) where
   ends_with = found_law b fair 256
 
   -- the longest captures, each once, in the order of the rules
-  pub captures_filled : let s = kings_captures_of (men_captures_of (start_of (enemy b) (empty b)) (pieces b Man) (empty b)) (pieces b King) (empty b) in
+  pub captures_filled : let s = kings_captures_of (men_captures_of (start_of 256 (enemy b) (empty b)) (pieces b Man) (empty b)) (pieces b King) (empty b) in
       (list_in s ≡ list_of (map numbered (longest same_bits count (captures b))))
       × (s.overflow ≡ ltb 256 (length (longest same_bits count (captures b))))
   captures_filled = (
-    holds.list ∙ ap (λ (x : Found). list_of x.moves) ends_with ∙ cut_listed (map numbered (longest same_bits count (captures b))),
+    holds_list _ _ (omega arith) holds ∙ ap (λ (x : Found). list_of x.moves) ends_with ∙ cut_listed (map numbered (longest same_bits count (captures b))),
     holds.overflow ∙ ap (λ (x : Found). x.overflow) ends_with,
   )
 

@@ -34,9 +34,9 @@ use Rattle.rules.proofs.Shortcut.{king_tried, all_tried}
 use Rattle.capture_laws.proofs.Kings.{king_endings_lem}
 use Rattle.capture_laws.proofs.Men.{man_endings_lem}
 use Rattle.squares.proofs.OneBit.{first_bit}
-use Rattle.capture_laws.proofs.Recorded.{Holds, move_to, Searched, fold_holds, fold_bound}
+use Rattle.captures.proofs.Held.{Holds, move_to, Searched, none_holds, fold_holds}
+use Rattle.capture_laws.proofs.Recorded.{fold_bound}
 use Rattle.capture_laws.proofs.Steps.{ended}
-use Rattle.capture_laws.proofs.Stored.{none_listed}
 
 -- the moves that the code makes of the endings of a piece that began on i
 moves_of : (i : ℕ) → i < 64 → (ws : List BitMove) → ((w : BitMove) → Member w ws → (w.from ≡ i) × (w.to < 64))
@@ -49,19 +49,19 @@ moves_of i h (w ∷ ws) p =
     (moves_of i h ws (λ z m. p z (tail m)))
 
 -- all the captures of the code
-abbrev pub search_of : Board → Captures
-search_of b = kings_captures_of (men_captures_of (start_of (enemy b) (empty b)) (pieces b Man) (empty b)) (pieces b King) (empty b)
+abbrev pub search_of : Board → Captures 256
+search_of b = kings_captures_of (men_captures_of (start_of 256 (enemy b) (empty b)) (pieces b Man) (empty b)) (pieces b King) (empty b)
 
 module _ (b : Board) (fair : Fair b) where
   -- the state of the search between two pieces
-  record State (s : Captures) (x : Found) : Type 0 where
+  record State (s : Captures 256) (x : Found) : Type 0 where
     them : s.them ≡ enemy b
     holds : Holds s x
 
   -- one piece, whose endings are those of the moves ws
   piece : (k : PieceKind) (i : ℕ) → has (pieces b k) i ≡ true → (ws : List BitMove)
       → ((w : BitMove) → Member w ws → (w.from ≡ i) × Path b k i w.to w.taken)
-      → (s : Captures) (x : Found) (es : List Ending) → es ≡ map ended ws → State s x
+      → (s : Captures 256) (x : Found) (es : List Ending) → es ≡ map ended ws → State s x
       → State (foldl note_of (onto (empty b) s i) es) (foldl (note_in 256) x (map numbered ws))
   piece k i h ws p s x es q t = record {
     them = r.kept.them ∙ t.them;
@@ -69,7 +69,7 @@ module _ (b : Board) (fair : Fair b) where
   }
     where
       holds : Holds (onto (empty b) s i) x
-      holds = record { list = t.holds.list; few = t.holds.few; best = t.holds.best; overflow = t.holds.overflow }
+      holds = record { list = t.holds.list; len = t.holds.len; few = t.holds.few; best = t.holds.best; overflow = t.holds.overflow }
 
       r : Searched (onto (empty b) s i) (foldl note_of (onto (empty b) s i) es) (foldl (note_in 256) x (map (move_to (2 ^ i)) es))
       r = fold_holds es (onto (empty b) s i) x holds
@@ -78,14 +78,14 @@ module _ (b : Board) (fair : Fair b) where
       made = ap (map (move_to (2 ^ i))) q
           ∙ moves_of i (omega (arith, piece_lt b fair k i h)) ws (λ w m. ((p w m).0, omega (arith, on_lt w.to (path_on b fair k i w h (p w m)).to)))
 
-  man : (s : Captures) (x : Found) (i : ℕ) → has (pieces b Man) i ≡ true → State s x
+  man : (s : Captures 256) (x : Found) (i : ℕ) → has (pieces b Man) i ≡ true → State s x
       → State (man_captures (empty b) s i) (foldl (note_in 256) x (map numbered (sequences b Man i)))
   unfolding man_captures space enough
   man s x i h t =
       piece Man i h (sequences b Man i) (of_sequences b fair Man i) s x (man_endings s.them (space b i) enough (2 ^ i) 0)
       (ap (λ (e : ℕ). man_endings e (space b i) enough (2 ^ i) 0) t.them ∙ man_endings_lem b fair i h) t
 
-  king : (s : Captures) (x : Found) (i : ℕ) → has (pieces b King) i ≡ true → State s x
+  king : (s : Captures 256) (x : Found) (i : ℕ) → has (pieces b King) i ≡ true → State s x
       → State (king_captures (empty b) s i) (foldl (note_in 256) x (map numbered (king_tried b i)))
   unfolding king_captures space enough
   king s x i h t =
@@ -93,10 +93,10 @@ module _ (b : Board) (fair : Fair b) where
       (ap (λ (e : ℕ). king_endings e (space b i) enough (2 ^ i) 0 (skip_of true 4)) t.them ∙ king_endings_lem b fair i h) t
 
   -- pieces one after the other
-  module _ (k : PieceKind) (step : Captures → ℕ → Captures) (rule : ℕ → List BitMove)
-      (one : (s : Captures) (x : Found) (i : ℕ) → has (pieces b k) i ≡ true → State s x
+  module _ (k : PieceKind) (step : Captures 256 → ℕ → Captures 256) (rule : ℕ → List BitMove)
+      (one : (s : Captures 256) (x : Found) (i : ℕ) → has (pieces b k) i ≡ true → State s x
       → State (step s i) (foldl (note_in 256) x (map numbered (rule i)))) where
-    each : (l : List ℕ) → ((i : ℕ) → Member i l → has (pieces b k) i ≡ true) → (s : Captures) (x : Found) → State s x
+    each : (l : List ℕ) → ((i : ℕ) → Member i l → has (pieces b k) i ≡ true) → (s : Captures 256) (x : Found) → State s x
         → State (foldl step s l) (foldl (note_in 256) x (map numbered (concat_map rule l)))
     unfolding concat_map
     each [] p s x t = t
@@ -106,7 +106,7 @@ module _ (b : Board) (fair : Fair b) where
         ∙ foldl-append (note_in 256) x (map numbered (rule i)) (map numbered (concat_map rule l))))
         (each l (λ j m. p j (tail m)) (step s i) (foldl (note_in 256) x (map numbered (rule i))) (one s x i (p i (head refl)) t))
 
-    every : (s : Captures) (x : Found) → State s x
+    every : (s : Captures 256) (x : Found) → State s x
         → State (foldl step s (members (pieces b k))) (foldl (note_in 256) x (map numbered (concat_map rule (members (pieces b k)))))
     every s x t = each (members (pieces b k)) (λ i m. of_members (pieces b k) i m) s x t
 
@@ -124,8 +124,8 @@ module _ (b : Board) (fair : Fair b) where
       kings : List BitMove
       kings = concat_map (king_tried b) (members (pieces b King))
 
-      begun : State (start_of (enemy b) (empty b)) (found 0 [] false)
-      begun = record { them = refl; holds = record { list = none_listed; few = omega arith; best = refl; overflow = refl } }
+      begun : State (start_of 256 (enemy b) (empty b)) (found 0 [] false)
+      begun = record { them = refl; holds = none_holds (enemy b) (empty b) }
 
   -- the fold with any limit: the longest captures as far as the limit goes, and a mark where there are more
   pub found_law : (limit : ℕ) → let l = longest same_bits count (captures b) in

@@ -11,3 +11,6 @@ pub mod Boards
 pub mod Loops
 pub mod Some
 pub mod Shut
+pub mod Stored
+pub mod Held
+pub mod Alike

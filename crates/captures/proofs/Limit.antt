@@ -7,8 +7,8 @@ use lib.ListN.{length}
 use Rattle.squares.specs.Sets.{size}
 use Rattle.positions.specs.declared.moves.Move.{Move}
 use Rattle.captures.specs.declared.movegen.Captures.{Captures}
-use Rattle.captures.specs.Lists.{entries, listed}
-use Rattle.captures.specs.Record.{list_in}
+use Rattle.captures.specs.Lists.{listed}
+use Rattle.captures.specs.Record.{moves_in}
 
 -- the largest number, the moves that take as many, each once, and whether there were more of them than the list holds
 pub record Found : Type 0 where
@@ -36,5 +36,5 @@ note_in limit s m =
     (cond (listed s.moves m) s (add_in limit s m)))
 
 -- what the code's search has found
-abbrev pub seen : Captures → Found
-seen s = found s.best (entries (list_in s)) s.overflow
+abbrev pub seen : {N : ℕ} → Captures N → Found
+seen s = found s.best (moves_in s) s.overflow

@@ -15,12 +15,12 @@ use Rattle.captures.proofs.Shut.{set_onto}
 pub few_enemies : (s : ℕ) → size s < 65
 few_enemies s = suc-le-suc (size_most s)
 
-pub man_turn : (empty : ℕ) (s r : Captures) (at i : ℕ) → at ≡ 2 ^ i → Man note_of s.them (bit_or empty at) (set_onto empty s at) at 0 r → r ≡ man_captures empty s i
+pub man_turn : {N : ℕ} (empty : ℕ) (s r : Captures N) (at i : ℕ) → at ≡ 2 ^ i → Man note_of s.them (bit_or empty at) (set_onto empty s at) at 0 r → r ≡ man_captures empty s i
 unfolding man_captures
 man_turn empty s r at i q m =
     m.found 65 (few_enemies (without s.them 0)) ∙ ap (λ (a : ℕ). foldl note_of (set_onto empty s a) (man_endings s.them (bit_or empty a) 65 a 0)) q
 
-pub king_turn : (empty : ℕ) (s r : Captures) (at i : ℕ) → at ≡ 2 ^ i → King note_of s.them (bit_or empty at) (set_onto empty s at) at 0 (skip_of true 4) r → r ≡ king_captures empty s i
+pub king_turn : {N : ℕ} (empty : ℕ) (s r : Captures N) (at i : ℕ) → at ≡ 2 ^ i → King note_of s.them (bit_or empty at) (set_onto empty s at) at 0 (skip_of true 4) r → r ≡ king_captures empty s i
 unfolding king_captures
 king_turn empty s r at i q m =
     m.found 65 (few_enemies (without s.them 0)) ∙ ap (λ (a : ℕ). foldl note_of (set_onto empty s a) (king_endings s.them (bit_or empty a) 65 a 0 (skip_of true 4))) q

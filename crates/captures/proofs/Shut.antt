@@ -14,7 +14,7 @@ use Rattle.captures.specs.Men.{man_jumps, man_endings, man_captures}
 use Rattle.captures.specs.Kings.{skip_of, king_jumps, king_endings, king_captures}
 
 -- nothing is taken
-record_none : (s : Captures) (to : ℕ) → record_of s to 0 ≡ s
+record_none : {N : ℕ} (s : Captures N) (to : ℕ) → record_of s to 0 ≡ s
 unfolding record_of
 record_none s to = rw size_zero refl
 
@@ -28,16 +28,16 @@ module _ (them empty at : ℕ) where
   king_first = rw (without_none them) refl
 
 -- the search set onto a piece
-abbrev pub set_onto : ℕ → Captures → ℕ → Captures
+abbrev pub set_onto : {N : ℕ} → ℕ → Captures N → ℕ → Captures N
 set_onto empty s at = record { moves = s.moves; len = s.len; them = s.them; empty = bit_or empty at; from = at; best = s.best; overflow = s.overflow }
 
-pub man_shut : (empty : ℕ) (s : Captures) (at i : ℕ) → at ≡ 2 ^ i → any_up_to (man_jump at s.them (bit_or empty at)) 4 ≡ false → set_onto empty s at ≡ man_captures empty s i
+pub man_shut : {N : ℕ} (empty : ℕ) (s : Captures N) (at i : ℕ) → at ≡ 2 ^ i → any_up_to (man_jump at s.them (bit_or empty at)) 4 ≡ false → set_onto empty s at ≡ man_captures empty s i
 unfolding man_captures man_endings
 man_shut empty s at i q e =
     sym (rw (man_first s.them (bit_or empty at) at ∙ e) (record_none (set_onto empty s at) at))
     ∙ ap (λ (a : ℕ). foldl note_of (set_onto empty s a) (man_endings s.them (bit_or empty a) 65 a 0)) q
 
-pub king_shut : (empty : ℕ) (s : Captures) (at i : ℕ) → at ≡ 2 ^ i → any_up_to (king_jump at s.them (bit_or empty at)) 4 ≡ false → set_onto empty s at ≡ king_captures empty s i
+pub king_shut : {N : ℕ} (empty : ℕ) (s : Captures N) (at i : ℕ) → at ≡ 2 ^ i → any_up_to (king_jump at s.them (bit_or empty at)) 4 ≡ false → set_onto empty s at ≡ king_captures empty s i
 unfolding king_captures king_endings
 king_shut empty s at i q e =
     sym (rw (king_first s.them (bit_or empty at) at ∙ e) (record_none (set_onto empty s at) at))

@@ -1,24 +1,18 @@
--- Whether some direction passes a test, as a loop over the four asks it.
-use mathlib.Core.Path.{◌≡◌, refl, ap, ap₂, ◌∙◌}
-use mathlib.Core.Bool.{Bool, true, false, ◌||◌, or-true}
-use Prim.Native.Nat.{ℕ, zero, suc, ◌+◌, ◌<◌}
-use native.Mathlib.Omega.{arith}
-use native.Mathlib.Numerals.{add-one}
+-- Whether some direction passes a test, as a chain over the four asks it.
+use Rattle.std.specs.List.{list_any}
+use mathlib.Core.Path.{◌≡◌, refl}
+use mathlib.Core.Bool.{Bool, true, false, ◌||◌}
+use Prim.Native.Nat.{ℕ}
 use Rattle.captures.specs.Walks.{any_up_to}
+use Rattle.std.proofs.Common.{[], ◌∷◌}
 
-module _ (p : ℕ → Bool) where
-  pub up_found : (d : ℕ) → d < 4 → p d ≡ true → true ≡ any_up_to p 4
-  unfolding any_up_to
-  up_found zero h e = rw e refl
-  up_found (suc zero) h e = rw (e, or-true) refl
-  up_found (suc (suc zero)) h e = rw (e, or-true) refl
-  up_found (suc (suc (suc zero))) h e = rw (e, or-true) refl
-  up_found (suc (suc (suc (suc n)))) h e = absurd (omega arith)
+any_of : (a b c d : Bool) → (a || (b || (c || (d || false)))) ≡ ((((false || a) || b) || c) || d)
+any_of true b c d = refl
+any_of false true c d = refl
+any_of false false true d = refl
+any_of false false false true = refl
+any_of false false false false = refl
 
-  pub up_none : any_up_to p 0 ≡ false
-  unfolding any_up_to
-  up_none = refl
-
-  pub up_on : (d : ℕ) → any_up_to p d ≡ false → p d ≡ false → any_up_to p (d + 1) ≡ false
-  unfolding any_up_to
-  up_on d q e = ap (any_up_to p) (add-one d) ∙ ap₂ ◌||◌ q e
+pub any_four : (p : ℕ → Bool) → list_any p (0 ∷ 1 ∷ 2 ∷ 3 ∷ []) ≡ any_up_to p 4
+unfolding any_up_to
+any_four p = any_of (p 0) (p 1) (p 2) (p 3)

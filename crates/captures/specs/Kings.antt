@@ -44,9 +44,9 @@ pub record King {S : Type 0} (note : S → Ending → S) (them empty : ℕ) (s :
   pub found : (f : ℕ) → size (without them c) < f → r ≡ foldl note s (king_endings them empty f at c skip)
 
 -- s after the search from the king at bit i; at the start no direction is left out
-unfoldable pub king_captures : ℕ → Captures → ℕ → Captures
+unfoldable pub king_captures : {N : ℕ} → ℕ → Captures N → ℕ → Captures N
 king_captures empty s i = foldl note_of (onto empty s i) (king_endings s.them (bit_or empty (2 ^ i)) 65 (2 ^ i) 0 (skip_of true 4))
 
 -- s after the search from each king, by bit
-unfoldable pub kings_captures_of : Captures → ℕ → ℕ → Captures
+unfoldable pub kings_captures_of : {N : ℕ} → Captures N → ℕ → ℕ → Captures N
 kings_captures_of s kings empty = foldl (king_captures empty) s (members kings)

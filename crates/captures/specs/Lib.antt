@@ -5,3 +5,5 @@ pub mod Record
 pub mod Walks
 pub mod Men
 pub mod Kings
+pub mod All
+pub mod View

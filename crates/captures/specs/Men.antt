@@ -37,13 +37,13 @@ pub record Man {S : Type 0} (note : S → Ending → S) (them empty : ℕ) (s : 
   pub found : (f : ℕ) → size (without them c) < f → r ≡ foldl note s (man_endings them empty f at c)
 
 -- the search s turned to the piece at bit i, whose square counts as empty
-abbrev pub onto : ℕ → Captures → ℕ → Captures
+abbrev pub onto : {N : ℕ} → ℕ → Captures N → ℕ → Captures N
 onto empty s i = record { moves = s.moves; len = s.len; them = s.them; empty = bit_or empty (2 ^ i); from = 2 ^ i; best = s.best; overflow = s.overflow }
 
 -- s after the search from the man at bit i; 65 is above any number of enemies
-unfoldable pub man_captures : ℕ → Captures → ℕ → Captures
+unfoldable pub man_captures : {N : ℕ} → ℕ → Captures N → ℕ → Captures N
 man_captures empty s i = foldl note_of (onto empty s i) (man_endings s.them (bit_or empty (2 ^ i)) 65 (2 ^ i) 0)
 
 -- s after the search from each man, by bit
-unfoldable pub men_captures_of : Captures → ℕ → ℕ → Captures
+unfoldable pub men_captures_of : {N : ℕ} → Captures N → ℕ → ℕ → Captures N
 men_captures_of s men empty = foldl (man_captures empty) s (members men)

@@ -27,7 +27,7 @@ use Rattle.rules.proofs.Numbered.{member_sound}
 use Rattle.quiets.specs.declared.quiets.Listing.{Listing}
 use Rattle.movegen.specs.Counts.{then_count, sum_from, depth_count}
 use Rattle.movegen.specs.Generate.{seen, generate_of, next_of}
-use Rattle.movegen.specs.declared.movegen.View.{View}
+use Rattle.captures.specs.declared.view.View.{View}
 use Rattle.capture_laws.proofs.Stored.{few_len, few_entries}
 use Rattle.quiet_laws.proofs.Filled.{filled}
 use Rattle.movegen.proofs.Generated.{generated, view_seen, next_is}

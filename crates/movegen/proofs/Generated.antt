@@ -24,8 +24,9 @@ use Rattle.rules.proofs.Laws.{fair_of_accepted}
 use Rattle.quiets.specs.Quiets.{listing, quiet_moves_of}
 use Rattle.quiets.specs.Tests.{has_capture_of}
 use Rattle.quiets.specs.declared.quiets.Listing.{Listing}
-use Rattle.movegen.specs.Generate.{view_of, facing, seen, capture_moves_of, moves_by_sets, generate_of, next_of}
-use Rattle.movegen.specs.declared.movegen.View.{View}
+use Rattle.captures.specs.View.{view_of}
+use Rattle.movegen.specs.Generate.{facing, seen, capture_moves_of, moves_by_sets, generate_of, next_of}
+use Rattle.captures.specs.declared.view.View.{View}
 use Rattle.capture_laws.proofs.Laws.{captures_open}
 use Rattle.quiet_laws.proofs.Filled.{filled}
 use Rattle.quiet_laws.proofs.Laws.{capture_open, legal_filled}

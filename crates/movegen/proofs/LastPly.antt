@@ -28,9 +28,10 @@ use Rattle.rules.proofs.Laws.{fair_of_accepted}
 use Rattle.capture_laws.proofs.Laws.{captures_open}
 use Rattle.quiet_laws.proofs.Laws.{capture_open, legal_number}
 use Rattle.movegen.specs.Counts.{then_count, sum_from, depth_count}
-use Rattle.movegen.specs.Generate.{view_of, seen, capture_moves_of}
+use Rattle.captures.specs.View.{view_of}
+use Rattle.movegen.specs.Generate.{seen, capture_moves_of}
 use Rattle.movegen.specs.LastPly.{limited_count, listed_count, count_by_sets, last_ply_of}
-use Rattle.movegen.specs.declared.movegen.View.{View}
+use Rattle.captures.specs.declared.view.View.{View}
 use Rattle.movegen.proofs.Generated.{view_seen}
 
 -- ---- depth 1

@@ -5,12 +5,13 @@ use Prim.Native.Nat.{ℕ, ◌≤◌}
 use native.Mathlib.Omega.{arith}
 use mathlib.Core.Bool.{Bool, true, false, cond, ◌||◌}
 use mathlib.Core.List.{List}
+use lib.Bits.{bit_or, or_comm}
 use lib.ListN.{length}
 use lib.Dec.{leb, ltb}
 use borrow.Author.Tests.{ltb-true, ltb-false, lt-leb, le-leb}
 use Rattle.squares.specs.declared.refusal.Refusal.TheVariants.{TooManyMoves, NoMoveFits, NoSuchSquare, BadPosition}
 use Rattle.positions.specs.Acceptance.{sound, Sound}
-use Rattle.positions.specs.Boards.{board_of, men_of, kings_of, enemy, of_kind, pieces, empty}
+use Rattle.positions.specs.Boards.{Board, board_of, colored, enemy, of_kind, pieces, empty}
 use Rattle.positions.specs.Hash.{position_of}
 use Rattle.positions.specs.Moves.{squares_of}
 use Rattle.positions.specs.Successor.{successor, Playable, play_of}
@@ -19,6 +20,13 @@ use Rattle.positions.specs.declared.position.Position.{Position}
 use Rattle.positions.proofs.Accepts.{sound_says, position_sound, of_position}
 use Rattle.positions.proofs.Hashes.{play_is}
 use Rattle.positions.proofs.Kept.{successor_accepted}
+use Rattle.squares.specs.Sets.{without}
+use Rattle.squares.specs.Squares.{all}
+use Rattle.squares.specs.Pieces.{other}
+use Rattle.squares.specs.declared.piece.Color.{Color}
+use Rattle.squares.specs.declared.piece.Color.TheVariants.{White, Black}
+use Rattle.captures.specs.View.{view_of, own_men_of, own_kings_of, empty_of}
+use Rattle.captures.specs.declared.view.View.{View}
 use Rattle.captures.specs.Lists as codes
 use Rattle.captures.specs.Lists.{list_of, entries}
 use Rattle.rules.specs.Lists.{some}
@@ -111,23 +119,32 @@ after_sound p q m e = go (sound p) refl (squares_of m) (ltb 256 (length (legal (
     go false s t n u o e = absurd (let z : ◌≡◌ {A = ℕ} 0 1 = cc in omega arith)
 
 -- ---- the tests
-module _ (p : Position) (s : sound p ≡ true) where
-  pub captures_tested : (r : Bool) (men kings them clear : ℕ) → men ≡ men_of p.side (board_of p) → kings ≡ kings_of p.side (board_of p)
-      → them ≡ enemy (board_of p) → clear ≡ empty (board_of p) → r ≡ has_capture_of men kings them clear → Ok r ≡ has_captures_of p
+-- the sets that the code makes are those of the board
+empty_is : (b : Board) → empty_of (view_of b) ≡ empty b
+unfolding empty
+empty_is b = ap (without all) (both b.side)
+  where
+    both : (s : Color) → bit_or (colored s b) (colored (other s) b) ≡ bit_or b.white b.black
+    both White = refl
+    both Black = or_comm b.black b.white
+
+module _ (p : Position) (s : sound p ≡ true) (v : View) (e : v ≡ view_of (board_of p)) where
+  pub captures_tested : (r : Bool) → r ≡ has_capture_of (own_men_of v) (own_kings_of v) v.them (empty_of v) → Ok r ≡ has_captures_of p
   unfolding has_captures_of pieces of_kind
-  captures_tested r men kings them clear a k t c e =
+  captures_tested r h =
+      let b = board_of p in
       ap Ok
-      (e ∙ ap₂ (λ (x y : ℕ). has_capture_of x y them clear) a k
-      ∙ ap₂ (λ (x y : ℕ). has_capture_of (men_of p.side (board_of p)) (kings_of p.side (board_of p)) x y) t c
-      ∙ has_capture_law (board_of p) (fair_of p s))
+      (h ∙ ap (λ (w : View). has_capture_of (own_men_of w) (own_kings_of w) w.them (empty_of w)) e
+      ∙ ap (has_capture_of (own_men_of (view_of b)) (own_kings_of (view_of b)) (enemy b)) (empty_is b)
+      ∙ has_capture_law b (fair_of p s))
       ∙ sym (ap (λ (t : Bool). cond t (Ok (some (captures (board_of p)))) (Err BadPosition)) s)
 
-  pub quiets_tested : (r : Bool) (men kings clear : ℕ) → men ≡ men_of p.side (board_of p) → kings ≡ kings_of p.side (board_of p)
-      → clear ≡ empty (board_of p) → r ≡ has_quiet_of men kings clear p.side → Ok r ≡ has_quiet_moves_of p
+  pub quiets_tested : (r : Bool) → r ≡ has_quiet_of (own_men_of v) (own_kings_of v) (empty_of v) v.side → Ok r ≡ has_quiet_moves_of p
   unfolding has_quiet_moves_of pieces of_kind
-  quiets_tested r men kings clear a k c e =
+  quiets_tested r h =
+      let b = board_of p in
       ap Ok
-      (e ∙ ap₂ (λ (x y : ℕ). has_quiet_of x y clear p.side) a k
-      ∙ ap (λ (x : ℕ). has_quiet_of (men_of p.side (board_of p)) (kings_of p.side (board_of p)) x p.side) c
-      ∙ has_quiet_law (board_of p) (fair_of p s))
+      (h ∙ ap (λ (w : View). has_quiet_of (own_men_of w) (own_kings_of w) (empty_of w) w.side) e
+      ∙ ap (λ (x : ℕ). has_quiet_of (own_men_of (view_of b)) (own_kings_of (view_of b)) x p.side) (empty_is b)
+      ∙ has_quiet_law b (fair_of p s))
       ∙ sym (ap (λ (t : Bool). cond t (Ok (some (quiets (board_of p)))) (Err BadPosition)) s)

@@ -7,23 +7,19 @@ use Rattle.squares.specs.Squares.{all, single}
 use Rattle.squares.specs.Pieces.{other}
 use Rattle.squares.specs.declared.piece.Color.{Color}
 use Rattle.squares.specs.declared.piece.Color.TheVariants.{White, Black}
-use Rattle.positions.specs.Boards.{Board, board, own, enemy}
+use Rattle.positions.specs.Boards.{Board, board}
 use Rattle.positions.specs.Successor.{kings_played}
 use Rattle.positions.specs.declared.moves.Move.{Move}
-use Rattle.captures.specs.Record.{list_in, start_of}
-use Rattle.captures.specs.Men.{men_captures_of}
-use Rattle.captures.specs.Kings.{kings_captures_of}
+use Rattle.captures.specs.Record.{list_in}
+use Rattle.captures.specs.All.{all_captures_of}
 use Rattle.captures.specs.declared.movegen.Captures.{Captures}
 use Rattle.quiets.specs.Tests.{has_capture_of}
 use Rattle.quiets.specs.Quiets.{listing, quiet_moves_of}
 use Rattle.quiets.specs.declared.quiets.Listing.{Listing}
-use Rattle.movegen.specs.declared.movegen.View.{View}
+use Rattle.captures.specs.declared.view.View.{View}
 
--- a board as the side to move sees it
-abbrev pub view_of : Board → View
-view_of b = record { us = own b; them = enemy b; kings = b.kings; side = b.side }
-
--- the way back: the board of a side's own pieces, the enemy's and the kings
+-- from what the side to move sees of a board (`view_of`), the way back: the board of a side's own pieces, the enemy's and
+-- the kings
 abbrev pub facing : Color → ℕ → ℕ → ℕ → Board
 facing White us them kings = board us them kings White
 facing Black us them kings = board them us kings Black
@@ -32,12 +28,12 @@ abbrev pub seen : View → Board
 seen v = facing v.side v.us v.them v.kings
 
 -- the list of a search, and its mark for more than 256 moves
-abbrev pub listing_of : Captures → Listing
+abbrev pub listing_of : {N : ℕ} → Captures N → Listing
 listing_of s = listing (list_in s) s.overflow
 
 -- the captures of all pieces: the men's, then the kings'
-abbrev pub long_captures_of : ℕ → ℕ → ℕ → ℕ → Captures
-long_captures_of men kings them empty = kings_captures_of (men_captures_of (start_of them empty) men empty) kings empty
+abbrev pub long_captures_of : ℕ → ℕ → ℕ → ℕ → Captures 256
+long_captures_of = all_captures_of 256
 
 unfoldable pub capture_moves_of : ℕ → ℕ → ℕ → ℕ → Listing
 capture_moves_of men kings them empty = listing_of (long_captures_of men kings them empty)

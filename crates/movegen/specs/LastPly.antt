@@ -11,7 +11,7 @@ use Rattle.quiets.specs.Tests.{has_capture_of}
 use Rattle.quiets.specs.Quiets.{all_quiets}
 use Rattle.quiets.specs.declared.quiets.Listing.{Listing}
 use Rattle.movegen.specs.Generate.{capture_moves_of}
-use Rattle.movegen.specs.declared.movegen.View.{View}
+use Rattle.captures.specs.declared.view.View.{View}
 use Rattle.squares.specs.declared.refusal.Refusal.{Refusal}
 
 -- a number of moves, or 17 where it is above 256

@@ -14,90 +14,31 @@
 //   followed to its end before the next is tried. A move that was found before is left out.
 // - Quiet moves: all men's steps in the first forward direction by rising bit, then those in the second. Then the
 //   kings by rising bit, each by direction and distance.
-ghost use Rattle.std.specs.Prelude.{◌≡◌, false, ◌≤◌};
-ghost use Rattle.captures.specs.Lists.{list_of};
-ghost use Rattle.quiets.specs.Quiets.{listing};
-ghost use Rattle.shorts.specs.Noted.{few};
-ghost use Rattle.positions.specs.Boards.{board_of};
-ghost use Rattle.movegen.specs.Generate.{view_of, long_captures_of, generate_of};
+ghost use Rattle.std.specs.Prelude.{◌≡◌};
+ghost use Rattle.movegen.specs.Generate.{listing_of, generate_of};
 ghost use Rattle.movegen.specs.Lists.{within_of, legal_moves_of, has_captures_of, has_quiet_moves_of, after_of};
 
 use crate::moves::{MAX_MOVES, MoveList};
 use crate::position;
 use captures::movegen::Captures;
+use captures::pieces::{ROOM, all_captures};
+use captures::view::View;
 use positions::moves::Move;
 use positions::position::Position;
 use quiets::quiets::Listing;
-use shorts::short::Short;
 use squares::bitboard;
-use squares::bitboard::Bitboard;
-use squares::piece::Color;
 use squares::refusal::Refusal;
 
 // A side with more kings than this skips the short list of captures.
 const FEW_KINGS: u32 = 3;
 
-// A board as the side to move sees it: its own pieces, the enemy's, the kings of both. Depth counts need no more.
-#[derive(Clone, Copy)]
-pub(crate) struct View {
-    pub(crate) us: Bitboard,
-    pub(crate) them: Bitboard,
-    pub(crate) kings: Bitboard,
-    pub(crate) side: Color,
-}
-
-impl View {
-    pub(crate) fn of(p: Position) -> View
-        ensures { result ≡ view_of (board_of p) }
-    {
-        let side = p.side;
-        View {
-            us: p.pieces(side),
-            them: p.pieces(side.not()),
-            kings: p.kings,
-            side: side,
-        }
-    }
-}
-
-// The captures of all pieces, in a list of 256 moves: men by bit, then kings by bit.
-pub(crate) fn long_captures(
-    men: Bitboard,
-    kings: Bitboard,
-    them: Bitboard,
-    empty: Bitboard,
-) -> Captures
-    ensures { result ≡ long_captures_of men kings them empty }
+// What a search found, as a list.
+fn listing<const N: usize>(found: &Captures<N>) -> Listing
+    ensures { result ≡ listing_of found.now }
 {
-    let start = Captures::new(them, empty);
-    let steps = shorts::pieces::men_captures(start, men, empty);
-    shorts::pieces::kings_captures(steps, kings, empty)
-}
-
-// A full list with the moves of a short one, which had room for all captures.
-fn spread(found: Short) -> Listing
-    requires { found.len ≤ 14 }
-    ensures { result ≡ listing (list_of (few found)) false }
-{
-    let blank = Move {
-        captured: 0,
-        from: 0,
-        to: 0,
-    };
-    let mut moves = [blank; 256];
-    let n = found.len;
-    let mut i: usize = 0;
-    while i < n {
-        moves[i] = found.moves[i];
-        i += 1;
-    }
-    let list = MoveList {
-        moves: moves,
-        len: n,
-    };
     Listing {
-        list: list,
-        overflow: false,
+        list: found.list(),
+        overflow: found.overflow,
     }
 }
 
@@ -107,25 +48,16 @@ fn spread(found: Short) -> Listing
 pub(crate) fn generate(v: View) -> Listing
     ensures { result ≡ generate_of v }
 {
-    let empty = bitboard::not(v.us | v.them);
-    let men = bitboard::difference(v.us, v.kings);
-    let kings = v.us & v.kings;
-    let side = v.side;
-    if quiets::quiets::has_capture(men, kings, v.them, empty) {
-        if bitboard::count(kings) <= FEW_KINGS {
-            let few = shorts::few::few_captures(men, kings, v.them, empty);
+    if quiets::quiets::has_capture(v) {
+        if bitboard::count(v.own_kings()) <= FEW_KINGS {
+            let few = all_captures::<ROOM>(v);
             if !few.overflow {
-                return spread(few);
+                return listing(&few);
             }
         }
-        let found = long_captures(men, kings, v.them, empty);
-        let list = found.list();
-        return Listing {
-            list: list,
-            overflow: found.overflow,
-        };
+        return listing(&all_captures::<MAX_MOVES>(v));
     }
-    quiets::quiets::quiet_moves(men, kings, empty, side)
+    quiets::quiets::quiet_moves(v)
 }
 
 // The list if it has at most `limit` moves, else 17.
@@ -154,9 +86,7 @@ pub fn has_captures(p: Position) -> Result<bool, Refusal>
     ensures { result ≡ has_captures_of p }
 {
     Refusal::BadPosition.unless(p.sound())?;
-    let side = p.side;
-    let them = p.pieces(side.not());
-    Ok(quiets::quiets::has_capture(p.men(side), p.kings(side), them, p.empty()))
+    Ok(quiets::quiets::has_capture(View::of(p)))
 }
 
 // Whether the side to move has a quiet move, even where it must capture. Refusal: 12.
@@ -164,8 +94,7 @@ pub fn has_quiet_moves(p: Position) -> Result<bool, Refusal>
     ensures { result ≡ has_quiet_moves_of p }
 {
     Refusal::BadPosition.unless(p.sound())?;
-    let side = p.side;
-    Ok(quiets::quiets::has_quiet(p.men(side), p.kings(side), p.empty(), side))
+    Ok(quiets::quiets::has_quiet(View::of(p)))
 }
 
 // The position after a legal move, with its hash. Refusals: 12, 11, 17, 15.

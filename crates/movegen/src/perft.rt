@@ -14,14 +14,16 @@ ghost use Rattle.std.specs.Prelude.{◌≡◌, ◌-◌, ◌≤◌};
 ghost use Rattle.std.specs.Int.Bits.{bit_xor};
 ghost use Rattle.squares.specs.Squares.{single};
 ghost use Rattle.positions.specs.Acceptance.{Accepted};
+ghost use Rattle.captures.specs.View.{own_men_of, own_kings_of, empty_of};
 ghost use Rattle.movegen.specs.Generate.{seen, listing_of, capture_moves_of, next_of};
 ghost use Rattle.movegen.specs.LastPly.{limited_count, listed_count, last_ply_of};
 ghost use Rattle.movegen.specs.Counts.{depth_count, perft_of, divided_of, divide_of};
 
-use crate::movegen::View;
 use crate::moves::{MAX_MOVES, MoveList};
 use crate::{movegen, playing};
 use captures::movegen::Captures;
+use captures::pieces::{ROOM, all_captures};
+use captures::view::View;
 use positions::moves::Move;
 use positions::position::Position;
 use squares::bitboard::Bitboard;
@@ -72,8 +74,9 @@ fn limited(moves: u32) -> Result<u64, Refusal>
 }
 
 // The number of moves that a search found, or 17 where it found more than 256.
-fn listed(found: Captures) -> Result<u64, Refusal>
-    ensures { result ≡ listed_count (listing_of found) }
+#[tactic(auto, unfolding(crate::specs::LastPly::listed_count, captures::specs::Record::list_in))]
+fn listed(found: &Captures<256>) -> Result<u64, Refusal>
+    ensures { result ≡ listed_count (listing_of found.now) }
 {
     if found.overflow {
         Err(Refusal::TooManyMoves)
@@ -82,15 +85,15 @@ fn listed(found: Captures) -> Result<u64, Refusal>
     }
 }
 
-// The number of captures, from the short list, or from the long one where the short one is too small.
-fn captures_count(men: Bitboard, kings: Bitboard, them: Bitboard, empty: Bitboard) -> Result<u64, Refusal>
-    ensures { result ≡ listed_count (capture_moves_of men kings them empty) }
+// The number of captures, from a short list, or from the long one where the short one is too small.
+fn captures_count(v: View) -> Result<u64, Refusal>
+    ensures { result ≡ listed_count (capture_moves_of (own_men_of v) (own_kings_of v) v.them (empty_of v)) }
 {
-    let few = shorts::few::few_captures(men, kings, them, empty);
+    let few = all_captures::<ROOM>(v);
     if !few.overflow {
         return Ok(few.len as u64);
     }
-    listed(movegen::long_captures(men, kings, them, empty))
+    listed(&all_captures::<MAX_MOVES>(v))
 }
 
 // The number of legal moves: the last ply of a count needs no more. Where no jump is open no list is made, and the long
@@ -98,14 +101,10 @@ fn captures_count(men: Bitboard, kings: Bitboard, them: Bitboard, empty: Bitboar
 fn last_ply(v: View) -> Result<u64, Refusal>
     ensures { result ≡ last_ply_of v }
 {
-    let empty = bitboard::not(v.us | v.them);
-    let men = bitboard::difference(v.us, v.kings);
-    let kings = v.us & v.kings;
-    let side = v.side;
-    if quiets::quiets::has_capture(men, kings, v.them, empty) {
-        captures_count(men, kings, v.them, empty)
+    if quiets::quiets::has_capture(v) {
+        captures_count(v)
     } else {
-        limited(quiets::quiets::quiet_count(men, kings, empty, side))
+        limited(quiets::quiets::quiet_count(v))
     }
 }
 

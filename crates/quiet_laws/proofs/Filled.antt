@@ -13,7 +13,7 @@ use Rattle.positions.specs.declared.moves.Move.{Move}
 use Rattle.captures.specs.Lists.{blank, no_moves, push_of, list_of}
 use Rattle.quiets.specs.declared.quiets.Listing.{Listing}
 use Rattle.quiets.specs.Quiets.{listing, add_of}
-use Rattle.capture_laws.proofs.Stored.{store}
+use Rattle.captures.proofs.Stored.{store}
 
 -- these moves, and whether there are more than 256
 abbrev pub filled : List Move → Listing

@@ -7,14 +7,15 @@
 //   makes a list.
 //
 // Most is computed for all pieces at once: their set is shifted by one step, and what falls on `empty` can step there.
-// `them` are the enemies.
 ghost use Rattle.std.specs.Prelude.{◌≡◌, ◌<◌, length};
 ghost use Rattle.squares.specs.Sets.{members};
+ghost use Rattle.captures.specs.View.{own_men_of, own_kings_of, empty_of};
 ghost use Rattle.quiets.specs.Tests.{forward_of, steps_open, has_quiet_of, men_jump, king_open, any_in, has_capture_of};
 ghost use Rattle.quiets.specs.Quiets.{quiet_moves_of, flight_of, flights, king_quiets, all_quiets};
 
 use captures::movegen;
-use captures::moves::{MAX_MOVES, MoveList};
+use captures::moves::{BLANK, MAX_MOVES, MoveList};
+use captures::view::View;
 use positions::moves::Move;
 use squares::bitboard;
 use squares::bitboard::Bitboard;
@@ -38,6 +39,7 @@ fn forward(side: Color) -> usize
 }
 
 // Whether some piece of the set can step in direction `d` onto an empty square.
+#[tactic(auto, unfolding(crate::specs::Tests::steps_open))]
 fn steps(set: Bitboard, empty: Bitboard, d: usize) -> bool
     ensures { result ≡ steps_open set empty d }
 {
@@ -45,10 +47,13 @@ fn steps(set: Bitboard, empty: Bitboard, d: usize) -> bool
 }
 
 // Whether the side has a quiet move, also where it must capture.
-pub fn has_quiet(men: Bitboard, kings: Bitboard, empty: Bitboard, side: Color) -> bool
-    ensures { result ≡ has_quiet_of men kings empty side }
+pub fn has_quiet(v: View) -> bool
+    ensures { result ≡ has_quiet_of (own_men_of v) (own_kings_of v) (empty_of v) v.side }
 {
-    let first = forward(side);
+    let men = v.men();
+    let kings = v.own_kings();
+    let empty = v.empty();
+    let first = forward(v.side);
     let a = steps(men, empty, first) | steps(men, empty, first + 1);
     let b = steps(kings, empty, 0) | steps(kings, empty, 1);
     let c = b | steps(kings, empty, 2);
@@ -57,22 +62,24 @@ pub fn has_quiet(men: Bitboard, kings: Bitboard, empty: Bitboard, side: Color) -
 
 // Whether some man has an enemy next to it in direction `d`, with an empty square behind it. The test goes back from
 // the empty squares: the direction opposite to `d` has index 3 - d.
-fn men_jump(men: Bitboard, them: Bitboard, empty: Bitboard, d: usize) -> bool
+#[tactic(auto, unfolding(crate::specs::Tests::men_jump))]
+fn men_jump(v: View, d: usize) -> bool
     requires { d < 4 }
-    ensures { result ≡ men_jump men them empty d }
+    ensures { result ≡ men_jump (own_men_of v) v.them (empty_of v) d }
 {
-    let over = bitboard::shift(empty, 3 - d) & them;
-    bitboard::shift(over, 3 - d) & men != 0
+    let over = bitboard::shift(v.empty(), 3 - d) & v.them;
+    bitboard::shift(over, 3 - d) & v.men() != 0
 }
 
 // Whether some king has a jump. The king's own square counts as empty.
-fn kings_open(kings: Bitboard, them: Bitboard, empty: Bitboard) -> bool
-    ensures { result ≡ any_in (king_open them empty) (members kings) }
+fn kings_open(v: View) -> bool
+    ensures { result ≡ any_in (king_open v.them (empty_of v)) (members (own_kings_of v)) }
 {
-    let mut left = kings;
+    let empty = v.empty();
+    let mut left = v.own_kings();
     while left != 0 {
         let at = 1u64 << u64::trailing_zeros(left);
-        if movegen::king_open(at, them, empty | at) {
+        if movegen::king_open(at, v.them, empty | at) {
             return true;
         }
         left = left & (left - 1);
@@ -81,31 +88,28 @@ fn kings_open(kings: Bitboard, them: Bitboard, empty: Bitboard) -> bool
 }
 
 // Whether the side has a jump.
-pub fn has_capture(men: Bitboard, kings: Bitboard, them: Bitboard, empty: Bitboard) -> bool
-    ensures { result ≡ has_capture_of men kings them empty }
+#[tactic(auto, unfolding(crate::specs::Tests::has_capture_of, captures::specs::Walks::any_up_to))]
+pub fn has_capture(v: View) -> bool
+    ensures { result ≡ has_capture_of (own_men_of v) (own_kings_of v) v.them (empty_of v) }
 {
-    let a = men_jump(men, them, empty, 0) | men_jump(men, them, empty, 1);
-    let b = a | men_jump(men, them, empty, 2);
-    let c = b | men_jump(men, them, empty, 3);
-    c | kings_open(kings, them, empty)
+    let a = men_jump(v, 0) | men_jump(v, 1);
+    let b = a | men_jump(v, 2);
+    let c = b | men_jump(v, 3);
+    c | kings_open(v)
 }
 
 // All quiet moves: the men's by direction, then by the bit reached; then the kings' by bit, by direction, near to far.
 // It is one function with a local array: a list handed from one function to the next would be copied each time.
-pub fn quiet_moves(men: Bitboard, kings: Bitboard, empty: Bitboard, side: Color) -> Listing
-    ensures { result ≡ quiet_moves_of men kings empty side }
+pub fn quiet_moves(v: View) -> Listing
+    ensures { result ≡ quiet_moves_of (own_men_of v) (own_kings_of v) (empty_of v) v.side }
 {
-    let first = forward(side);
-    let blank = Move {
-        captured: 0,
-        from: 0,
-        to: 0,
-    };
-    let mut moves = [blank; 256];
+    let men = v.men();
+    let empty = v.empty();
+    let first = forward(v.side);
+    let mut moves = [BLANK; 256];
     let mut len: usize = 0;
     let mut overflow = false;
-    let mut k = 0;
-    while k < 2 {
+    for k in 0..2 {
         let d = first + k;
         let mut to = bitboard::shift(men, d) & empty;
         while to != 0 {
@@ -124,14 +128,12 @@ pub fn quiet_moves(men: Bitboard, kings: Bitboard, empty: Bitboard, side: Color)
             }
             to = to & (to - 1);
         }
-        k += 1;
     }
-    let mut left = kings;
+    let mut left = v.own_kings();
     while left != 0 {
         let king = 1u64 << u64::trailing_zeros(left);
         let from = bitboard::first(king);
-        let mut dir = 0;
-        while dir < 4 {
+        for dir in 0..4 {
             let mut land = bitboard::shift(king, dir) & empty;
             while land != 0 {
                 let mv = Move {
@@ -147,7 +149,6 @@ pub fn quiet_moves(men: Bitboard, kings: Bitboard, empty: Bitboard, side: Color)
                 }
                 land = bitboard::shift(land, dir) & empty;
             }
-            dir += 1;
         }
         left = left & (left - 1);
     }
@@ -199,12 +200,14 @@ fn kings_count(kings: Bitboard, empty: Bitboard) -> u32
 }
 
 // The number of quiet moves of the side, counted without a list.
-pub fn quiet_count(men: Bitboard, kings: Bitboard, empty: Bitboard, side: Color) -> u32
-    ensures { result ≡ length (all_quiets men kings empty side) }
+pub fn quiet_count(v: View) -> u32
+    ensures { result ≡ length (all_quiets (own_men_of v) (own_kings_of v) (empty_of v) v.side) }
 {
-    let first = forward(side);
+    let men = v.men();
+    let empty = v.empty();
+    let first = forward(v.side);
     let a = bitboard::count(bitboard::shift(men, first) & empty);
     let b = bitboard::count(bitboard::shift(men, first + 1) & empty);
     let steps = a + b;
-    steps + kings_count(kings, empty)
+    steps + kings_count(v.own_kings(), empty)
 }

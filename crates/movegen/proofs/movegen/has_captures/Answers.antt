@@ -1,11 +1,9 @@
 -- The test by sets is that of the rules on the board of a sound position.
 use Rattle.std.proofs.Common.{rules}
 use Rattle.std.specs.Prelude.{Err}
-use mathlib.Core.Path.{◌≡◌, sym, ap, ◌∙◌}
-use Rattle.squares.specs.declared.piece.Color.{Color}
+use mathlib.Core.Path.{◌≡◌, sym, ◌∙◌}
 use Rattle.squares.proofs.Refusals.{holds, stopped}
 use Rattle.positions.specs.Acceptance.{sound}
-use Rattle.positions.specs.Boards.{board_of, colored}
 use Rattle.movegen.specs.Lists.{has_captures_of}
 use Rattle.movegen.proofs.Listed.{captures_tested}
 use Rattle.movegen.proofs.movegen.has_captures.Goals as goal
@@ -18,7 +16,4 @@ returns-in_err-unless c =
 
 pub returns : goal.returns
 returns c =
-    let p = c.args.p in
-    captures_tested p (sym c.sound.ensures ∙ holds _ _ c.in_ok-unless.ensures) _ _ _ _ _ c.men.ensures c.kings.ensures
-    (c.pieces-them.ensures ∙ ap (λ (o : Color). colored o (board_of p)) c.not.ensures)
-    c.empty.ensures c.has_capture.ensures
+    captures_tested c.args.p (sym c.sound.ensures ∙ holds _ _ c.in_ok-unless.ensures) c.of.result c.of.ensures _ c.has_capture.ensures

@@ -16,5 +16,4 @@ returns-in_err-unless c =
 
 pub returns : goal.returns
 returns c =
-    let p = c.args.p in
-    quiets_tested p (sym c.sound.ensures ∙ holds _ _ c.in_ok-unless.ensures) _ _ _ _ c.men.ensures c.kings.ensures c.empty.ensures c.has_quiet.ensures
+    quiets_tested c.args.p (sym c.sound.ensures ∙ holds _ _ c.in_ok-unless.ensures) c.of.result c.of.ensures _ c.has_quiet.ensures

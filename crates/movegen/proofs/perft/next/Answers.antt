@@ -9,7 +9,7 @@ use Rattle.squares.specs.declared.piece.Color.{Color}
 use Rattle.positions.specs.Successor.{kings_played}
 use Rattle.positions.specs.declared.moves.Move.{Move}
 use Rattle.movegen.specs.Generate.{next_of}
-use Rattle.movegen.specs.declared.movegen.View.{View}
+use Rattle.captures.specs.declared.view.View.{View}
 use Rattle.movegen.proofs.perft.next.Goals as goal
 
 stepped : (v : View) (m : Move) {kept us them kings : ℕ} {side : Color}

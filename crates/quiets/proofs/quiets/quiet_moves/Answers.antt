@@ -20,6 +20,7 @@ use Rattle.captures.specs.Walks.{up_to}
 use Rattle.captures.proofs.Steps.{ray_falls}
 use Rattle.quiets.specs.declared.quiets.Listing.{Listing}
 use Rattle.quiets.specs.Quiets.{listing, add_of, step_move, men_steps, men_quiets, king_quiets, all_quiets, quiet_moves_of}
+use Rattle.captures.specs.View.{own_men_of, empty_of}
 use Rattle.quiets.proofs.Forward.{forward_le}
 use Rattle.quiets.proofs.Added.{stored, marked, adding_turn, adding_done, ones, fly_start, fly_step, fly_end, walk_start, walk_on, step_made, quiet_to, flights_made}
 use Rattle.quiets.proofs.quiets.quiet_moves.Invariants.{held, found}
@@ -33,7 +34,7 @@ pub loop-k-init : goal.loop-k-init
 loop-k-init c = (walk_start _ _, omega arith)
 
 pub overflow_add-d : goal.overflow_add-d
-overflow_add-d c = omega (arith, forward_le c.args.side, c.forward-first.ensures)
+overflow_add-d c = omega (arith, forward_le c.args.v.side, c.forward-first.ensures)
 
 pub loop-to-init : goal.loop-to-init
 loop-to-init c = record { fits = and_lt _ _ c.shift.type_inv; same = refl }
@@ -45,7 +46,7 @@ pub overflow_shl-at : goal.overflow_shl-at
 overflow_shl-at c = lowest_lt 64 c.loop-to.to (omega arith) c.loop-to.invariant.fits
 
 pub overflow_sub-d : goal.overflow_sub-d
-overflow_sub-d c = omega (arith, forward_le c.args.side, c.forward-first.ensures, c.loop-k-test.true)
+overflow_sub-d c = omega (arith, forward_le c.args.v.side, c.forward-first.ensures, c.loop-k-test.true)
 
 pub loop-to-smaller : goal.loop-to-smaller
 loop-to-smaller c = cleared c.loop-to.to (omega arith)
@@ -70,12 +71,12 @@ loop-k-preserved c =
       walk_on _ _ (found c.loop-k.moves c.loop-k.len c.loop-k.overflow) _ c.loop-k.k c.loop-k.invariant.0
           (adding_done _ _ _ c.loop-to.to c.loop-to.invariant c.loop-to-test.false
           ∙ ap (foldl add_of (found c.loop-k.moves c.loop-k.len c.loop-k.overflow))
-          (ones (step_move d) _ ∙ ap (λ (t : ℕ). map (step_move d) (members (bit_and t c.args.empty))) c.shift.ensures)),
+          (ones (step_move d) _ ∙ ap (λ (t : ℕ). map (step_move d) (members (bit_and t c.empty-empty.result))) c.shift.ensures)),
       omega arith,
     )
 
 pub loop-left-init : goal.loop-left-init
-loop-left-init c = record { fits = c.ranges.kings.fits; same = refl }
+loop-left-init c = record { fits = c.own_kings-left.type_inv; same = refl }
 
 pub overflow_cast-king : goal.overflow_cast-king
 overflow_cast-king c = omega (arith, lowest_lt 64 c.loop-left.left (omega arith) c.loop-left.invariant.fits)
@@ -109,7 +110,7 @@ loop-land-preserved c =
 pub loop-dir-preserved : goal.loop-dir-preserved
 loop-dir-preserved c =
     let from = c.first-from.result in
-    let e = c.args.empty in
+    let e = c.empty-empty.result in
     let d = c.loop-dir.dir in (
       walk_on _ _ (found c.loop-dir.moves c.loop-dir.len c.loop-dir.overflow) _ d c.loop-dir.invariant.0
           (fly_end _ _ _ _ _ _ c.loop-land.land c.loop-land.invariant c.loop-land-test.false
@@ -122,7 +123,7 @@ loop-left-smaller c = cleared c.loop-left.left (omega arith)
 
 pub loop-left-preserved : goal.loop-left-preserved
 loop-left-preserved c =
-    let e = c.args.empty in
+    let e = c.empty-empty.result in
     let l = lowest_lt 64 c.loop-left.left (omega arith) c.loop-left.invariant.fits in
     let all : c.loop-dir.dir ≡ 4 = omega (arith, c.loop-dir.invariant.1) in
     adding_turn _ _ (found c.loop-left.moves c.loop-left.len c.loop-left.overflow) _ c.loop-left.left c.loop-left.invariant (omega arith)
@@ -133,6 +134,8 @@ unfolding quiet_moves_of all_quiets men_quiets king_quiets
 returns c =
     let e : c.loop-k.k ≡ 2 = omega (arith, c.loop-k.invariant.1, c.loop-k-test.false) in
     adding_done _ _ _ c.loop-left.left c.loop-left.invariant c.loop-left-test.false
-    ∙ ap (λ (l : Listing). foldl add_of l (king_quiets c.args.kings c.args.empty))
-    (c.loop-k.invariant.0.same ∙ ap₂ (λ (f k : ℕ). foldl add_of (listing no_moves false) (up_to (λ i. men_steps c.args.men c.args.empty (f + i)) k)) c.forward-first.ensures e)
-    ∙ sym (foldl-append add_of (listing no_moves false) (men_quiets c.args.men c.args.empty c.args.side) (king_quiets c.args.kings c.args.empty))
+    ∙ ap (λ (l : Listing). foldl add_of l (king_quiets c.own_kings-left.result c.empty-empty.result))
+    (c.loop-k.invariant.0.same ∙ ap₂ (λ (f k : ℕ). foldl add_of (listing no_moves false) (up_to (λ i. men_steps c.men-men.result c.empty-empty.result (f + i)) k)) c.forward-first.ensures e)
+    ∙ sym (foldl-append add_of (listing no_moves false) (men_quiets c.men-men.result c.empty-empty.result c.args.v.side) (king_quiets c.own_kings-left.result c.empty-empty.result))
+    ∙ ap₂ (λ (m e : ℕ). quiet_moves_of m c.own_kings-left.result e c.args.v.side) c.men-men.ensures c.empty-empty.ensures
+    ∙ ap (λ (k : ℕ). quiet_moves_of (own_men_of c.args.v) k (empty_of c.args.v) c.args.v.side) c.own_kings-left.ensures

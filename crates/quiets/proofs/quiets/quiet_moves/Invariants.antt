@@ -2,7 +2,7 @@
 -- of each flight, direction by direction and king by king.
 use mathlib.Core.Bool.{Bool}
 use mathlib.Core.List.{List, ◌∷◌, [], foldl, flat_map}
-use Prim.Native.Nat.{ℕ, ◌+◌, ◌-◌, ◌≤◌}
+use Prim.Native.Nat.{ℕ, ◌+◌, ◌≤◌}
 use Rattle.squares.specs.Sets.{members}
 use Rattle.squares.specs.Directions.{direction_at}
 use Rattle.positions.specs.declared.moves.Move.{Move}
@@ -28,9 +28,6 @@ decreases-loop-to l = l.to
 abbrev pub invariant-loop-k : goal.invariant-loop-k
 invariant-loop-k l = Walked (λ i. men_steps l.men l.empty (l.first + i)) (found l.initial.moves l.initial.len l.initial.overflow) (found l.moves l.len l.overflow) l.k × (l.k ≤ 2)
 
-abbrev pub decreases-loop-k : goal.decreases-loop-k
-decreases-loop-k l = 2 - l.k
-
 abbrev pub invariant-loop-land : goal.invariant-loop-land
 invariant-loop-land l = Flying (quiet_to l.from) (direction_at l.dir) l.empty (found l.initial.moves l.initial.len l.initial.overflow) l.initial.land (found l.moves l.len l.overflow) l.land
 
@@ -39,9 +36,6 @@ decreases-loop-land l = rank (direction_at l.dir) l.land
 
 abbrev pub invariant-loop-dir : goal.invariant-loop-dir
 invariant-loop-dir l = Walked (flight_from l.from l.king l.empty) (found l.initial.moves l.initial.len l.initial.overflow) (found l.moves l.len l.overflow) l.dir × (l.dir ≤ 4)
-
-abbrev pub decreases-loop-dir : goal.decreases-loop-dir
-decreases-loop-dir l = 4 - l.dir
 
 abbrev pub invariant-loop-left : goal.invariant-loop-left
 invariant-loop-left l = Adding (flights l.empty) (foldl add_of (found l.initial.moves l.initial.len l.initial.overflow) (flat_map (flights l.empty) (members l.initial.left))) (found l.moves l.len l.overflow) l.left

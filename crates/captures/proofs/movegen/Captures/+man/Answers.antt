@@ -1,50 +1,43 @@
--- `man` ends, since each jump leaves fewer untaken enemies, and records what `man_endings` lists.
-use Rattle.std.proofs.Common.{rules, arith, ◌<◌, ◌^◌, bit_and, bit_or}
-use Rattle.squares.specs.Sets.{size, without}
+-- `man` ends, since each jump takes one more piece, and records what `man_endings` lists.
+use Rattle.std.proofs.Common.{rules, ◌<◌, ◌^◌}
 use Rattle.captures.specs.Record.{note_of}
 use Rattle.captures.proofs.Boards.{man_kept, man_on}
-use Rattle.captures.proofs.Fewer.{jump_fewer}
-use Rattle.captures.proofs.Men.{walked_none, walked_past, walked_jump, walked_out, walked_end, man_ends, jumped}
+use Rattle.captures.proofs.Fewer.{jump_fewer, jump_more}
+use Rattle.captures.proofs.Men.{walked_none, walked_past, walked_jump, walked_out, walked_end, jumped}
 use Rattle.captures.proofs.movegen.Captures.+man.Goals as goal
-use Rattle.captures.proofs.movegen.Captures.+man.Goals.{then-land-ne0+then-man_open, then-land-ne0+else-man_open, else-land-ne0}
+use Rattle.captures.proofs.movegen.Captures.+man.Goals.{then-land-ne0, else-land-ne0}
 
 pub loop-dir-init : goal.loop-dir-init
-loop-dir-init t c = walked_none _ _ _ _ _ _
+loop-dir-init g t c = walked_none _ _ _ _ _ _
 
-pub man-s-requires : goal.man-s-requires
-man-s-requires t c =
-    let a = c.args in
-    let ht : a.self.them < 2 ^ 64 = search rules in
-    let less = jump_fewer a.self.them a.self.empty a.captured _ c.difference-untaken.result c.shift.result c.shift-in-loop-dir.result c.difference-untaken.ensures c.shift-in-loop-dir.ensures ht c.ranges.captured.fits c.if-land-ne0.true in
-    let kept = man_kept _ _ _ _ _ _ _ _ c.loop-dir.invariant in
-    let over = bit_and c.shift.result c.difference-untaken.result in
-    let below : size (without c.loop-dir.s.them (bit_or a.captured over)) < size (without a.self.them a.captured) = rw kept.them less in
-    (omega (arith, c.decreases), tt)
+pub with_one-taken-requires : goal.with_one-taken-requires
+with_one-taken-requires g t c =
+    let b = c.args.self.now in
+    let ht : b.them < 2 ^ 64 = search rules in
+    jump_more b.them b.empty c.args.captured _ c.difference-untaken.result c.shift.result c.shift-in-loop-dir.result c.difference-untaken.ensures c.shift-in-loop-dir.ensures ht c.ranges.captured.fits c.if-land-ne0.true
 
 pub loop-dir-preserved : goal.loop-dir-preserved
-loop-dir-preserved t c =
+loop-dir-preserved g t c =
     let a = c.args in
+    let b = a.self.now in
     let d = c.loop-dir.dir in
-    let s = c.loop-dir.s in
+    let s = c.loop-dir.self in
     let kept = man_kept _ _ _ _ _ _ _ _ c.loop-dir.invariant in
-    let ht : a.self.them < 2 ^ 64 = search rules in
+    let ht : b.them < 2 ^ 64 = search rules in
     let lt : d < 4 = c.loop-dir-test.true in
-    let j = jumped a.self.them a.self.empty a.at a.captured d _ _ _ c.difference-untaken.ensures c.shift.ensures c.shift-in-loop-dir.ensures in
-    let past = walked_past note_of a.self.them a.self.empty a.self a.at a.captured d s c.loop-dir.extended c.loop-dir.invariant lt _ _ j in
-    let less = jump_fewer a.self.them a.self.empty a.captured _ c.difference-untaken.result c.shift.result c.shift-in-loop-dir.result c.difference-untaken.ensures c.shift-in-loop-dir.ensures ht c.ranges.captured.fits in
-    let jump = walked_jump note_of a.self.them a.self.empty a.self a.at a.captured d s c.loop-dir.extended c.loop-dir.invariant lt _ _ j in
+    let j = jumped b.them b.empty a.at a.captured d _ _ _ c.difference-untaken.ensures c.shift.ensures c.shift-in-loop-dir.ensures in
+    let less = jump_fewer b.them b.empty a.captured _ c.difference-untaken.result c.shift.result c.shift-in-loop-dir.result c.difference-untaken.ensures c.shift-in-loop-dir.ensures ht c.ranges.captured.fits in
     elim c.if-land-ne0.branch [
-      | then-land-ne0+then-man_open w ↦
-          rw (w.s-is, w.extended-is) (jump w.man-s.result (less w.if-land-ne0.true) w.if-land-ne0.true (man_on a.self s _ _ _ kept w.man-s.ensures))
-      | then-land-ne0+else-man_open w ↦
-          rw (w.s-is, w.extended-is) (jump w.record-s.result (less w.if-land-ne0.true) w.if-land-ne0.true (rw w.record-s.ensures (man_ends note_of _ _ s _ _ (rw (← w.difference.ensures, ← w.man_open.ensures) w.if-man_open.false))))
-      | else-land-ne0 w ↦ rw (w.s-is, w.extended-is) (past w.if-land-ne0.false)
+      | then-land-ne0 w ↦
+          rw (w.self-is, w.extended-is) (walked_jump note_of b.them b.empty b a.at a.captured d s c.loop-dir.extended c.loop-dir.invariant lt _ _ j w.man.new.self (less w.if-land-ne0.true) w.if-land-ne0.true (man_on b s _ _ _ kept (rw w.with_one-taken.ensures.both at w.man.ensures)))
+      | else-land-ne0 w ↦
+          rw (w.self-is, w.extended-is) (walked_past note_of b.them b.empty b a.at a.captured d s c.loop-dir.extended c.loop-dir.invariant lt _ _ j w.if-land-ne0.false)
     ]
 
-pub returns-then-extended : goal.returns-then-extended
-returns-then-extended t c =
-    walked_out note_of _ _ _ _ _ c.loop-dir.dir c.loop-dir.s (rw c.if-extended.true at c.loop-dir.invariant) c.loop-dir-test.false
+pub returns-then-not-extended : goal.returns-then-not-extended
+returns-then-not-extended g t c =
+    walked_end note_of _ _ _ _ _ c.loop-dir.dir c.loop-dir.self c.record.new.self (rw c.if-not-extended.true at c.loop-dir.invariant) c.loop-dir-test.false c.record.ensures
 
-pub returns-else-extended : goal.returns-else-extended
-returns-else-extended t c =
-    walked_end note_of _ _ _ _ _ c.loop-dir.dir c.loop-dir.s c.record.result (rw c.if-extended.false at c.loop-dir.invariant) c.loop-dir-test.false c.record.ensures
+pub returns-else-not-extended : goal.returns-else-not-extended
+returns-else-not-extended g t c =
+    walked_out note_of _ _ _ _ _ c.loop-dir.dir c.loop-dir.self (rw c.if-not-extended.false at c.loop-dir.invariant) c.loop-dir-test.false

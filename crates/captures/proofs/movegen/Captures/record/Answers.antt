@@ -1,34 +1,44 @@
--- Each return is one case of the definition: too few, more than before, found already, one more, no room for one more.
-use mathlib.Core.Path.{◌≡◌, ap₂, ◌∙◌}
-use mathlib.Core.Bool.{true, false}
+-- Each return is one case of the definition: too few, more than before, found already, one more.
+use Rattle.std.proofs.Common.{arith, ◌≡◌, ap₂, refl, true, false, ◌∙◌, eqb, ltb}
+use mathlib.Core.Bool.{◌||◌, or-true}
+use borrow.Author.Tests.{eq-eqb, ne_eqb, lt-ltb, le-ltb}
 use Rattle.positions.specs.Moves.{move}
-use Rattle.captures.specs.Lists.{entries, listed, push_of}
-use Rattle.captures.specs.Record.{list_in, record_of, move_of}
-use Rattle.captures.proofs.Recorded.{added_anew, added_there, added_stored, added_marked, record_is}
+use Rattle.captures.specs.Lists.{listed}
+use Rattle.captures.specs.Record.{moves_in, move_of, more_by}
+use Rattle.captures.proofs.Recorded.{record_few, record_anew, record_there, record_more}
 use Rattle.captures.proofs.movegen.Captures.record.Goals as goal
+use Rattle.captures.proofs.movegen.Captures.record.Goals.{then-count-eq0-via-then-count-eq0, then-count-eq0-via-else-count-eq0+then-count-self, then-self-count, else-self-count+else-holds}
 
-pub returns-then-count-best : goal.returns-then-count-best
-unfolding record_of
-returns-then-count-best c = rw (← c.count-count.ensures, c.if-count-best.true)
+pub returns-then-count-eq0 : goal.returns-then-count-eq0
+returns-then-count-eq0 g c =
+    let a = c.args in
+    let n = c.count-count.result in
+    let few : (eqb n 0 || ltb n a.self.now.best) ≡ true = elim c.then-count-eq0.branch [
+      | then-count-eq0-via-then-count-eq0 w ↦ rw (eq-eqb n 0 w.if-count-eq0.true) refl
+      | then-count-eq0-via-else-count-eq0+then-count-self w ↦ rw (lt-ltb n a.self.now.best (omega (arith, w.if-count-self.true))) (or-true (eqb n 0))
+    ] in
+    record_few a.self.now a.to a.captured n c.count-count.ensures few
 
-pub returns-then-best-count : goal.returns-then-best-count
-returns-then-best-count c =
-    let made : move c.first.result c.first-2.result c.args.captured ≡ move_of c.args.self c.args.to c.args.captured = cc in
-    let anew = c.push-list.ensures ∙ ap₂ push_of c.new.ensures made in
-    added_anew c.args.self (move_of c.args.self c.args.to c.args.captured) c.count-count.result c.count-count.ensures c.if-count-best.false c.push-list.result c.if-best-count.true anew ∙ record_is c.args.self c.args.to c.args.captured
-
-pub returns-then-contains : goal.returns-then-contains
-returns-then-contains c =
-    let there : listed (entries (list_in c.args.self)) (move_of c.args.self c.args.to c.args.captured) ≡ true = cc in
-    added_there c.args.self (move_of c.args.self c.args.to c.args.captured) c.count-count.result c.count-count.ensures c.if-count-best.false c.if-best-count.false there ∙ record_is c.args.self c.args.to c.args.captured
-
-pub returns-then-len-lt-MAX_MOVES : goal.returns-then-len-lt-MAX_MOVES
-returns-then-len-lt-MAX_MOVES c =
-    let new : listed (entries (list_in c.args.self)) (move_of c.args.self c.args.to c.args.captured) ≡ false = cc in
-    let made : move c.first.result c.first-2.result c.args.captured ≡ move_of c.args.self c.args.to c.args.captured = cc in
-    added_stored c.args.self (move_of c.args.self c.args.to c.args.captured) c.count-count.result c.count-count.ensures c.if-count-best.false _ made c.if-best-count.false new c.if-len-lt-MAX_MOVES.true ∙ record_is c.args.self c.args.to c.args.captured
+pub returns-then-holds : goal.returns-then-holds
+returns-then-holds g c =
+    let a = c.args in
+    let n = c.count-count.result in
+    let enough : (eqb n 0 || ltb n a.self.now.best) ≡ false = rw (ne_eqb n 0 c.if-count-eq0.false, le-ltb n a.self.now.best (omega (arith, c.if-count-self.false))) refl in
+    let there : listed (moves_in a.self.now) (move_of a.self.now a.to a.captured) ≡ true = cc in
+    record_there a.self.now a.to a.captured n c.count-count.ensures enough c.if-self-count.false there
 
 pub returns : goal.returns
-returns c =
-    let new : listed (entries (list_in c.args.self)) (move_of c.args.self c.args.to c.args.captured) ≡ false = cc in
-    added_marked c.args.self (move_of c.args.self c.args.to c.args.captured) c.count-count.result c.count-count.ensures c.if-count-best.false c.if-best-count.false new c.if-len-lt-MAX_MOVES.false ∙ record_is c.args.self c.args.to c.args.captured
+returns g c =
+    let a = c.args in
+    let n = c.count-count.result in
+    let enough : (eqb n 0 || ltb n a.self.now.best) ≡ false = rw (ne_eqb n 0 c.if-count-eq0.false, le-ltb n a.self.now.best (omega (arith, c.if-count-self.false))) refl in
+    let made : move c.first.result c.first-2.result a.captured ≡ move_of a.self.now a.to a.captured = cc in
+    elim c.if-self-count.branch [
+      | then-self-count w ↦
+          c.push.ensures ∙ ap₂ more_by (w.self-is ∙ w.clear.ensures) made
+          ∙ record_anew a.self.now a.to a.captured n c.count-count.ensures enough w.if-self-count.true
+      | else-self-count+else-holds w ↦
+          let new : listed (moves_in a.self.now) (move_of a.self.now a.to a.captured) ≡ false = cc in
+          c.push.ensures ∙ ap₂ more_by w.self-is made
+          ∙ record_more a.self.now a.to a.captured n c.count-count.ensures enough w.if-self-count.false new
+    ]
