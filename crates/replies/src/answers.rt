@@ -159,16 +159,10 @@ pub fn put_move(out: &mut Space, m: Move)
 fn put_moves(out: &mut Space, list: MoveList)
     ensures { out.new ≡ over (moves_text list.moves (min list.len 256)) out.old }
 {
-    let len = list.len;
-    let mut i = 0;
-    while i < MAX_MOVES {
-        if len <= i {
-            return;
-        }
+    for i in 0..list.len.min(MAX_MOVES) {
         let m = list.moves[i];
         out.put_byte(b' ');
         put_move(out, m);
-        i += 1;
     }
 }
 
@@ -193,18 +187,12 @@ pub fn tell_list(out: &mut Space, l: Listed)
 fn put_counts(out: &mut Space, list: MoveList, counts: [u64; 256])
     ensures { out.new ≡ over (counts_text list.moves counts (min list.len 256)) out.old }
 {
-    let len = list.len;
-    let mut i = 0;
-    while i < MAX_MOVES {
-        if len <= i {
-            return;
-        }
+    for i in 0..list.len.min(MAX_MOVES) {
         let m = list.moves[i];
         out.put_byte(b' ');
         put_move(out, m);
         out.put_byte(b'=');
         output::put_decimal(out, counts[i]);
-        i += 1;
     }
 }
 

@@ -1,5 +1,6 @@
 // What is written of a game: the outcome, both counts, how often the position has occurred; at the end also the position
 // and the number of its legal moves.
+ghost use Rattle.std.specs.Prelude.{◌≡◌};
 ghost use Rattle.texts.specs.Lent.{over};
 ghost use Rattle.replies.specs.States.{winner_word, outcome_word, judged_word, count_word, plies_text, state_text, stand_word, moves_word, end_text};
 

@@ -5,7 +5,7 @@
 // for each text, or ` !N` where it is refused; `record` writes ` N` for each record, 0 where it is accepted. Both end with
 // ` | FEN OUTCOME COUNT1 COUNT2 TIMES MOVES`.
 ghost use Rattle.std.specs.Prelude.{◌≡◌};
-ghost use Rattle.texts.specs.Lent.{Adds};
+ghost use Rattle.texts.specs.Lent.{over};
 ghost use Rattle.requests.specs.Plays.{record_of, is_record_of, all_records, words_of, play_text_of, play_record_of, play_word_of, text_told, record_told, word_told, game_text, game_answer, play_request, record_request, outcome_request};
 
 use games::game::Game;
@@ -15,6 +15,7 @@ use positions::position::{Placed, Position};
 use replies::{answers, states};
 use squares::refusal::{Answer, Refusal};
 use texts::bytes;
+use texts::space::Space;
 use wording::numbers::Parsed;
 use wording::output::Flaw;
 use wording::{escapes, numbers, output, words};
@@ -106,103 +107,103 @@ fn play_word(given: Given, g: Game, word: &[u8]) -> PlayedText
 }
 
 // What is written of a text: the move and the game after it, or `!` and the refusal's number.
-fn tell_text(out: &mut [u8], at: usize, r: PlayedText) -> usize
-    ensures { Adds (text_told r) out.old at out.new result }
+fn tell_text(out: &mut Space, r: PlayedText)
+    ensures { out.new ≡ over (text_told r) out.old }
 {
     let answer = r.answer;
     let after = r.game;
     let mv = r.mv;
-    let k = output::put_byte(out, at, b' ');
+    out.put_byte(b' ');
     match answer {
         Answer::Done => {
-            let m = answers::put_move(out, k, mv);
-            states::put_state(out, m, after, b'/')
+            answers::put_move(out, mv);
+            states::put_state(out, after, b'/');
         }
-        Answer::Refused(e) => output::put_number(out, k, e),
+        Answer::Refused(e) => output::put_number(out, e),
     }
 }
 
 // What is written of a record: the answer's number.
-fn tell_record(out: &mut [u8], at: usize, r: PlayedText) -> usize
-    ensures { Adds (record_told r) out.old at out.new result }
+fn tell_record(out: &mut Space, r: PlayedText)
+    ensures { out.new ≡ over (record_told r) out.old }
 {
     let answer = r.answer;
-    let k = output::put_byte(out, at, b' ');
-    output::put_decimal(out, k, answer.number() as u64)
+    out.put_byte(b' ');
+    output::put_decimal(out, answer.number() as u64);
 }
 
-fn tell_word(given: Given, r: PlayedText, out: &mut [u8], at: usize) -> usize
-    ensures { Adds (word_told given r) out.old at out.new result }
+fn tell_word(given: Given, r: PlayedText, out: &mut Space)
+    ensures { out.new ≡ over (word_told given r) out.old }
 {
     match given {
-        Given::Text => tell_text(out, at, r),
-        Given::Record => tell_record(out, at, r),
+        Given::Text => tell_text(out, r),
+        Given::Record => tell_record(out, r),
     }
 }
 
 // Plays the words in order; each play gets the game that the one before handed back.
-fn play_words(given: Given, start: Game, s: &[u8], out: &mut [u8], at: usize) -> usize
-    ensures { Adds (game_text given start (words_of s.now)) out.old at out.new result }
+fn play_words(given: Given, start: Game, s: &[u8], out: &mut Space)
+    ensures { out.new ≡ over (game_text given start (words_of s.now)) out.old }
 {
     let mut g = start;
-    let mut k = at;
     let mut i = 0;
     while i < s.len() {
         let left = &s[i..];
         let word = words::first(left);
         let r = play_word(given, g, word);
-        k = tell_word(given, r, out, k);
+        tell_word(given, r, out);
         g = r.game;
         i = s.len() - words::rest(left).len();
     }
-    states::put_end(out, k, g)
+    states::put_end(out, g);
 }
 
 // Begins a game and plays the words.
-fn play_game(given: Given, p: Position, s: &[u8], out: &mut [u8], at: usize) -> usize
-    ensures { Adds (game_answer given p s.now) out.old at out.new result }
+fn play_game(given: Given, p: Position, s: &[u8], out: &mut Space)
+    ensures { out.new ≡ over (game_answer given p s.now) out.old }
 {
     let begun = Game::from_position(p);
     let game = begun.game;
-    let k = output::put(out, at, b"ok");
-    play_words(given, game, s, out, k)
+    out.put(b"ok");
+    play_words(given, game, s, out);
 }
 
-pub(crate) fn play(p: Placed, texts: &[u8], out: &mut [u8], at: usize) -> usize
-    ensures { Adds (play_request p texts.now) out.old at out.new result }
+pub(crate) fn play(p: Placed, texts: &[u8], out: &mut Space)
+    ensures { out.new ≡ over (play_request p texts.now) out.old }
 {
     match p {
-        Placed::Position(q) => play_game(Given::Text, q, texts, out, at),
-        Placed::Refused(e) => output::put_refusal(out, at, e),
+        Placed::Position(q) => play_game(Given::Text, q, texts, out),
+        Placed::Refused(e) => output::put_refusal(out, e),
     }
 }
 
 // Every record must be readable before one is played.
-pub(crate) fn record(p: Placed, records: &[u8], out: &mut [u8], at: usize) -> usize
-    ensures { Adds (record_request p records.now) out.old at out.new result }
+pub(crate) fn record(p: Placed, records: &[u8], out: &mut Space)
+    ensures { out.new ≡ over (record_request p records.now) out.old }
 {
     match p {
         Placed::Position(q) => {
             if all_records(records) {
-                return play_game(Given::Record, q, records, out, at);
+                play_game(Given::Record, q, records, out);
+            } else {
+                output::put_bad(out, Flaw::Number);
             }
-            output::put_bad(out, at, Flaw::Number)
         }
-        Placed::Refused(e) => output::put_refusal(out, at, e),
+        Placed::Refused(e) => output::put_refusal(out, e),
     }
 }
 
 // The outcome of a new game.
-pub(crate) fn outcome(p: Placed, out: &mut [u8], at: usize) -> usize
-    ensures { Adds (outcome_request p) out.old at out.new result }
+pub(crate) fn outcome(p: Placed, out: &mut Space)
+    ensures { out.new ≡ over (outcome_request p) out.old }
 {
     match p {
         Placed::Position(q) => {
             let begun = Game::from_position(q);
             let game = begun.game;
-            let k = answers::put_ok(out, at);
-            states::put_judged(out, k, game.outcome())
+            answers::put_ok(out);
+            states::put_judged(out, game.outcome());
         }
-        Placed::Refused(e) => output::put_refusal(out, at, e),
+        Placed::Refused(e) => output::put_refusal(out, e),
     }
 }
