@@ -57,6 +57,7 @@ pub(crate) fn moves(p: Placed, limit: usize, out: &mut Space)
 }
 
 // The limit is the first word and is read before the position.
+#[tactic(auto, unfolding(crate::specs::Asked::atmost_request))]
 pub(crate) fn atmost(arg: &[u8], out: &mut Space)
     ensures { out.new ≡ over (atmost_request arg.now) out.old }
 {
@@ -167,6 +168,7 @@ fn read_weights(arg: &[u8]) -> Weights
 }
 
 // The weights come after the position and are read before it.
+#[tactic(auto, unfolding(crate::specs::Asked::evalw_request))]
 pub(crate) fn evalw(arg: &[u8], out: &mut Space)
     ensures { out.new ≡ over (evalw_request arg.now) out.old }
 {
@@ -220,6 +222,7 @@ pub(crate) fn quiet(p: Placed, out: &mut Space)
 }
 
 // A square's bit or row.
+#[tactic(auto, using(texts::proofs::Overs::over_none))]
 fn put_numbered(out: &mut Space, n: Numbered)
     ensures { out.new ≡ over (numbered_word n) out.old }
 {
@@ -230,6 +233,7 @@ fn put_numbered(out: &mut Space, n: Numbered)
 }
 
 // The number, the bit and the row of a square.
+#[tactic(auto, using(texts::proofs::Overs::over_append), unfolding(texts::specs::Lent::over))]
 pub(crate) fn square(n: Numbered, out: &mut Space)
     ensures { out.new ≡ over (square_request n) out.old }
 {
@@ -257,6 +261,7 @@ fn side(word: &[u8]) -> Sided
 }
 
 // The position of three sets and a side.
+#[tactic(auto, unfolding(crate::specs::Asked::sets_answer))]
 fn sets(arg: &[u8], out: &mut Space)
     ensures { out.new ≡ over (sets_answer arg.now) out.old }
 {
@@ -277,6 +282,7 @@ fn sets(arg: &[u8], out: &mut Space)
     }
 }
 
+#[tactic(auto, unfolding(crate::specs::Asked::parts_request))]
 pub(crate) fn parts(arg: &[u8], out: &mut Space)
     ensures { out.new ≡ over (parts_request arg.now) out.old }
 {

@@ -107,6 +107,7 @@ fn play_word(given: Given, g: Game, word: &[u8]) -> PlayedText
 }
 
 // What is written of a text: the move and the game after it, or `!` and the refusal's number.
+#[tactic(auto, using(texts::proofs::Overs::over_append), unfolding(texts::specs::Lent::over, crate::specs::Plays::text_told))]
 fn tell_text(out: &mut Space, r: PlayedText)
     ensures { out.new ≡ over (text_told r) out.old }
 {
@@ -124,6 +125,7 @@ fn tell_text(out: &mut Space, r: PlayedText)
 }
 
 // What is written of a record: the answer's number.
+#[tactic(auto, using(texts::proofs::Overs::over_append), unfolding(texts::specs::Lent::over, crate::specs::Plays::record_told))]
 fn tell_record(out: &mut Space, r: PlayedText)
     ensures { out.new ≡ over (record_told r) out.old }
 {
@@ -159,6 +161,7 @@ fn play_words(given: Given, start: Game, s: &[u8], out: &mut Space)
 }
 
 // Begins a game and plays the words.
+#[tactic(auto, using(texts::proofs::Overs::over_append), unfolding(texts::specs::Lent::over, crate::specs::Plays::game_answer))]
 fn play_game(given: Given, p: Position, s: &[u8], out: &mut Space)
     ensures { out.new ≡ over (game_answer given p s.now) out.old }
 {
@@ -194,6 +197,7 @@ pub(crate) fn record(p: Placed, records: &[u8], out: &mut Space)
 }
 
 // The outcome of a new game.
+#[tactic(auto, using(texts::proofs::Overs::over_append), unfolding(texts::specs::Lent::over))]
 pub(crate) fn outcome(p: Placed, out: &mut Space)
     ensures { out.new ≡ over (outcome_request p) out.old }
 {

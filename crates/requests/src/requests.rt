@@ -165,6 +165,7 @@ fn answer_request(request: Request, arg: &[u8], out: &mut Space)
     }
 }
 
+#[tactic(auto, unfolding(crate::specs::Requests::answer_of))]
 fn put_answer(line: &[u8], out: &mut Space)
     ensures { out.new ≡ over (answer_of line.now) out.old }
 {
@@ -188,12 +189,19 @@ pub fn answer(line: &[u8], out: &mut [u8]) -> usize
     space.at
 }
 
+#[tactic(auto, unfolding(crate::specs::Requests::help_text))]
+fn put_help(out: &mut Space)
+    ensures { out.new ≡ over help_text out.old }
+{
+    let table = TABLE;
+    out.put(&table);
+}
+
 // The requests with their arguments, one a line, at the start of the lent bytes; what has no room is left out.
 pub fn help(out: &mut [u8]) -> usize
     ensures { Adds help_text out.old 0 out.new result }
 {
-    let table = TABLE;
     let mut space = Space::new(out);
-    space.put(&table);
+    put_help(&mut space);
     space.at
 }

@@ -79,3 +79,14 @@ over_name (b ∷ t) s = over_name t (byte_over b s) ∙ byte_name b s
 
 pub same_name : (t : List ℕ) (a b : Space) → b ≡ over t a → b.bytes.ghost_name ≡ a.bytes.ghost_name
 same_name t a b e = ap (λ (x : Space). x.bytes.ghost_name) e ∙ over_name t a
+
+-- ---- a text at the start of lent bytes
+pub over_lent : (t old : List ℕ) (s new : Space) → s.bytes.now ≡ old → s.at ≡ 0 → new ≡ over t s → Adds t old 0 new.bytes.now new.at
+over_lent t old s new b z e =
+    subst (λ (x : Space). Adds t old 0 x.bytes.now x.at) (sym e)
+    (subst (λ (x : List ℕ). Adds t x 0 (over t s).bytes.now (over t s).at) b
+    (subst (λ (n : ℕ). Adds t s.bytes.now n (over t s).bytes.now (over t s).at) z (over_adds t s)))
+
+-- ---- w is the space after t and u: after t, it is that after u
+pub over_moved : (t u : List ℕ) (w a b : Space) → over (t ++ u) a ≡ w → b ≡ over t a → over u b ≡ w
+over_moved t u w a b g e = ap (over u) e ∙ sym (over_append t u a) ∙ g

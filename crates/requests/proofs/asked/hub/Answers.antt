@@ -1,8 +1,0 @@
--- The Hub text, or the refusal.
-use Rattle.requests.proofs.asked.hub.Goals as goal
-
-pub returns-in-Position : goal.returns-in-Position
-returns-in-Position c = rw c.in-Position.is c.tell_hub.ensures
-
-pub returns-in-Refused : goal.returns-in-Refused
-returns-in-Refused c = rw c.in-Refused.is c.put_refusal.ensures

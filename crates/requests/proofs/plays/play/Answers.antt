@@ -1,8 +1,0 @@
--- The game, or the refusal.
-use Rattle.requests.proofs.plays.play.Goals as goal
-
-pub returns-in-Position : goal.returns-in-Position
-returns-in-Position c = rw c.in-Position.is c.play_game.ensures
-
-pub returns-in-Refused : goal.returns-in-Refused
-returns-in-Refused c = rw c.in-Refused.is c.put_refusal.ensures
