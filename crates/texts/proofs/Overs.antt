@@ -1,5 +1,5 @@
 -- Writing into a space, text after text; what it makes of the bytes and of the place.
-use Prim.Native.Nat.{ℕ, ◌+◌, ◌≤◌, ◌<◌, min}
+use Prim.Native.Nat.{ℕ, ◌+◌, ◌≤◌, ◌<◌}
 use mathlib.Core.Path.{◌≡◌, refl, ap, sym, ◌∙◌, subst}
 use mathlib.Core.List.{List, [], ◌∷◌, ◌++◌}
 use mathlib.Core.Bool.{Bool, true, false, cond}
@@ -10,8 +10,8 @@ use lib.ListN.{length, take, get_or, set}
 use lib.Seq.{take-suc, take_all}
 use borrow.Author.Tests.{ltb-true, ltb-false}
 use Rattle.texts.specs.declared.space.Space.{Space}
-use Rattle.texts.specs.Lent.{over, byte_over, text_of, written, Adds}
-use Rattle.texts.proofs.Pieces.{adds_none, adds_then, byte_fits, byte_out, whole, starts}
+use Rattle.texts.specs.Lent.{over, byte_over, text_of, Adds}
+use Rattle.texts.proofs.Pieces.{adds_none, adds_then, byte_fits, byte_out, starts}
 
 -- ---- text after text
 pub over_append : (t u : List ℕ) (s : Space) → over (t ++ u) s ≡ over u (over t s)
@@ -50,13 +50,6 @@ pub over_adds : (t : List ℕ) (s : Space) → Adds t s.bytes.now s.at (over t s
 unfolding over
 over_adds [] s = adds_none s.bytes.now s.at
 over_adds (b ∷ t) s = adds_then (byte_adds b s) (over_adds t (byte_over b s))
-
--- from the start of the bytes on
-pub over_place : (t : List ℕ) (s : Space) → s.at ≡ 0 → (over t s).at ≡ min (length t) (length s.bytes.now)
-over_place t s e = (whole (subst (λ (n : ℕ). Adds t s.bytes.now n (over t s).bytes.now (over t s).at) e (over_adds t s))).0
-
-pub over_bytes : (t : List ℕ) (s : Space) → s.at ≡ 0 → (over t s).bytes.now ≡ written t s.bytes.now
-over_bytes t s e = (whole (subst (λ (n : ℕ). Adds t s.bytes.now n (over t s).bytes.now (over t s).at) e (over_adds t s))).1
 
 -- the whole text, where there is room for it
 pub over_text : (t : List ℕ) (s : Space) → s.at ≡ 0 → length t ≤ length s.bytes.now → text_of (over t s) ≡ t

@@ -9,8 +9,9 @@ use lib.Seq.{drop-drop}
 use lib.Dec.{eqb, leb}
 use borrow.Author.Tests.{le-leb, lt-leb, eq-eqb, ne_eqb}
 use Rattle.texts.proofs.Cuts.{drop_next, rest}
-use Rattle.texts.proofs.Overs.{over_none, over_then, over_place, over_bytes}
-use Rattle.texts.specs.Lent.{over, written}
+use Rattle.texts.proofs.Overs.{over_none, over_then, over_lent}
+use Rattle.texts.proofs.Pieces.{whole}
+use Rattle.texts.specs.Lent.{over}
 use Rattle.texts.specs.declared.space.Space.{Space}
 use Rattle.wording.specs.Numbers.{digit_of}
 use Rattle.wording.specs.Escapes.{Plain, text, broken, high_of, hex_escape, escape_of, UsedIn, before, on_escape, undo, plain, is_plain, text_of, undone, Undid}
@@ -198,8 +199,4 @@ undoing_end {s} {o} u e =
 
 -- from the start of lent bytes on
 pub undid : (s old : List ℕ) (o out : Space) → o.bytes.now ≡ old → o.at ≡ 0 → out ≡ over (undone s) o → Undid s old out.bytes.now out.at
-undid s old o out b z e =
-    record {
-      answer = ap (λ (x : Space). x.at) e ∙ over_place (undone s) o z ∙ ap (λ (x : List ℕ). min (length (undone s)) (length x)) b;
-      bytes = ap (λ (x : Space). x.bytes.now) e ∙ over_bytes (undone s) o z ∙ ap (written (undone s)) b;
-    }
+undid s old o out b z e = let h = whole (over_lent (undone s) old o out b z e) in record { answer = h.0; bytes = h.1 }
