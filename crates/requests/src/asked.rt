@@ -176,11 +176,7 @@ pub(crate) fn evalw(arg: &[u8], out: &mut Space)
         return output::put_bad(out, Flaw::Words);
     }
     match read_weights(arg) {
-        Weights::Classical(w) => eval(
-            reading::position(Form::Either, words::first(arg)),
-            w,
-            out,
-        ),
+        Weights::Classical(w) => eval(reading::position(Form::Either, words::first(arg)), w, out),
         Weights::Bad => output::put_bad(out, Flaw::Number),
     }
 }

@@ -58,6 +58,10 @@ impl<'a> Space<'a> {
     pub fn text(&self) -> &[u8]
         ensures { result.now ≡ text_of self.now }
     {
-        if self.at <= self.bytes.len() { &self.bytes[..self.at] } else { &self.bytes[..] }
+        if self.at <= self.bytes.len() {
+            &self.bytes[..self.at]
+        } else {
+            &self.bytes[..]
+        }
     }
 }

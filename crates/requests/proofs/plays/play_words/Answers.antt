@@ -26,8 +26,8 @@ loop-i-preserved c =
     let s = c.args.s.now in (
       omega arith,
       overs.over_moved _ _ _ _ _
-      (ap (λ (t : List ℕ). over t c.loop-i.out) (laws.game_next s c.loop-i.i _ _ _ (cuts.rest s c.loop-i.i) c.first-word.ensures c.rest.ensures (omega arith) c.args.given c.loop-i.g _ c.play_word-r.ensures) ∙ c.loop-i.invariant.1)
-      c.tell_word.ensures,
+          (ap (λ (t : List ℕ). over t c.loop-i.out) (laws.game_next s c.loop-i.i _ _ _ (cuts.rest s c.loop-i.i) c.first-word.ensures c.rest.ensures (omega arith) c.args.given c.loop-i.g _ c.play_word-r.ensures) ∙ c.loop-i.invariant.1)
+          c.tell_word.ensures,
     )
 
 pub returns : goal.returns
