@@ -1,4 +1,6 @@
 // What is written of a position, a move, a list of moves or a count: `ok` and the answer, or the refusal.
+#![tactic(auto, using(texts::proofs::Overs::over_append, texts::proofs::Overs::over_none), unfolding(texts::specs::Lent::over, crate::specs::Answers::fen_answer, crate::specs::Answers::hub_answer, crate::specs::Answers::hash_answer, crate::specs::Answers::set_word, crate::specs::Answers::bits_answer, crate::specs::Answers::list_answer, crate::specs::Answers::divided_answer, crate::specs::Answers::record_word, crate::specs::Answers::move_answer))]
+
 ghost use Rattle.std.specs.Prelude.{◌≡◌, min};
 ghost use Rattle.texts.specs.Lent.{over};
 ghost use Rattle.texts.specs.Bytes.{bytes};
@@ -42,7 +44,6 @@ pub fn put_ok(out: &mut Space)
     out.put(b"ok ");
 }
 
-#[tactic(auto, using(texts::proofs::Overs::over_append), unfolding(texts::specs::Lent::over, crate::specs::Answers::fen_answer))]
 pub fn tell_fen(out: &mut Space, p: Position)
     ensures { out.new ≡ over (fen_answer p) out.old }
 {
@@ -50,7 +51,6 @@ pub fn tell_fen(out: &mut Space, p: Position)
     put_fen(out, p);
 }
 
-#[tactic(auto, using(texts::proofs::Overs::over_append), unfolding(texts::specs::Lent::over, crate::specs::Answers::hub_answer))]
 pub fn tell_hub(out: &mut Space, p: Position)
     ensures { out.new ≡ over (hub_answer p) out.old }
 {
@@ -58,7 +58,6 @@ pub fn tell_hub(out: &mut Space, p: Position)
     put_hub(out, p);
 }
 
-#[tactic(auto, using(texts::proofs::Overs::over_append), unfolding(texts::specs::Lent::over, crate::specs::Answers::hash_answer))]
 pub fn tell_hash(out: &mut Space, p: Position)
     ensures { out.new ≡ over (hash_answer p) out.old }
 {
@@ -67,7 +66,6 @@ pub fn tell_hash(out: &mut Space, p: Position)
 }
 
 // A set in hexadecimal and a space.
-#[tactic(auto, using(texts::proofs::Overs::over_append), unfolding(texts::specs::Lent::over, crate::specs::Answers::set_word))]
 fn put_set(out: &mut Space, set: u64)
     ensures { out.new ≡ over (set_word set) out.old }
 {
@@ -75,7 +73,6 @@ fn put_set(out: &mut Space, set: u64)
     out.put_byte(b' ');
 }
 
-#[tactic(auto, using(texts::proofs::Overs::over_append), unfolding(texts::specs::Lent::over, crate::specs::Answers::bits_answer))]
 pub fn tell_bits(out: &mut Space, p: Position)
     ensures { out.new ≡ over (bits_answer p) out.old }
 {
@@ -99,7 +96,6 @@ pub fn tell_placed(out: &mut Space, p: Placed)
     }
 }
 
-#[tactic(auto, using(texts::proofs::Overs::over_append), unfolding(texts::specs::Lent::over))]
 pub fn tell_scored(out: &mut Space, s: Scored)
     ensures { out.new ≡ over (scored_answer s) out.old }
 {
@@ -118,7 +114,6 @@ fn yes_no(yes: bool) -> u8
     if yes { b'1' } else { b'0' }
 }
 
-#[tactic(auto, using(texts::proofs::Overs::over_append), unfolding(texts::specs::Lent::over))]
 pub fn tell_tested(out: &mut Space, t: Tested)
     ensures { out.new ≡ over (tested_answer t) out.old }
 {
@@ -131,7 +126,6 @@ pub fn tell_tested(out: &mut Space, t: Tested)
     }
 }
 
-#[tactic(auto, using(texts::proofs::Overs::over_append), unfolding(texts::specs::Lent::over))]
 pub fn tell_counted(out: &mut Space, c: Counted)
     ensures { out.new ≡ over (counted_answer c) out.old }
 {
@@ -167,7 +161,6 @@ fn put_moves(out: &mut Space, list: MoveList)
 }
 
 // How many moves there are, and each of them.
-#[tactic(auto, using(texts::proofs::Overs::over_append), unfolding(texts::specs::Lent::over, crate::specs::Answers::list_answer))]
 pub fn tell_list(out: &mut Space, l: Listed)
     ensures { out.new ≡ over (list_answer l) out.old }
 {
@@ -196,7 +189,6 @@ fn put_counts(out: &mut Space, list: MoveList, counts: [u64; 256])
     }
 }
 
-#[tactic(auto, using(texts::proofs::Overs::over_append), unfolding(texts::specs::Lent::over, crate::specs::Answers::divided_answer))]
 pub fn tell_divided(out: &mut Space, d: Divided)
     ensures { out.new ≡ over (divided_answer d) out.old }
 {
@@ -214,7 +206,6 @@ pub fn tell_divided(out: &mut Space, d: Divided)
 }
 
 // A move's first square, last square and set.
-#[tactic(auto, using(texts::proofs::Overs::over_append), unfolding(texts::specs::Lent::over, crate::specs::Answers::record_word))]
 fn put_record(out: &mut Space, m: Move)
     ensures { out.new ≡ over (record_word m) out.old }
 {
@@ -226,7 +217,6 @@ fn put_record(out: &mut Space, m: Move)
 }
 
 // The move's Hub text, first square, last square and set.
-#[tactic(auto, using(texts::proofs::Overs::over_append), unfolding(texts::specs::Lent::over, crate::specs::Answers::move_answer))]
 pub fn tell_move(out: &mut Space, m: Move)
     ensures { out.new ≡ over (move_answer m) out.old }
 {
@@ -237,7 +227,6 @@ pub fn tell_move(out: &mut Space, m: Move)
 }
 
 // The FEN of the position after a move, and its hash.
-#[tactic(auto, using(texts::proofs::Overs::over_append), unfolding(texts::specs::Lent::over))]
 pub fn tell_after(out: &mut Space, p: Placed)
     ensures { out.new ≡ over (after_answer p) out.old }
 {

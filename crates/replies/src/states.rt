@@ -1,5 +1,7 @@
 // What is written of a game: the outcome, both counts, how often the position has occurred; at the end also the position
 // and the number of its legal moves.
+#![tactic(auto, using(texts::proofs::Overs::over_append, texts::proofs::Overs::over_none), unfolding(texts::specs::Lent::over, crate::specs::States::plies_text, crate::specs::States::state_text, crate::specs::States::moves_word, crate::specs::States::end_text))]
+
 ghost use Rattle.std.specs.Prelude.{◌≡◌};
 ghost use Rattle.texts.specs.Lent.{over};
 ghost use Rattle.replies.specs.States.{winner_word, outcome_word, judged_word, count_word, plies_text, state_text, stand_word, moves_word, end_text};
@@ -15,7 +17,6 @@ use squares::refusal::Answer;
 use texts::space::Space;
 use wording::output;
 
-#[tactic(auto, using(texts::proofs::Overs::over_none))]
 fn put_winner(out: &mut Space, w: Winner)
     ensures { out.new ≡ over (winner_word w) out.old }
 {
@@ -42,7 +43,6 @@ fn put_outcome(out: &mut Space, o: Outcome)
     }
 }
 
-#[tactic(auto, using(texts::proofs::Overs::over_none))]
 pub fn put_judged(out: &mut Space, j: Judged)
     ensures { out.new ≡ over (judged_word j) out.old }
 {
@@ -53,7 +53,6 @@ pub fn put_judged(out: &mut Space, j: Judged)
     }
 }
 
-#[tactic(auto, using(texts::proofs::Overs::over_none))]
 fn put_count(out: &mut Space, c: Counted)
     ensures { out.new ≡ over (count_word c) out.old }
 {
@@ -64,7 +63,6 @@ fn put_count(out: &mut Space, c: Counted)
 }
 
 // Both counts, a mark before each.
-#[tactic(auto, using(texts::proofs::Overs::over_append), unfolding(texts::specs::Lent::over, crate::specs::States::plies_text))]
 fn put_plies(out: &mut Space, g: Game, mark: u8)
     ensures { out.new ≡ over (plies_text mark g) out.old }
 {
@@ -75,7 +73,6 @@ fn put_plies(out: &mut Space, g: Game, mark: u8)
 }
 
 // The outcome, both counts and how often the position has stood, a mark before each.
-#[tactic(auto, using(texts::proofs::Overs::over_append), unfolding(texts::specs::Lent::over, crate::specs::States::state_text))]
 pub fn put_state(out: &mut Space, g: Game, mark: u8)
     ensures { out.new ≡ over (state_text mark g) out.old }
 {
@@ -86,7 +83,6 @@ pub fn put_state(out: &mut Space, g: Game, mark: u8)
     put_count(out, g.repetitions());
 }
 
-#[tactic(auto, using(texts::proofs::Overs::over_none))]
 fn put_stand(out: &mut Space, p: Placed)
     ensures { out.new ≡ over (stand_word p) out.old }
 {
@@ -97,7 +93,6 @@ fn put_stand(out: &mut Space, p: Placed)
 }
 
 // How many moves there are, or the refusal: more than 256 are not counted.
-#[tactic(auto, unfolding(crate::specs::States::moves_word))]
 fn put_listed(out: &mut Space, l: Listed)
     ensures { out.new ≡ over (moves_word l) out.old }
 {
@@ -110,7 +105,6 @@ fn put_listed(out: &mut Space, l: Listed)
 }
 
 // What is written of the game after the last play.
-#[tactic(auto, using(texts::proofs::Overs::over_append), unfolding(texts::specs::Lent::over, crate::specs::States::end_text))]
 pub fn put_end(out: &mut Space, g: Game)
     ensures { out.new ≡ over (end_text g) out.old }
 {
