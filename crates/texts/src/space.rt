@@ -14,6 +14,7 @@ pub struct Space<'a> {
 
 impl<'a> Space<'a> {
     // Nothing is written yet.
+    #[inline(always)]
     pub fn new(bytes: &'a mut [u8]) -> Space<'a>
         ensures bytes { result.bytes ≡ bytes.entry }
         ensures at { result.at ≡ 0 }
@@ -23,6 +24,7 @@ impl<'a> Space<'a> {
 
     // Writes one byte.
     #[tactic(auto, unfolding(crate::specs::Lent::over, crate::specs::Lent::byte_over))]
+    #[inline(always)]
     pub fn put_byte(&mut self, b: u8)
         ensures { self.new ≡ over (b ∷ []) self.old }
     {
@@ -44,6 +46,7 @@ impl<'a> Space<'a> {
 
     // Writes a number below 100 in decimal.
     #[tactic(auto, unfolding(crate::specs::Bytes::digits, crate::specs::Lent::over))]
+    #[inline(always)]
     pub fn put_digits(&mut self, n: u8)
         ensures { self.new ≡ over (digits n) self.old }
     {
@@ -55,6 +58,7 @@ impl<'a> Space<'a> {
 
     // The bytes before the place.
     #[tactic(auto, unfolding(crate::specs::Lent::text_of))]
+    #[inline(always)]
     pub fn text(&self) -> &[u8]
         ensures { result.now ≡ text_of self.now }
     {
