@@ -8,12 +8,9 @@ use lib.Dec.{eqb}
 use lib.ListN.{length, take, drop, length-drop, drop_of_length-le}
 use Rattle.squares.specs.declared.refusal.Refusal.TheVariants.{TextTooLong, BadGame}
 use Rattle.positions.specs.Moves.{move}
-use Rattle.positions.specs.declared.position.Position.{Position}
-use Rattle.texts.specs.Bytes.{bytes, parts_at, up_to, after_or, after_first, cons_head, readable, longest_text}
+use Rattle.texts.specs.Bytes.{parts_at, up_to, after_or, after_first, cons_head, readable, longest_text}
 use Rattle.notation.specs.Notation.{read_move_of}
 use Rattle.games.specs.Games.{valid}
-use Rattle.games.specs.Play.{new_of}
-use Rattle.games.specs.declared.game.Begun.{Begun}
 use Rattle.games.specs.declared.game.Game.{Game}
 use Rattle.gametexts.specs.Texts.{refused_text, play_str_of}
 use Rattle.gametexts.specs.declared.game.PlayedText.{PlayedText}
@@ -21,7 +18,7 @@ use Rattle.wording.specs.Escapes.{undone, Undid}
 use Rattle.wording.specs.Numbers.{unsigned_of, set_of}
 use Rattle.wording.specs.Words.{first_word, after_word}
 use Rattle.wording.specs.declared.numbers.Parsed.TheVariants as parsed
-use Rattle.requests.specs.Plays.{words_of, record_of, is_record_of, all_records, play_text_of, play_word_of, word_told, game_text, game_answer}
+use Rattle.requests.specs.Plays.{words_of, record_of, is_record_of, all_records, play_text_of, play_word_of, word_told, game_text}
 use Rattle.replies.specs.States.{end_text}
 use Rattle.requests.specs.declared.plays.Given.{Given}
 use Rattle.requests.specs.declared.plays.Recorded.TheVariants as recorded
@@ -98,11 +95,6 @@ records_end s i h = rw (words_none s i h)
 pub game_end : (s : List ℕ) (i : ℕ) (h : Given) (g : Game) → length s ≤ i → end_text g ≡ game_text h g (words_of (drop i s))
 unfolding game_text
 game_end s i h g k = rw (words_none s i k)
-
--- ---- the whole game
-pub game_whole : (h : Given) (p : Position) (s : List ℕ) (b : Begun) → b ≡ new_of p → bytes "ok" ++ game_text h b.game (words_of s) ≡ game_answer h p s
-unfolding game_answer
-game_whole h p s b e = rw e
 
 -- ---- records
 module _ (s : List ℕ) where

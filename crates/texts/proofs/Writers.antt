@@ -4,14 +4,11 @@ use mathlib.Core.Path.{◌≡◌, refl, ap, sym, ◌∙◌}
 use mathlib.Core.List.{List, [], ◌∷◌, ◌++◌, map, append-nil}
 use mathlib.Core.Bool.{Bool, true, false, cond}
 use native.Mathlib.Omega.{arith}
-use native.Mathlib.Numerals.{add-one}
-use lib.ListN.{length, take, drop, get_or, set, length-append}
-use lib.Seq.{drop-cons, take-suc, set_at, length-take-le, append_snoc, take-length}
+use lib.ListN.{length, length-append}
 use lib.Bits.{bit_and}
 use lib.Dec.{ltb}
-use borrow.Author.Tests.{lt-ltb, le-ltb}
 use Rattle.squares.specs.Sets.{members, lowest}
-use Rattle.squares.specs.Squares.{square_at_bit, contains_of, on_board}
+use Rattle.squares.specs.Squares.{square_at_bit, on_board}
 use Rattle.squares.specs.Pieces.{color_char}
 use Rattle.squares.proofs.Members.{members_cons, members_none}
 use Rattle.squares.proofs.Numbers.{on_lt}
@@ -91,12 +88,17 @@ pub list_done : (kings : ℕ) (first : Bool) (s : ℕ) (w a : Space) → s ≡ 0
 list_done kings first s w a e g = sym (over_none a) ∙ ap (λ (t : List ℕ). over t a) (sym (remaining_end kings first s e)) ∙ g
 
 -- ---- the whole text
-pub fen_over : (b : Board) (s : Space) → over (fen_text b) s ≡ over (field_text 66 b.kings b.black) (over (field_text 87 b.kings b.white) (over (color_char b.side ∷ []) s))
+pub fen_parts_lem : (b : Board) (x : ℕ) → x ≡ color_char b.side → (x ∷ []) ++ (field_text 87 b.kings b.white ++ field_text 66 b.kings b.black) ≡ fen_text b
 unfolding fen_text joined field_text
+fen_parts_lem b x e = rw e
+
+pub fen_over : (b : Board) (s : Space) → over (fen_text b) s ≡ over (field_text 66 b.kings b.black) (over (field_text 87 b.kings b.white) (over (color_char b.side ∷ []) s))
 fen_over b s =
-    let w = field_text 87 b.kings b.white in
-    over_append (color_char b.side ∷ w) (field_text 66 b.kings b.black) s
-    ∙ ap (over (field_text 66 b.kings b.black)) (over_append (color_char b.side ∷ []) w s)
+    let white = field_text 87 b.kings b.white in
+    let black = field_text 66 b.kings b.black in
+    ap (λ (t : List ℕ). over t s) (sym (fen_parts_lem b (color_char b.side) refl))
+    ∙ over_append (color_char b.side ∷ []) (white ++ black) s
+    ∙ over_append white black (over (color_char b.side ∷ []) s)
 
 -- ---- Hub, square by square
 
@@ -125,7 +127,11 @@ left_none b n e = rw e
 pub hub_done : (b : Board) (n : ℕ) (w a : Space) → n ≡ 51 → over (squares_left b n) a ≡ w → a ≡ w
 hub_done b n w a e g = sym (over_none a) ∙ ap (λ (t : List ℕ). over t a) (left_none b n e) ∙ g
 
-pub hub_over : (b : Board) (x : ℕ) (a s : Space) → x ≡ color_char b.side → a ≡ over (x ∷ []) s → over (squares_left b 1) a ≡ over (hub_text b) s
+pub hub_parts_lem : (b : Board) (x : ℕ) → x ≡ color_char b.side → (x ∷ []) ++ squares_left b 1 ≡ hub_text b
 unfolding hub_text
+hub_parts_lem b x q = ap (λ (y : ℕ). y ∷ squares_left b 1) q
+
+pub hub_over : (b : Board) (x : ℕ) (a s : Space) → x ≡ color_char b.side → a ≡ over (x ∷ []) s → over (squares_left b 1) a ≡ over (hub_text b) s
 hub_over b x a s q e =
-    ap (over (squares_left b 1)) e ∙ sym (over_append (x ∷ []) (squares_left b 1) s) ∙ ap (λ (y : ℕ). over (y ∷ squares_left b 1) s) q
+    ap (over (squares_left b 1)) e ∙ sym (over_append (x ∷ []) (squares_left b 1) s)
+    ∙ ap (λ (t : List ℕ). over t s) (hub_parts_lem b x q)

@@ -7,7 +7,6 @@ use Rattle.texts.specs.Lent.{over}
 use Rattle.squares.specs.Sets.{lowest}
 use Rattle.squares.proofs.Loops.{cleared}
 use native.Mathlib.Omega.{arith}
-use borrow.Author.Rules.{rules}
 use Rattle.texts.proofs.fen.put_list.Goals as goal
 
 pub loop-left-init : goal.loop-left-init

@@ -1,5 +1,5 @@
 -- What the bytes before the place stand for was written; nothing where an escape is invalid.
-use mathlib.Core.Path.{refl, ap, sym, ◌∙◌}
+use mathlib.Core.Path.{ap, sym, ◌∙◌}
 use Prim.Native.Nat.{◌+◌}
 use Rattle.wording.proofs.Escaped as laws
 use Rattle.wording.specs.Escapes.{escape_of}
