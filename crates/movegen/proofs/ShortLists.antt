@@ -1,5 +1,6 @@
 -- A short list that had room for all captures gives the list of the search, and its number. The search's list is its moves and
 -- then blanks, whatever the sets.
+use Rattle.std.specs.Prelude.{Err, Ok}
 use mathlib.Core.Path.{◌≡◌, refl, sym, ap, ap₂, ◌∙◌, subst}
 use mathlib.Core.Bool.{Bool, true, false, cond}
 use mathlib.Core.List.{List, [], ◌∷◌, foldl}
@@ -23,7 +24,6 @@ use Rattle.capture_laws.proofs.Stored.{none_listed}
 use Rattle.quiets.specs.Quiets.{listing}
 use Rattle.movegen.specs.Generate.{long_captures_of, capture_moves_of}
 use Rattle.movegen.specs.LastPly.{listed_count}
-use Rattle.movegen.specs.declared.perft.Counted.TheVariants.{Count, Refused}
 
 -- what a search has found, as a list and a mark
 record Held (s : Captures) : Type 0 where
@@ -71,8 +71,8 @@ module _ (men kings them empty : ℕ) (t : Short) (q : t ≡ few_captures_of men
       let s = alike.same o in
       ap₂ listing (ap list_of (sym s.moves) ∙ sym (list_is _ (all men kings them empty))) (sym s.overflow)
 
-  pub as_many : t.overflow ≡ false → Count t.len ≡ listed_count (capture_moves_of men kings them empty)
+  pub as_many : t.overflow ≡ false → Ok t.len ≡ listed_count (capture_moves_of men kings them empty)
   unfolding listed_count capture_moves_of
   as_many o =
       let s = alike.same o in
-      sym (ap₂ (λ (x : Bool) (n : ℕ). cond x (Refused TooManyMoves) (Count n)) s.overflow s.len)
+      sym (ap₂ (λ (x : Bool) (n : ℕ). cond x (Err TooManyMoves) (Ok n)) s.overflow s.len)

@@ -7,13 +7,10 @@ ghost use Rattle.texts.specs.Bytes.{bytes};
 ghost use Rattle.replies.specs.Answers.{yes_no, set_word, fen_word, hub_word, bits_answer, scored_answer, tested_answer, counted_answer, fen_answer, hub_answer, hash_answer, placed_answer, move_word, moves_text, counts_text, list_answer, divided_answer, record_word, move_answer, after_answer};
 
 use captures::moves::{MAX_MOVES, MoveList};
-use movegen::movegen::{Listed, Tested};
-use movegen::perft::{Counted, Divided};
+use movegen::movegen::Listed;
+use movegen::perft::Divided;
 use positions::moves::Move;
-use positions::position::{Placed, Position};
-use scores::eval::Scored;
-use squares::refusal::Answer;
-use texts::bytes::Wrote;
+use positions::position::Position;
 use texts::space::Space;
 use texts::{fen, hub};
 use wording::output;
@@ -23,8 +20,8 @@ pub fn put_fen(out: &mut Space, p: Position)
 {
     let mut space = [0u8; 200];
     match fen::fen(p, &mut space) {
-        Wrote::Length(n) => out.put(&space[..n]),
-        Wrote::Refused(_) => {}
+        Ok(n) => out.put(&space[..n]),
+        Err(_) => {}
     }
 }
 
@@ -33,8 +30,8 @@ fn put_hub(out: &mut Space, p: Position)
 {
     let mut space = [0u8; 51];
     match hub::hub(p, &mut space) {
-        Wrote::Length(n) => out.put(&space[..n]),
-        Wrote::Refused(_) => {}
+        Ok(n) => out.put(&space[..n]),
+        Err(_) => {}
     }
 }
 
@@ -87,24 +84,24 @@ pub fn tell_bits(out: &mut Space, p: Position)
 }
 
 // A position as FEN, or the refusal.
-pub fn tell_placed(out: &mut Space, p: Placed)
+pub fn tell_placed(out: &mut Space, p: Result<Position, Refusal>)
     ensures { out.new ≡ over (placed_answer p) out.old }
 {
     match p {
-        Placed::Position(q) => tell_fen(out, q),
-        Placed::Refused(e) => output::put_refusal(out, e),
+        Ok(q) => tell_fen(out, q),
+        Err(e) => output::put_refusal(out, e),
     }
 }
 
-pub fn tell_scored(out: &mut Space, s: Scored)
+pub fn tell_scored(out: &mut Space, s: Result<i32, Refusal>)
     ensures { out.new ≡ over (scored_answer s) out.old }
 {
     match s {
-        Scored::Score(z) => {
+        Ok(z) => {
             put_ok(out);
             output::put_signed(out, z);
         }
-        Scored::Refused(e) => output::put_refusal(out, e),
+        Err(e) => output::put_refusal(out, e),
     }
 }
 
@@ -114,27 +111,27 @@ fn yes_no(yes: bool) -> u8
     if yes { b'1' } else { b'0' }
 }
 
-pub fn tell_tested(out: &mut Space, t: Tested)
+pub fn tell_tested(out: &mut Space, t: Result<bool, Refusal>)
     ensures { out.new ≡ over (tested_answer t) out.old }
 {
     match t {
-        Tested::Is(yes) => {
+        Ok(yes) => {
             put_ok(out);
             out.put_byte(yes_no(yes));
         }
-        Tested::Refused(e) => output::put_refusal(out, e),
+        Err(e) => output::put_refusal(out, e),
     }
 }
 
-pub fn tell_counted(out: &mut Space, c: Counted)
+pub fn tell_counted(out: &mut Space, c: Result<u64, Refusal>)
     ensures { out.new ≡ over (counted_answer c) out.old }
 {
     match c {
-        Counted::Count(n) => {
+        Ok(n) => {
             put_ok(out);
             output::put_decimal(out, n);
         }
-        Counted::Refused(e) => output::put_refusal(out, e),
+        Err(e) => output::put_refusal(out, e),
     }
 }
 
@@ -144,8 +141,8 @@ pub fn put_move(out: &mut Space, m: Move)
 {
     let mut space = [0u8; 200];
     match notation::moves::to_hub(m, &mut space) {
-        Wrote::Length(n) => out.put(&space[..n]),
-        Wrote::Refused(_) => {}
+        Ok(n) => out.put(&space[..n]),
+        Err(_) => {}
     }
 }
 
@@ -167,12 +164,12 @@ pub fn tell_list(out: &mut Space, l: Listed)
     let answer = l.answer;
     let list = l.list;
     match answer {
-        Answer::Done => {
+        Ok(()) => {
             put_ok(out);
             output::put_decimal(out, list.len as u64);
             put_moves(out, list);
         }
-        Answer::Refused(e) => output::put_refusal(out, e),
+        Err(e) => output::put_refusal(out, e),
     }
 }
 
@@ -196,12 +193,12 @@ pub fn tell_divided(out: &mut Space, d: Divided)
     let list = d.list;
     let counts = d.counts;
     match answer {
-        Answer::Done => {
+        Ok(()) => {
             put_ok(out);
             output::put_decimal(out, list.len as u64);
             put_counts(out, list, counts);
         }
-        Answer::Refused(e) => output::put_refusal(out, e),
+        Err(e) => output::put_refusal(out, e),
     }
 }
 
@@ -227,15 +224,15 @@ pub fn tell_move(out: &mut Space, m: Move)
 }
 
 // The FEN of the position after a move, and its hash.
-pub fn tell_after(out: &mut Space, p: Placed)
+pub fn tell_after(out: &mut Space, p: Result<Position, Refusal>)
     ensures { out.new ≡ over (after_answer p) out.old }
 {
     match p {
-        Placed::Position(q) => {
+        Ok(q) => {
             tell_fen(out, q);
             out.put_byte(b' ');
             output::put_hash(out, q.hash);
         }
-        Placed::Refused(e) => output::put_refusal(out, e),
+        Err(e) => output::put_refusal(out, e),
     }
 }

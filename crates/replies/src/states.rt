@@ -8,24 +8,21 @@ ghost use Rattle.replies.specs.States.{winner_word, outcome_word, judged_word, c
 
 use crate::answers;
 use captures::moves::MAX_MOVES;
-use games::game::{Game, Judged, Outcome, Termination, Winner};
+use games::game::{Game, Outcome, Termination};
 use movegen::movegen::Listed;
-use movegen::perft::Counted;
-use positions::position::Placed;
 use squares::piece::Color;
-use squares::refusal::Answer;
 use texts::space::Space;
 use wording::output;
 
-fn put_winner(out: &mut Space, w: Winner)
+fn put_winner(out: &mut Space, w: Option<Color>)
     ensures { out.new ≡ over (winner_word w) out.old }
 {
     match w {
-        Winner::Side(color) => match color {
+        Some(color) => match color {
             Color::White => out.put(b"white"),
             Color::Black => out.put(b"black"),
         },
-        Winner::Nobody => {}
+        None => {}
     }
 }
 
@@ -43,22 +40,22 @@ fn put_outcome(out: &mut Space, o: Outcome)
     }
 }
 
-pub fn put_judged(out: &mut Space, j: Judged)
+pub fn put_judged(out: &mut Space, j: Result<Option<Outcome>, Refusal>)
     ensures { out.new ≡ over (judged_word j) out.old }
 {
     match j {
-        Judged::Outcome(o) => put_outcome(out, o),
-        Judged::Going => out.put(b"none"),
-        Judged::Refused(_) => {}
+        Ok(Some(o)) => put_outcome(out, o),
+        Ok(None) => out.put(b"none"),
+        Err(_) => {}
     }
 }
 
-fn put_count(out: &mut Space, c: Counted)
+fn put_count(out: &mut Space, c: Result<u64, Refusal>)
     ensures { out.new ≡ over (count_word c) out.old }
 {
     match c {
-        Counted::Count(n) => output::put_decimal(out, n),
-        Counted::Refused(_) => {}
+        Ok(n) => output::put_decimal(out, n),
+        Err(_) => {}
     }
 }
 
@@ -83,12 +80,12 @@ pub fn put_state(out: &mut Space, g: Game, mark: u8)
     put_count(out, g.repetitions());
 }
 
-fn put_stand(out: &mut Space, p: Placed)
+fn put_stand(out: &mut Space, p: Result<Position, Refusal>)
     ensures { out.new ≡ over (stand_word p) out.old }
 {
     match p {
-        Placed::Position(q) => answers::put_fen(out, q),
-        Placed::Refused(_) => {}
+        Ok(q) => answers::put_fen(out, q),
+        Err(_) => {}
     }
 }
 
@@ -99,8 +96,8 @@ fn put_listed(out: &mut Space, l: Listed)
     let answer = l.answer;
     let list = l.list;
     match answer {
-        Answer::Done => output::put_decimal(out, list.len as u64),
-        Answer::Refused(e) => output::put_number(out, e),
+        Ok(()) => output::put_decimal(out, list.len as u64),
+        Err(e) => output::put_number(out, e),
     }
 }
 

@@ -11,12 +11,11 @@ ghost use Rattle.requests.specs.Plays.{record_of, is_record_of, all_records, wor
 use games::game::Game;
 use gametexts::game::PlayedText;
 use positions::moves::Move;
-use positions::position::{Placed, Position};
+use positions::position::Position;
 use replies::{answers, states};
-use squares::refusal::{Answer, Refusal};
+use squares::refusal::Refusal;
 use texts::bytes;
 use texts::space::Space;
-use wording::numbers::Parsed;
 use wording::output::Flaw;
 use wording::{escapes, numbers, output, words};
 
@@ -27,28 +26,21 @@ pub enum Given {
     Record,
 }
 
-// The move of a record, or `Bad` where a part of it is not a number.
-#[derive(Clone, Copy)]
-pub enum Recorded {
-    Move(Move),
-    Bad,
-}
-
 // The numbers may be any of 32 bits: which of them are squares is the game's to say.
-fn read_record(word: &[u8]) -> Recorded
+fn read_record(word: &[u8]) -> Option<Move>
     ensures { result ≡ record_of word.now }
 {
     let rest = bytes::after_first(word, b',');
-    let Parsed::Value(from) = numbers::unsigned(bytes::up_to(word, b',')) else {
-        return Recorded::Bad;
+    let Some(from) = numbers::unsigned(bytes::up_to(word, b',')) else {
+        return None;
     };
-    let Parsed::Value(to) = numbers::unsigned(bytes::up_to(rest, b',')) else {
-        return Recorded::Bad;
+    let Some(to) = numbers::unsigned(bytes::up_to(rest, b',')) else {
+        return None;
     };
-    let Parsed::Value(captured) = numbers::set(bytes::after_first(rest, b',')) else {
-        return Recorded::Bad;
+    let Some(captured) = numbers::set(bytes::after_first(rest, b',')) else {
+        return None;
     };
-    Recorded::Move(Move {
+    Some(Move {
         captured: captured,
         from: from as u32,
         to: to as u32,
@@ -59,8 +51,8 @@ fn is_record(word: &[u8]) -> bool
     ensures { result ≡ is_record_of word.now }
 {
     match read_record(word) {
-        Recorded::Move(_) => true,
-        Recorded::Bad => false,
+        Some(_) => true,
+        None => false,
     }
 }
 
@@ -92,8 +84,8 @@ fn play_record(g: Game, word: &[u8]) -> PlayedText
     ensures { result ≡ play_record_of g word.now }
 {
     match read_record(word) {
-        Recorded::Move(m) => gametexts::game::beside(m, g.play(m)),
-        Recorded::Bad => gametexts::game::refused_text(g, Refusal::BadMoveText),
+        Some(m) => gametexts::game::beside(m, g.play(m)),
+        None => gametexts::game::refused_text(g, Refusal::BadMoveText),
     }
 }
 
@@ -116,11 +108,11 @@ fn tell_text(out: &mut Space, r: PlayedText)
     let mv = r.mv;
     out.put_byte(b' ');
     match answer {
-        Answer::Done => {
+        Ok(()) => {
             answers::put_move(out, mv);
             states::put_state(out, after, b'/');
         }
-        Answer::Refused(e) => output::put_number(out, e),
+        Err(e) => output::put_number(out, e),
     }
 }
 
@@ -171,43 +163,43 @@ fn play_game(given: Given, p: Position, s: &[u8], out: &mut Space)
     play_words(given, game, s, out);
 }
 
-pub(crate) fn play(p: Placed, texts: &[u8], out: &mut Space)
+pub(crate) fn play(p: Result<Position, Refusal>, texts: &[u8], out: &mut Space)
     ensures { out.new ≡ over (play_request p texts.now) out.old }
 {
     match p {
-        Placed::Position(q) => play_game(Given::Text, q, texts, out),
-        Placed::Refused(e) => output::put_refusal(out, e),
+        Ok(q) => play_game(Given::Text, q, texts, out),
+        Err(e) => output::put_refusal(out, e),
     }
 }
 
 // Every record must be readable before one is played.
-pub(crate) fn record(p: Placed, records: &[u8], out: &mut Space)
+pub(crate) fn record(p: Result<Position, Refusal>, records: &[u8], out: &mut Space)
     ensures { out.new ≡ over (record_request p records.now) out.old }
 {
     match p {
-        Placed::Position(q) => {
+        Ok(q) => {
             if all_records(records) {
                 play_game(Given::Record, q, records, out);
             } else {
                 output::put_bad(out, Flaw::Number);
             }
         }
-        Placed::Refused(e) => output::put_refusal(out, e),
+        Err(e) => output::put_refusal(out, e),
     }
 }
 
 // The outcome of a new game.
 #[tactic(auto, using(texts::proofs::Overs::over_append), unfolding(texts::specs::Lent::over))]
-pub(crate) fn outcome(p: Placed, out: &mut Space)
+pub(crate) fn outcome(p: Result<Position, Refusal>, out: &mut Space)
     ensures { out.new ≡ over (outcome_request p) out.old }
 {
     match p {
-        Placed::Position(q) => {
+        Ok(q) => {
             let begun = Game::from_position(q);
             let game = begun.game;
             answers::put_ok(out);
             states::put_judged(out, game.outcome());
         }
-        Placed::Refused(e) => output::put_refusal(out, e),
+        Err(e) => output::put_refusal(out, e),
     }
 }
