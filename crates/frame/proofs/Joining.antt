@@ -9,19 +9,21 @@ use lib.ListN.{length, drop, length-append}
 use lib.Seq.{take_all}
 use borrow.Author.Tests.{ne_eqb}
 use Rattle.texts.specs.Bytes.{joined}
-use Rattle.texts.specs.Lent.{written, Holds, Adds}
+use Rattle.texts.specs.Lent.{over, written}
+use Rattle.texts.specs.declared.space.Space.{Space}
+use Rattle.texts.proofs.Overs.{over_none, over_then, over_as, over_lent, same_name}
 use Rattle.texts.proofs.Pieces.{start, holds_length}
 use Rattle.frame.specs.Arguments.{next_word, Joined}
 
--- the words before number i were joined over the old buffer, up to the place
-pub record Joining (old new : List ℕ) (at i : ℕ) : Type 0 where
+-- the words before number i were joined over the space o
+pub record Joining (o new : Space) (i : ℕ) : Type 0 where
   pub words : List (List ℕ)
   pub count : i ≡ length words + 1
-  pub held : Holds old (joined 32 words) new at
+  pub held : new ≡ over (joined 32 words) o
 
-pub none_yet : (o : List ℕ) → Joining o o 0 1
+pub none_yet : (o : Space) → Joining o o 1
 unfolding joined
-none_yet o = record { words = []; count = refl; held = start o }
+none_yet o = record { words = []; count = refl; held = sym (over_none o) }
 
 joined_more : (p : List ℕ) (ws : List (List ℕ)) (w : List ℕ) → joined 32 (p ∷ (ws ++ (w ∷ []))) ≡ joined 32 (p ∷ ws) ++ (32 ∷ w)
 unfolding joined
@@ -33,40 +35,45 @@ unfolding joined
 joined_next [] w = refl
 joined_next (p ∷ ws) w = joined_more p ws w ∙ ap (λ (q : Bool). joined 32 (p ∷ ws) ++ next_word q w) (sym (ne_eqb (length (p ∷ ws) + 1) 1 (λ e. omega (arith, e))))
 
-pub one_more : {old new last : List ℕ} {at end i : ℕ} (w : List ℕ) → Joining old new at i → Adds (next_word (eqb i 1) w) new at last end → Joining old last end (i + 1)
-one_more {old} {new} {last} {at} {end} {i} w j a =
+pub one_more : {o new : Space} {i : ℕ} (w : List ℕ) (last : Space) → Joining o new i → last ≡ over (next_word (eqb i 1) w) new → Joining o last (i + 1)
+one_more {o} {new} {i} w last j a =
     let ws = j.words in
     record {
       words = ws ++ (w ∷ []);
       count = omega (arith, j.count, length-append ws (w ∷ []));
       held =
-          subst (λ (t : List ℕ). Holds old t last end)
+          over_as _ _ o last
           (ap (λ (k : ℕ). joined 32 ws ++ next_word (eqb k 1) w) j.count ∙ sym (joined_next ws w))
-          (a.held old (joined 32 ws) j.held);
+          (over_then _ _ o new last j.held a);
     }
 
--- ---- the last word was joined
+-- ---- the last word was joined: o began at the start of the lent bytes
+pub kept_name : {o new : Space} {i : ℕ} → Joining o new i → new.bytes.ghost_name ≡ o.bytes.ghost_name
+kept_name {o} {new} j = same_name _ o new j.held
+
 no_words : (ws : List (List ℕ)) → length ws ≡ 0 → joined 32 ws ≡ []
 unfolding joined
 no_words [] e = refl
 no_words (w ∷ ws) e = absurd (omega arith)
 
-pub none_given : {old new : List ℕ} {at i : ℕ} → Joining old new at i → i ≡ 1 → new ≡ old
-none_given {old} j e =
-    j.held.bytes ∙ ap (λ (t : List ℕ). written t old) (no_words j.words (omega (arith, j.count))) ∙ sym (start old).bytes
+pub none_given : {o new : Space} {i : ℕ} (old : List ℕ) → o.bytes.now ≡ old → Joining o new i → i ≡ 1 → new.bytes.now ≡ old
+none_given {o} old b j e =
+    ap (λ (x : Space). x.bytes.now) (j.held ∙ ap (λ (t : List ℕ). over t o) (no_words j.words (omega (arith, j.count))) ∙ over_none o) ∙ b
 
-pub all_given : {old new : List ℕ} {at i : ℕ} → Joining old new at i → (i ≡ 1 → ⊥) → (at ≡ length new → ⊥) → Joined old new at
+pub all_given : {o new : Space} {i : ℕ} (old : List ℕ) → o.bytes.now ≡ old → o.at ≡ 0 → Joining o new i → (i ≡ 1 → ⊥) → (new.at ≡ length new.bytes.now → ⊥)
+    → Joined old new.bytes.now new.at
 unfolding written
-all_given {old} {new} {at} {i} j some room =
+all_given {o} {new} {i} old b z j some room =
     let t = joined 32 j.words in
-    let free : at < length old = omega (arith, room, holds_length j.held, j.held.place) in
-    let p : at ≡ length t = omega (arith, free, j.held.place) in
+    let h = (over_lent t old o new b z j.held).held old [] (start old) in
+    let free : new.at < length old = omega (arith, room, holds_length h, h.place) in
+    let p : new.at ≡ length t = omega (arith, free, h.place) in
     record {
       words = j.words;
       some = omega (arith, some, j.count);
       place = p;
       free = free;
       bytes =
-          j.held.bytes ∙ ap (λ (x : List ℕ). x ++ drop (length t) old) (take_all (length old) t (omega (arith, free, p)))
+          h.bytes ∙ ap (λ (x : List ℕ). x ++ drop (length t) old) (take_all (length old) t (omega (arith, free, p)))
           ∙ ap (λ (k : ℕ). t ++ drop k old) (sym p);
     }

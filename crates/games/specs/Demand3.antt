@@ -14,8 +14,8 @@ use Rattle.positions.specs.declared.moves.Move.{Move}
 use Rattle.positions.specs.declared.position.Position.{Position}
 use Rattle.rules.specs.Rules.{AtMost, NoJump}
 use Rattle.games.specs.Book.{Book, tally_of, standing, begun_book, Verdict, goes_on, ends, book_answer, book_next, book_outcome, book_answers, book_after}
-use Rattle.games.specs.Games.{blank_position, last_of}
-use Rattle.games.specs.Play.{fresh_of, new_of, after_play, play_of, outcome_of}
+use Rattle.games.specs.Games.{last_of}
+use Rattle.games.specs.Play.{empty_game, new_of, after_play, play_of, outcome_of}
 use Rattle.games.specs.declared.game.Game.{Game}
 use Rattle.std.specs.declared.option.Option.{Option}
 use Rattle.games.specs.declared.game.Outcome.{Outcome}
@@ -33,9 +33,9 @@ unfoldable pub game_after : (Game → Move → Result Game Refusal) → Game →
 game_after play g [] = g
 game_after play g (m ∷ ms) = game_after play (after_play g (play g m)) ms
 
--- the new game; where it is refused, the game begun from the empty board with White to move
+-- the new game; where it is refused, the empty one
 abbrev pub game_of : Result Game Refusal → Game
-game_of r = result_unwrap_or r (fresh_of blank_position)
+game_of r = result_unwrap_or r empty_game
 
 -- all that is answered: the new game, the answer to each play, the game after the list, and its outcome
 pub record Heard : Type 0 where

@@ -32,6 +32,10 @@ alone_of p material = record { kept = p ∷ replicate 50 blank_position; len = 1
 unfoldable pub fresh_of : Position → Game
 fresh_of p = alone_of p 0
 
+-- begun from the empty board with White to move
+unfoldable pub empty_game : Game
+empty_game = fresh_of blank_position
+
 unfoldable pub new_of : Position → Result Game Refusal
 new_of p = cond (sound p) (Ok (fresh_of p)) (Err (refusal 12))
 

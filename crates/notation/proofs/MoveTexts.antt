@@ -17,16 +17,13 @@ use Rattle.positions.specs.Moves.{is_capture, squares_of}
 use Rattle.positions.specs.declared.moves.Move.{Move}
 use Rattle.positions.proofs.Records.{OnBoard, on_board_lem}
 use Rattle.texts.specs.Bytes.{joined, digits}
-use Rattle.texts.specs.Lent.{Adds}
-use Rattle.texts.proofs.Pieces.{Starts, starts, adds_none, adds_then, adds_as}
-use Rattle.texts.proofs.Writers.{Leaves, joined_short}
+use Rattle.texts.specs.Lent.{over, text_of}
+use Rattle.texts.specs.declared.space.Space.{Space}
+use Rattle.texts.proofs.Overs.{over_append, over_none, over_then, over_text}
+use Rattle.texts.proofs.Writers.{joined_short}
 use Rattle.notation.specs.MoveText.{separator_of, named, move_text, short_text, taken_text}
 
 -- ---- the parts of the text
-pub short_parts : (m : Move) (x : ℕ) → x ≡ separator_of m → digits m.from ++ ((x ∷ []) ++ digits m.to) ≡ short_text m
-unfolding short_text joined
-short_parts m x e = rw e
-
 joined_taken : (f : List ℕ) (l : List ℕ) → joined 120 (f ∷ map digits (map square_at_bit l)) ≡ f ++ taken_text l
 unfolding joined taken_text
 joined_taken f [] = sym (append-nil f)
@@ -56,6 +53,9 @@ move_parts m =
     ap (λ (x : List ℕ). digits m.from ++ separator_of m ∷ x) (second_on m (is_capture m) refl)
     ∙ sym (append_assoc (digits m.from) (separator_of m ∷ digits m.to) (taken_text (members m.captured)))
 
+pub move_over : (m : Move) (s : Space) → over (move_text m) s ≡ over (taken_text (members m.captured)) (over (short_text m) s)
+move_over m s = ap (λ (t : List ℕ). over t s) (move_parts m) ∙ over_append (short_text m) (taken_text (members m.captured)) s
+
 -- ---- the loop over the taken squares
 taken_next : (s n : ℕ) → 0 < s → s < 2 ^ 64 → n ≡ square_at_bit (lowest s)
     → taken_text (members s) ≡ ((120 ∷ []) ++ digits n) ++ taken_text (members (bit_and s (s - 1)))
@@ -64,18 +64,17 @@ taken_next s n p h e =
     ap taken_text (members_cons s p h)
     ∙ ap (λ (k : ℕ). ((120 ∷ []) ++ digits k) ++ taken_text (members (bit_and s (s - 1)))) (sym e)
 
-pub taken_start : (s : ℕ) (out : List ℕ) (at : ℕ) → Leaves (taken_text (members s)) out at (taken_text (members s)) out at
-taken_start s out at = record { rest = λ new end x. x }
+-- one turn of the loop: w is the space after all of them
+pub taken_turn : (s n : ℕ) (w a b c : Space) → 0 < s → s < 2 ^ 64 → n ≡ square_at_bit (lowest s)
+    → over (taken_text (members s)) a ≡ w → b ≡ over (120 ∷ []) a → c ≡ over (digits n) b → over (taken_text (members (bit_and s (s - 1)))) c ≡ w
+taken_turn s n w a b c p l q g x y =
+    let left = taken_text (members (bit_and s (s - 1))) in
+    ap (over left) (over_then _ _ a b c x y)
+    ∙ sym (over_append ((120 ∷ []) ++ digits n) left a)
+    ∙ ap (λ (t : List ℕ). over t a) (sym (taken_next s n p l q)) ∙ g
 
--- one turn of the loop
-pub taken_turn : {w a b c d : List ℕ} {h i j k : ℕ} (s n : ℕ) → 0 < s → s < 2 ^ 64 → n ≡ square_at_bit (lowest s)
-    → Leaves w a h (taken_text (members s)) b i → Adds (120 ∷ []) b i c j → Adds (digits n) c j d k
-    → Leaves w a h (taken_text (members (bit_and s (s - 1)))) d k
-taken_turn s n p l q g x y =
-    record { rest = λ new end z. g.rest new end (adds_as (sym (taken_next s n p l q)) (adds_then (adds_then x y) z)) }
-
-pub taken_done : {w a b : List ℕ} {h i : ℕ} (s : ℕ) → s ≡ 0 → Leaves w a h (taken_text (members s)) b i → Adds w a h b i
-taken_done {b = b} {i = i} s e g = g.rest b i (adds_as (sym (taken_none s e)) (adds_none b i))
+pub taken_done : (s : ℕ) (w a : Space) → s ≡ 0 → over (taken_text (members s)) a ≡ w → a ≡ w
+taken_done s w a e g = sym (over_none a) ∙ ap (λ (t : List ℕ). over t a) (sym (taken_none s e)) ∙ g
 
 -- ---- lengths
 named_short : (m : Move) → OnBoard m → length (map square_at_bit (members m.captured)) ≤ 50
@@ -92,8 +91,8 @@ unfolding short_text
 short_short m = omega (arith, joined_short (separator_of m) m.from (m.to ∷ []))
 
 -- so that 200 bytes hold both texts
-pub move_starts : {o new : List ℕ} {end : ℕ} (m : Move) → squares_of m ≡ true → length o ≡ 200 → Adds (move_text m) o 0 new end → Starts (move_text m) new end
-move_starts m e h a = starts (omega (arith, move_short m e)) a
+pub move_written : (m : Move) (s : Space) → squares_of m ≡ true → s.at ≡ 0 → length s.bytes.now ≡ 200 → text_of (over (move_text m) s) ≡ move_text m
+move_written m s h z e = over_text (move_text m) s z (omega (arith, move_short m h, e))
 
-pub short_starts : {o new : List ℕ} {end : ℕ} (m : Move) → length o ≡ 200 → Adds (short_text m) o 0 new end → Starts (short_text m) new end
-short_starts m h a = starts (omega (arith, short_short m)) a
+pub short_written : (m : Move) (s : Space) → s.at ≡ 0 → length s.bytes.now ≡ 200 → text_of (over (short_text m) s) ≡ short_text m
+short_written m s z e = over_text (short_text m) s z (omega (arith, short_short m, e))

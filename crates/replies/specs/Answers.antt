@@ -8,7 +8,7 @@ use Rattle.captures.specs.Lists.{blank}
 use Rattle.positions.specs.Boards.{board_of}
 use Rattle.positions.specs.Acceptance.{sound}
 use Rattle.positions.specs.declared.position.Position.{Position}
-use Rattle.movegen.specs.declared.movegen.Listed.{Listed}
+use Rattle.captures.specs.declared.moves.MoveList.{MoveList}
 use Rattle.movegen.specs.declared.perft.Divided.{Divided}
 use Rattle.texts.specs.Bytes.{bytes}
 use Rattle.texts.specs.Fen.{fen_text}
@@ -81,15 +81,13 @@ counts_text l c zero = []
 counts_text l c (suc n) = counts_text l c n ++ (code " " ∷ (move_word (get_or l n blank) ++ (code "=" ∷ decimal (get_or c n 0))))
 
 -- how many there are, then each
-abbrev pub answering : Result Unit Refusal → List ℕ → List ℕ
-answering (Ok tt) t = ok t
-answering (Err e) t = refusal_text e
+abbrev pub list_answer : Result MoveList Refusal → List ℕ
+list_answer (Ok l) = ok (decimal l.len ++ moves_text l.moves (min l.len 256))
+list_answer (Err e) = refusal_text e
 
-unfoldable pub list_answer : Listed → List ℕ
-list_answer l = answering l.answer (decimal l.list.len ++ moves_text l.list.moves (min l.list.len 256))
-
-unfoldable pub divided_answer : Divided → List ℕ
-divided_answer d = answering d.answer (decimal d.list.len ++ counts_text d.list.moves d.counts (min d.list.len 256))
+abbrev pub divided_answer : Result Divided Refusal → List ℕ
+divided_answer (Ok d) = ok (decimal d.list.len ++ counts_text d.list.moves d.counts (min d.list.len 256))
+divided_answer (Err e) = refusal_text e
 
 -- first square, last square, set
 unfoldable pub record_word : Move → List ℕ

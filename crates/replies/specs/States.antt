@@ -3,7 +3,7 @@
 use Rattle.std.specs.Prelude.{ℕ, List, [], ◌∷◌, ◌++◌, Err, None, Ok, Result, Some}
 use Prim.Native.Char.{code}
 use Rattle.squares.specs.declared.piece.Color.TheVariants.{White, Black}
-use Rattle.movegen.specs.declared.movegen.Listed.{Listed}
+use Rattle.captures.specs.declared.moves.MoveList.{MoveList}
 use Rattle.texts.specs.Bytes.{bytes}
 use Rattle.games.specs.Play.{outcome_of, stands_of, repetitions_of, reversible_plies_of, legal_moves_of}
 use Rattle.games.specs.declared.game.Game.{Game}
@@ -57,13 +57,10 @@ abbrev pub stand_word : Result Position Refusal → List ℕ
 stand_word (Ok p) = fen_word p
 stand_word (Err e) = []
 
-abbrev pub length_word : Result Unit Refusal → ℕ → List ℕ
-length_word (Ok tt) n = decimal n
-length_word (Err e) n = number_word e
-
 -- how many moves there are, 0 once the game is over; more than 256 are refused with 17
-unfoldable pub moves_word : Listed → List ℕ
-moves_word l = length_word l.answer l.list.len
+abbrev pub moves_word : Result MoveList Refusal → List ℕ
+moves_word (Ok l) = decimal l.len
+moves_word (Err e) = number_word e
 
 unfoldable pub end_text : Game → List ℕ
 end_text g =

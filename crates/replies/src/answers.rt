@@ -1,105 +1,107 @@
 // What is written of a position, a move, a list of moves or a count: `ok` and the answer, or the refusal.
+#![tactic(auto, using(texts::proofs::Overs::over_append, texts::proofs::Overs::over_none), unfolding(texts::specs::Lent::over, crate::specs::Answers::fen_answer, crate::specs::Answers::hub_answer, crate::specs::Answers::hash_answer, crate::specs::Answers::set_word, crate::specs::Answers::bits_answer, crate::specs::Answers::list_answer, crate::specs::Answers::divided_answer, crate::specs::Answers::record_word, crate::specs::Answers::move_answer))]
+
 ghost use Rattle.std.specs.Prelude.{◌≡◌, min};
-ghost use Rattle.texts.specs.Lent.{Adds};
+ghost use Rattle.texts.specs.Lent.{over};
 ghost use Rattle.texts.specs.Bytes.{bytes};
 ghost use Rattle.replies.specs.Answers.{yes_no, set_word, fen_word, hub_word, bits_answer, scored_answer, tested_answer, counted_answer, fen_answer, hub_answer, hash_answer, placed_answer, move_word, moves_text, counts_text, list_answer, divided_answer, record_word, move_answer, after_answer};
 
 use captures::moves::{MAX_MOVES, MoveList};
-use movegen::movegen::Listed;
 use movegen::perft::Divided;
 use positions::moves::Move;
 use positions::position::Position;
+use texts::space::Space;
 use texts::{fen, hub};
 use wording::output;
 use squares::refusal::Refusal;
 
-pub fn put_fen(out: &mut [u8], at: usize, p: Position) -> usize
-    ensures { Adds (fen_word p) out.old at out.new result }
+pub fn put_fen(out: &mut Space, p: Position)
+    ensures { out.new ≡ over (fen_word p) out.old }
 {
     let mut space = [0u8; 200];
     match fen::fen(p, &mut space) {
-        Ok(n) => output::put(out, at, &space[..n]),
-        Err(_) => at,
+        Ok(n) => out.put(&space[..n]),
+        Err(_) => {}
     }
 }
 
-fn put_hub(out: &mut [u8], at: usize, p: Position) -> usize
-    ensures { Adds (hub_word p) out.old at out.new result }
+fn put_hub(out: &mut Space, p: Position)
+    ensures { out.new ≡ over (hub_word p) out.old }
 {
     let mut space = [0u8; 51];
     match hub::hub(p, &mut space) {
-        Ok(n) => output::put(out, at, &space[..n]),
-        Err(_) => at,
+        Ok(n) => out.put(&space[..n]),
+        Err(_) => {}
     }
 }
 
-pub fn put_ok(out: &mut [u8], at: usize) -> usize
-    ensures { Adds (bytes "ok ") out.old at out.new result }
+pub fn put_ok(out: &mut Space)
+    ensures { out.new ≡ over (bytes "ok ") out.old }
 {
-    output::put(out, at, b"ok ")
+    out.put(b"ok ");
 }
 
-pub fn tell_fen(out: &mut [u8], at: usize, p: Position) -> usize
-    ensures { Adds (fen_answer p) out.old at out.new result }
+pub fn tell_fen(out: &mut Space, p: Position)
+    ensures { out.new ≡ over (fen_answer p) out.old }
 {
-    let k = put_ok(out, at);
-    put_fen(out, k, p)
+    put_ok(out);
+    put_fen(out, p);
 }
 
-pub fn tell_hub(out: &mut [u8], at: usize, p: Position) -> usize
-    ensures { Adds (hub_answer p) out.old at out.new result }
+pub fn tell_hub(out: &mut Space, p: Position)
+    ensures { out.new ≡ over (hub_answer p) out.old }
 {
-    let k = put_ok(out, at);
-    put_hub(out, k, p)
+    put_ok(out);
+    put_hub(out, p);
 }
 
-pub fn tell_hash(out: &mut [u8], at: usize, p: Position) -> usize
-    ensures { Adds (hash_answer p) out.old at out.new result }
+pub fn tell_hash(out: &mut Space, p: Position)
+    ensures { out.new ≡ over (hash_answer p) out.old }
 {
-    let k = put_ok(out, at);
-    output::put_hash(out, k, p.hash)
+    put_ok(out);
+    output::put_hash(out, p.hash);
 }
 
 // A set in hexadecimal and a space.
-fn put_set(out: &mut [u8], at: usize, set: u64) -> usize
-    ensures { Adds (set_word set) out.old at out.new result }
+fn put_set(out: &mut Space, set: u64)
+    ensures { out.new ≡ over (set_word set) out.old }
 {
-    let k = output::put_hex(out, at, set);
-    output::put_byte(out, k, b' ')
+    output::put_hex(out, set);
+    out.put_byte(b' ');
 }
 
-pub fn tell_bits(out: &mut [u8], at: usize, p: Position) -> usize
-    ensures { Adds (bits_answer p) out.old at out.new result }
+pub fn tell_bits(out: &mut Space, p: Position)
+    ensures { out.new ≡ over (bits_answer p) out.old }
 {
     let side = p.side;
-    let mut k = put_ok(out, at);
-    k = put_set(out, k, p.white);
-    k = put_set(out, k, p.black);
-    k = put_set(out, k, p.kings);
-    k = output::put_byte(out, k, side.to_char());
-    k = output::put_byte(out, k, b' ');
-    output::put_hash(out, k, p.hash)
+    put_ok(out);
+    put_set(out, p.white);
+    put_set(out, p.black);
+    put_set(out, p.kings);
+    out.put_byte(side.to_char());
+    out.put_byte(b' ');
+    output::put_hash(out, p.hash);
 }
 
 // A position as FEN, or the refusal.
-pub fn tell_placed(out: &mut [u8], at: usize, p: Result<Position, Refusal>) -> usize
-    ensures { Adds (placed_answer p) out.old at out.new result }
+pub fn tell_placed(out: &mut Space, p: Result<Position, Refusal>)
+    ensures { out.new ≡ over (placed_answer p) out.old }
 {
     match p {
-        Ok(q) => tell_fen(out, at, q),
-        Err(e) => output::put_refusal(out, at, e),
+        Ok(q) => tell_fen(out, q),
+        Err(e) => output::put_refusal(out, e),
     }
 }
 
-pub fn tell_scored(out: &mut [u8], at: usize, s: Result<i32, Refusal>) -> usize
-    ensures { Adds (scored_answer s) out.old at out.new result }
+pub fn tell_scored(out: &mut Space, s: Result<i32, Refusal>)
+    ensures { out.new ≡ over (scored_answer s) out.old }
 {
     match s {
         Ok(z) => {
-            let k = put_ok(out, at);
-            output::put_signed(out, k, z)
+            put_ok(out);
+            output::put_signed(out, z);
         }
-        Err(e) => output::put_refusal(out, at, e),
+        Err(e) => output::put_refusal(out, e),
     }
 }
 
@@ -109,144 +111,124 @@ fn yes_no(yes: bool) -> u8
     if yes { b'1' } else { b'0' }
 }
 
-pub fn tell_tested(out: &mut [u8], at: usize, t: Result<bool, Refusal>) -> usize
-    ensures { Adds (tested_answer t) out.old at out.new result }
+pub fn tell_tested(out: &mut Space, t: Result<bool, Refusal>)
+    ensures { out.new ≡ over (tested_answer t) out.old }
 {
     match t {
         Ok(yes) => {
-            let k = put_ok(out, at);
-            output::put_byte(out, k, yes_no(yes))
+            put_ok(out);
+            out.put_byte(yes_no(yes));
         }
-        Err(e) => output::put_refusal(out, at, e),
+        Err(e) => output::put_refusal(out, e),
     }
 }
 
-pub fn tell_counted(out: &mut [u8], at: usize, c: Result<u64, Refusal>) -> usize
-    ensures { Adds (counted_answer c) out.old at out.new result }
+pub fn tell_counted(out: &mut Space, c: Result<u64, Refusal>)
+    ensures { out.new ≡ over (counted_answer c) out.old }
 {
     match c {
         Ok(n) => {
-            let k = put_ok(out, at);
-            output::put_decimal(out, k, n)
+            put_ok(out);
+            output::put_decimal(out, n);
         }
-        Err(e) => output::put_refusal(out, at, e),
+        Err(e) => output::put_refusal(out, e),
     }
 }
 
 // A move's Hub text.
-pub fn put_move(out: &mut [u8], at: usize, m: Move) -> usize
-    ensures { Adds (move_word m) out.old at out.new result }
+pub fn put_move(out: &mut Space, m: Move)
+    ensures { out.new ≡ over (move_word m) out.old }
 {
     let mut space = [0u8; 200];
     match notation::moves::to_hub(m, &mut space) {
-        Ok(n) => output::put(out, at, &space[..n]),
-        Err(_) => at,
+        Ok(n) => out.put(&space[..n]),
+        Err(_) => {}
     }
 }
 
 // The moves of a list, a space before each.
-fn put_moves(out: &mut [u8], at: usize, list: MoveList) -> usize
-    ensures { Adds (moves_text list.moves (min list.len 256)) out.old at out.new result }
+fn put_moves(out: &mut Space, list: MoveList)
+    ensures { out.new ≡ over (moves_text list.moves (min list.len 256)) out.old }
 {
-    let len = list.len;
-    let mut k = at;
-    let mut i = 0;
-    while i < MAX_MOVES {
-        if len <= i {
-            return k;
-        }
+    for i in 0..list.len.min(MAX_MOVES) {
         let m = list.moves[i];
-        k = output::put_byte(out, k, b' ');
-        k = put_move(out, k, m);
-        i += 1;
+        out.put_byte(b' ');
+        put_move(out, m);
     }
-    k
 }
 
 // How many moves there are, and each of them.
-pub fn tell_list(out: &mut [u8], at: usize, l: Listed) -> usize
-    ensures { Adds (list_answer l) out.old at out.new result }
+pub fn tell_list(out: &mut Space, l: Result<MoveList, Refusal>)
+    ensures { out.new ≡ over (list_answer l) out.old }
 {
-    let answer = l.answer;
-    let list = l.list;
-    match answer {
-        Ok(()) => {
-            let k = put_ok(out, at);
-            let n = output::put_decimal(out, k, list.len as u64);
-            put_moves(out, n, list)
+    match l {
+        Ok(list) => {
+            put_ok(out);
+            output::put_decimal(out, list.len as u64);
+            put_moves(out, list);
         }
-        Err(e) => output::put_refusal(out, at, e),
+        Err(e) => output::put_refusal(out, e),
     }
 }
 
 // The moves of a list, each with its count.
-fn put_counts(out: &mut [u8], at: usize, list: MoveList, counts: [u64; 256]) -> usize
-    ensures { Adds (counts_text list.moves counts (min list.len 256)) out.old at out.new result }
+fn put_counts(out: &mut Space, list: MoveList, counts: [u64; 256])
+    ensures { out.new ≡ over (counts_text list.moves counts (min list.len 256)) out.old }
 {
-    let len = list.len;
-    let mut k = at;
-    let mut i = 0;
-    while i < MAX_MOVES {
-        if len <= i {
-            return k;
-        }
+    for i in 0..list.len.min(MAX_MOVES) {
         let m = list.moves[i];
-        k = output::put_byte(out, k, b' ');
-        k = put_move(out, k, m);
-        k = output::put_byte(out, k, b'=');
-        k = output::put_decimal(out, k, counts[i]);
-        i += 1;
+        out.put_byte(b' ');
+        put_move(out, m);
+        out.put_byte(b'=');
+        output::put_decimal(out, counts[i]);
     }
-    k
 }
 
-pub fn tell_divided(out: &mut [u8], at: usize, d: Divided) -> usize
-    ensures { Adds (divided_answer d) out.old at out.new result }
+pub fn tell_divided(out: &mut Space, d: Result<Divided, Refusal>)
+    ensures { out.new ≡ over (divided_answer d) out.old }
 {
-    let answer = d.answer;
-    let list = d.list;
-    let counts = d.counts;
-    match answer {
-        Ok(()) => {
-            let k = put_ok(out, at);
-            let n = output::put_decimal(out, k, list.len as u64);
-            put_counts(out, n, list, counts)
+    match d {
+        Ok(divided) => {
+            let list = divided.list;
+            put_ok(out);
+            output::put_decimal(out, list.len as u64);
+            put_counts(out, list, divided.counts);
         }
-        Err(e) => output::put_refusal(out, at, e),
+        Err(e) => output::put_refusal(out, e),
     }
 }
 
 // A move's first square, last square and set.
-fn put_record(out: &mut [u8], at: usize, m: Move) -> usize
-    ensures { Adds (record_word m) out.old at out.new result }
+fn put_record(out: &mut Space, m: Move)
+    ensures { out.new ≡ over (record_word m) out.old }
 {
-    let mut k = output::put_decimal(out, at, m.from as u64);
-    k = output::put_byte(out, k, b',');
-    k = output::put_decimal(out, k, m.to as u64);
-    k = output::put_byte(out, k, b',');
-    output::put_hex(out, k, m.captured)
+    output::put_decimal(out, m.from as u64);
+    out.put_byte(b',');
+    output::put_decimal(out, m.to as u64);
+    out.put_byte(b',');
+    output::put_hex(out, m.captured);
 }
 
 // The move's Hub text, first square, last square and set.
-pub fn tell_move(out: &mut [u8], at: usize, m: Move) -> usize
-    ensures { Adds (move_answer m) out.old at out.new result }
+pub fn tell_move(out: &mut Space, m: Move)
+    ensures { out.new ≡ over (move_answer m) out.old }
 {
-    let mut k = put_ok(out, at);
-    k = put_move(out, k, m);
-    k = output::put_byte(out, k, b' ');
-    put_record(out, k, m)
+    put_ok(out);
+    put_move(out, m);
+    out.put_byte(b' ');
+    put_record(out, m);
 }
 
 // The FEN of the position after a move, and its hash.
-pub fn tell_after(out: &mut [u8], at: usize, p: Result<Position, Refusal>) -> usize
-    ensures { Adds (after_answer p) out.old at out.new result }
+pub fn tell_after(out: &mut Space, p: Result<Position, Refusal>)
+    ensures { out.new ≡ over (after_answer p) out.old }
 {
     match p {
         Ok(q) => {
-            let k = tell_fen(out, at, q);
-            let blank = output::put_byte(out, k, b' ');
-            output::put_hash(out, blank, q.hash)
+            tell_fen(out, q);
+            out.put_byte(b' ');
+            output::put_hash(out, q.hash);
         }
-        Err(e) => output::put_refusal(out, at, e),
+        Err(e) => output::put_refusal(out, e),
     }
 }

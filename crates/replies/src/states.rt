@@ -1,111 +1,112 @@
 // What is written of a game: the outcome, both counts, how often the position has occurred; at the end also the position
 // and the number of its legal moves.
-ghost use Rattle.texts.specs.Lent.{Adds};
+#![tactic(auto, using(texts::proofs::Overs::over_append, texts::proofs::Overs::over_none), unfolding(texts::specs::Lent::over, crate::specs::States::plies_text, crate::specs::States::state_text, crate::specs::States::moves_word, crate::specs::States::end_text))]
+
+ghost use Rattle.std.specs.Prelude.{◌≡◌};
+ghost use Rattle.texts.specs.Lent.{over};
 ghost use Rattle.replies.specs.States.{winner_word, outcome_word, judged_word, count_word, plies_text, state_text, stand_word, moves_word, end_text};
 
 use crate::answers;
-use captures::moves::MAX_MOVES;
+use captures::moves::{MAX_MOVES, MoveList};
 use games::game::{Game, Outcome, Termination};
-use movegen::movegen::Listed;
 use squares::piece::Color;
+use texts::space::Space;
 use wording::output;
 use squares::refusal::Refusal;
 use positions::position::Position;
 
-fn put_winner(out: &mut [u8], at: usize, w: Option<Color>) -> usize
-    ensures { Adds (winner_word w) out.old at out.new result }
+fn put_winner(out: &mut Space, w: Option<Color>)
+    ensures { out.new ≡ over (winner_word w) out.old }
 {
     match w {
         Some(color) => match color {
-            Color::White => output::put(out, at, b"white"),
-            Color::Black => output::put(out, at, b"black"),
+            Color::White => out.put(b"white"),
+            Color::Black => out.put(b"black"),
         },
-        None => at,
+        None => {}
     }
 }
 
-fn put_outcome(out: &mut [u8], at: usize, o: Outcome) -> usize
-    ensures { Adds (outcome_word o) out.old at out.new result }
+fn put_outcome(out: &mut Space, o: Outcome)
+    ensures { out.new ≡ over (outcome_word o) out.old }
 {
     let winner = o.winner;
     let termination = o.termination;
     match termination {
-        Termination::NoMoves => put_winner(out, at, winner),
-        Termination::Repetition => output::put(out, at, b"draw3"),
-        Termination::TwentyFiveMoves => output::put(out, at, b"draw50"),
-        Termination::SixteenMoves => output::put(out, at, b"draw32"),
-        Termination::FiveMoves => output::put(out, at, b"draw10"),
+        Termination::NoMoves => put_winner(out, winner),
+        Termination::Repetition => out.put(b"draw3"),
+        Termination::TwentyFiveMoves => out.put(b"draw50"),
+        Termination::SixteenMoves => out.put(b"draw32"),
+        Termination::FiveMoves => out.put(b"draw10"),
     }
 }
 
-pub fn put_judged(out: &mut [u8], at: usize, j: Result<Option<Outcome>, Refusal>) -> usize
-    ensures { Adds (judged_word j) out.old at out.new result }
+pub fn put_judged(out: &mut Space, j: Result<Option<Outcome>, Refusal>)
+    ensures { out.new ≡ over (judged_word j) out.old }
 {
     match j {
-        Ok(Some(o)) => put_outcome(out, at, o),
-        Ok(None) => output::put(out, at, b"none"),
-        Err(_) => at,
+        Ok(Some(o)) => put_outcome(out, o),
+        Ok(None) => out.put(b"none"),
+        Err(_) => {}
     }
 }
 
-fn put_count(out: &mut [u8], at: usize, c: Result<u64, Refusal>) -> usize
-    ensures { Adds (count_word c) out.old at out.new result }
+fn put_count(out: &mut Space, c: Result<u64, Refusal>)
+    ensures { out.new ≡ over (count_word c) out.old }
 {
     match c {
-        Ok(n) => output::put_decimal(out, at, n),
-        Err(_) => at,
+        Ok(n) => output::put_decimal(out, n),
+        Err(_) => {}
     }
 }
 
 // Both counts, a mark before each.
-fn put_plies(out: &mut [u8], at: usize, g: Game, mark: u8) -> usize
-    ensures { Adds (plies_text mark g) out.old at out.new result }
+fn put_plies(out: &mut Space, g: Game, mark: u8)
+    ensures { out.new ≡ over (plies_text mark g) out.old }
 {
-    let mut k = output::put_byte(out, at, mark);
-    k = put_count(out, k, g.reversible_plies());
-    k = output::put_byte(out, k, mark);
-    output::put_decimal(out, k, g.material as u64)
+    out.put_byte(mark);
+    put_count(out, g.reversible_plies());
+    out.put_byte(mark);
+    output::put_decimal(out, g.material as u64);
 }
 
 // The outcome, both counts and how often the position has stood, a mark before each.
-pub fn put_state(out: &mut [u8], at: usize, g: Game, mark: u8) -> usize
-    ensures { Adds (state_text mark g) out.old at out.new result }
+pub fn put_state(out: &mut Space, g: Game, mark: u8)
+    ensures { out.new ≡ over (state_text mark g) out.old }
 {
-    let mut k = output::put_byte(out, at, mark);
-    k = put_judged(out, k, g.outcome());
-    k = put_plies(out, k, g, mark);
-    k = output::put_byte(out, k, mark);
-    put_count(out, k, g.repetitions())
+    out.put_byte(mark);
+    put_judged(out, g.outcome());
+    put_plies(out, g, mark);
+    out.put_byte(mark);
+    put_count(out, g.repetitions());
 }
 
-fn put_stand(out: &mut [u8], at: usize, p: Result<Position, Refusal>) -> usize
-    ensures { Adds (stand_word p) out.old at out.new result }
+fn put_stand(out: &mut Space, p: Result<Position, Refusal>)
+    ensures { out.new ≡ over (stand_word p) out.old }
 {
     match p {
-        Ok(q) => answers::put_fen(out, at, q),
-        Err(_) => at,
+        Ok(q) => answers::put_fen(out, q),
+        Err(_) => {}
     }
 }
 
 // How many moves there are, or the refusal: more than 256 are not counted.
-fn put_listed(out: &mut [u8], at: usize, l: Listed) -> usize
-    ensures { Adds (moves_word l) out.old at out.new result }
+fn put_listed(out: &mut Space, l: Result<MoveList, Refusal>)
+    ensures { out.new ≡ over (moves_word l) out.old }
 {
-    let answer = l.answer;
-    let list = l.list;
-    match answer {
-        Ok(()) => output::put_decimal(out, at, list.len as u64),
-        Err(e) => output::put_number(out, at, e),
+    match l {
+        Ok(list) => output::put_decimal(out, list.len as u64),
+        Err(e) => output::put_number(out, e),
     }
 }
 
 // What is written of the game after the last play.
-pub fn put_end(out: &mut [u8], at: usize, g: Game) -> usize
-    ensures { Adds (end_text g) out.old at out.new result }
+pub fn put_end(out: &mut Space, g: Game)
+    ensures { out.new ≡ over (end_text g) out.old }
 {
-    let mut k = output::put(out, at, b" | ");
-    k = put_stand(out, k, g.position());
-    k = put_state(out, k, g, b' ');
-    k = output::put_byte(out, k, b' ');
-    put_listed(out, k, g.legal_moves(MAX_MOVES))
+    out.put(b" | ");
+    put_stand(out, g.position());
+    put_state(out, g, b' ');
+    out.put_byte(b' ');
+    put_listed(out, g.legal_moves(MAX_MOVES));
 }

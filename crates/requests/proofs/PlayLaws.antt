@@ -9,19 +9,16 @@ use lib.Dec.{eqb}
 use lib.ListN.{length, take, drop, length-drop, drop_of_length-le}
 use Rattle.squares.specs.declared.refusal.Refusal.TheVariants.{TextTooLong, BadGame}
 use Rattle.positions.specs.Moves.{move}
-use Rattle.positions.specs.declared.position.Position.{Position}
-use Rattle.texts.specs.Bytes.{bytes, parts_at, up_to, after_or, after_first, cons_head, readable, longest_text}
+use Rattle.texts.specs.Bytes.{parts_at, up_to, after_or, after_first, cons_head, readable, longest_text}
 use Rattle.notation.specs.Notation.{read_move_of}
 use Rattle.games.specs.Games.{valid}
-use Rattle.games.specs.Play.{new_of}
-use Rattle.games.specs.declared.game.Begun.{Begun}
 use Rattle.games.specs.declared.game.Game.{Game}
-use Rattle.gametexts.specs.Texts.{refused_text, play_str_of}
+use Rattle.gametexts.specs.Texts.{play_str_of}
 use Rattle.gametexts.specs.declared.game.PlayedText.{PlayedText}
 use Rattle.wording.specs.Escapes.{undone, Undid}
 use Rattle.wording.specs.Numbers.{unsigned_of, set_of}
 use Rattle.wording.specs.Words.{first_word, after_word}
-use Rattle.requests.specs.Plays.{words_of, record_of, is_record_of, all_records, play_text_of, play_word_of, word_told, game_text, game_answer}
+use Rattle.requests.specs.Plays.{words_of, record_of, is_record_of, all_records, play_text_of, play_word_of, word_told, after_word, game_text}
 use Rattle.replies.specs.States.{end_text}
 use Rattle.requests.specs.declared.plays.Given.{Given}
 use Rattle.requests.proofs.Readings.{cut, cut_part}
@@ -82,7 +79,7 @@ module _ (s : List ℕ) (i : ℕ) where
     unfolding all_records
     records_next e = rw (words_here, e)
 
-    pub game_next : (h : Given) (g : Game) (a : PlayedText) → a ≡ play_word_of h g word → word_told h a ++ game_text h a.game (words_of (drop (length s - length rest) s)) ≡ game_text h g (words_of (drop i s))
+    pub game_next : (h : Given) (g : Game) (a : Result PlayedText Refusal) → a ≡ play_word_of h g word → word_told h a ++ game_text h (after_word g a) (words_of (drop (length s - length rest) s)) ≡ game_text h g (words_of (drop i s))
     unfolding game_text
     game_next h g a e = rw (words_here, e)
 
@@ -97,11 +94,6 @@ records_end s i h = rw (words_none s i h)
 pub game_end : (s : List ℕ) (i : ℕ) (h : Given) (g : Game) → length s ≤ i → end_text g ≡ game_text h g (words_of (drop i s))
 unfolding game_text
 game_end s i h g k = rw (words_none s i k)
-
--- ---- the whole game
-pub game_whole : (h : Given) (p : Position) (s : List ℕ) (b : Begun) → b ≡ new_of p → bytes "ok" ++ game_text h b.game (words_of s) ≡ game_answer h p s
-unfolding game_answer
-game_whole h p s b e = rw e
 
 -- ---- records
 module _ (s : List ℕ) where
@@ -122,10 +114,10 @@ module _ (s : List ℕ) where
   record_whole f t c a b d = rw (a, b, d)
 
 -- ---- texts
-play_refused : (g : Game) (s : List ℕ) → readable longest_text s ≡ false → play_str_of g s ≡ cond (valid g) (refused_text g TextTooLong) (refused_text g BadGame)
+play_refused : (g : Game) (s : List ℕ) → readable longest_text s ≡ false → play_str_of g s ≡ cond (valid g) (Err TextTooLong) (Err BadGame)
 unfolding play_str_of read_move_of
 play_refused g s e = rw e
 
-pub text_played : (s o out : List ℕ) (n : ℕ) → length o ≡ 4097 → Undid s o out n → (g : Game) (a : PlayedText) → a ≡ play_str_of g (take n out) → a ≡ play_text_of g s
+pub text_played : (s o out : List ℕ) (n : ℕ) → length o ≡ 4097 → Undid s o out n → (g : Game) (a : Result PlayedText Refusal) → a ≡ play_str_of g (take n out) → a ≡ play_text_of g s
 unfolding play_text_of
 text_played s o out n long u g a e = e ∙ ap (play_str_of g) (cut_part s o out n long u) ∙ cut (play_str_of g) _ (play_refused g) (undone s)

@@ -7,7 +7,8 @@ use Rattle.positions.specs.declared.position.Position.{Position}
 use Rattle.texts.specs.Bytes.{bytes, parts_at, up_to, after_first}
 use Rattle.games.specs.Play.{new_of, play_of, outcome_of}
 use Rattle.games.specs.declared.game.Game.{Game}
-use Rattle.gametexts.specs.Texts.{beside, refused_text, play_str_of}
+use Rattle.games.specs.Demand3.{game_of}
+use Rattle.gametexts.specs.Texts.{beside, play_str_of}
 use Rattle.gametexts.specs.declared.game.PlayedText.{PlayedText}
 use Rattle.wording.specs.Output.{decimal, number_word, bad}
 use Rattle.wording.specs.Numbers.{unsigned_of, set_of}
@@ -51,47 +52,52 @@ all_records [] = true
 all_records (w ∷ ws) = is_record_of w && all_records ws
 
 -- ---- a word played
-unfoldable pub play_text_of : Game → List ℕ → PlayedText
+unfoldable pub play_text_of : Game → List ℕ → Result PlayedText Refusal
 play_text_of g w = play_str_of g (undone w)
 
 -- a word that is no record is not played; a line with such a word is a bad request
-abbrev pub play_move : Game → Option Move → PlayedText
+abbrev pub play_move : Game → Option Move → Result PlayedText Refusal
 play_move g (Some m) = beside m (play_of g m)
-play_move g None = refused_text g (refusal 9)
+play_move g None = Err (refusal 9)
 
-unfoldable pub play_record_of : Game → List ℕ → PlayedText
+unfoldable pub play_record_of : Game → List ℕ → Result PlayedText Refusal
 play_record_of g w = play_move g (record_of w)
 
-abbrev pub play_word_of : Given → Game → List ℕ → PlayedText
+abbrev pub play_word_of : Given → Game → List ℕ → Result PlayedText Refusal
 play_word_of given.Text g w = play_text_of g w
 play_word_of given.Record g w = play_record_of g w
 
 -- ---- what is written of it
 
 -- of a text: the move and the game after it, or the refusal
-abbrev pub text_answer : Result Unit Refusal → List ℕ → List ℕ
-text_answer (Ok tt) t = t
-text_answer (Err e) t = number_word e
+abbrev pub text_answer : Result PlayedText Refusal → List ℕ
+text_answer (Ok r) = move_word r.mv ++ state_text (code "/") r.game
+text_answer (Err e) = number_word e
 
-unfoldable pub text_told : PlayedText → List ℕ
-text_told r = code " " ∷ text_answer r.answer (move_word r.mv ++ state_text (code "/") r.game)
+unfoldable pub text_told : Result PlayedText Refusal → List ℕ
+text_told r = code " " ∷ text_answer r
 
 -- of a record: 0, or the refusal's number
-unfoldable pub record_told : PlayedText → List ℕ
-record_told r = code " " ∷ decimal (answer_number_of r.answer)
+unfoldable pub record_told : Result PlayedText Refusal → List ℕ
+record_told r = code " " ∷ decimal (answer_number_of r)
 
-abbrev pub word_told : Given → PlayedText → List ℕ
+abbrev pub word_told : Given → Result PlayedText Refusal → List ℕ
 word_told given.Text r = text_told r
 word_told given.Record r = record_told r
 
--- each play gets the game that the one before handed back
+-- the game that is played on: a refused word changes nothing
+abbrev pub after_word : Game → Result PlayedText Refusal → Game
+after_word g (Ok r) = r.game
+after_word g (Err e) = g
+
+-- each play gets the game that the plays before it led to
 unfoldable pub game_text : Given → Game → List (List ℕ) → List ℕ
 game_text h g [] = end_text g
-game_text h g (w ∷ ws) = let r = play_word_of h g w in word_told h r ++ game_text h r.game ws
+game_text h g (w ∷ ws) = let r = play_word_of h g w in word_told h r ++ game_text h (after_word g r) ws
 
 -- the words played on a new game
 unfoldable pub game_answer : Given → Position → List ℕ → List ℕ
-game_answer h p s = bytes "ok" ++ game_text h (new_of p).game (words_of s)
+game_answer h p s = bytes "ok" ++ game_text h (game_of (new_of p)) (words_of s)
 
 -- ---- the requests
 abbrev pub play_request : Result Position Refusal → List ℕ → List ℕ
@@ -103,4 +109,4 @@ record_request p records = on_placed p (λ q. cond (all_records (words_of record
 
 -- the outcome of a new game
 abbrev pub outcome_request : Result Position Refusal → List ℕ
-outcome_request p = on_placed p (λ q. ok (judged_word (outcome_of (new_of q).game)))
+outcome_request p = on_placed p (λ q. ok (judged_word (outcome_of (game_of (new_of q)))))

@@ -5,8 +5,8 @@
 // for each text, or ` !N` where it is refused; `record` writes ` N` for each record, 0 where it is accepted. Both end with
 // ` | FEN OUTCOME COUNT1 COUNT2 TIMES MOVES`.
 ghost use Rattle.std.specs.Prelude.{◌≡◌};
-ghost use Rattle.texts.specs.Lent.{Adds};
-ghost use Rattle.requests.specs.Plays.{record_of, is_record_of, all_records, words_of, play_text_of, play_record_of, play_word_of, text_told, record_told, word_told, game_text, game_answer, play_request, record_request, outcome_request};
+ghost use Rattle.texts.specs.Lent.{over};
+ghost use Rattle.requests.specs.Plays.{record_of, is_record_of, all_records, words_of, play_text_of, play_record_of, play_word_of, text_told, record_told, word_told, after_word, game_text, game_answer, play_request, record_request, outcome_request};
 
 use games::game::Game;
 use gametexts::game::PlayedText;
@@ -16,6 +16,7 @@ use replies::{answers, states};
 use squares::refusal;
 use squares::refusal::Refusal;
 use texts::bytes;
+use texts::space::Space;
 use wording::output::Flaw;
 use wording::{escapes, numbers, output, words};
 
@@ -71,7 +72,7 @@ fn all_records(s: &[u8]) -> bool
     true
 }
 
-fn play_text(g: Game, word: &[u8]) -> PlayedText
+fn play_text(g: Game, word: &[u8]) -> Result<PlayedText, Refusal>
     ensures { result ≡ play_text_of g word.now }
 {
     let mut space = [0u8; 4097];
@@ -80,16 +81,19 @@ fn play_text(g: Game, word: &[u8]) -> PlayedText
 }
 
 // A word that is no record is not played. `record` answers a line with such a word before it plays any.
-fn play_record(g: Game, word: &[u8]) -> PlayedText
+fn play_record(g: Game, word: &[u8]) -> Result<PlayedText, Refusal>
     ensures { result ≡ play_record_of g word.now }
 {
     match read_record(word) {
-        Some(m) => gametexts::game::beside(m, g.play(m)),
-        None => gametexts::game::refused_text(g, Refusal::BadMoveText),
+        Some(mv) => {
+            let game = g.play(mv)?;
+            Ok(PlayedText { game, mv })
+        }
+        None => Err(Refusal::BadMoveText),
     }
 }
 
-fn play_word(given: Given, g: Game, word: &[u8]) -> PlayedText
+fn play_word(given: Given, g: Game, word: &[u8]) -> Result<PlayedText, Refusal>
     ensures { result ≡ play_word_of given g word.now }
 {
     match given {
@@ -99,103 +103,111 @@ fn play_word(given: Given, g: Game, word: &[u8]) -> PlayedText
 }
 
 // What is written of a text: the move and the game after it, or `!` and the refusal's number.
-fn tell_text(out: &mut [u8], at: usize, r: PlayedText) -> usize
-    ensures { Adds (text_told r) out.old at out.new result }
+#[tactic(auto, using(texts::proofs::Overs::over_append), unfolding(texts::specs::Lent::over, crate::specs::Plays::text_told))]
+fn tell_text(out: &mut Space, r: Result<PlayedText, Refusal>)
+    ensures { out.new ≡ over (text_told r) out.old }
 {
-    let answer = r.answer;
-    let after = r.game;
-    let mv = r.mv;
-    let k = output::put_byte(out, at, b' ');
-    match answer {
-        Ok(()) => {
-            let m = answers::put_move(out, k, mv);
-            states::put_state(out, m, after, b'/')
+    out.put_byte(b' ');
+    match r {
+        Ok(played) => {
+            answers::put_move(out, played.mv);
+            states::put_state(out, played.game, b'/');
         }
-        Err(e) => output::put_number(out, k, e),
+        Err(e) => output::put_number(out, e),
     }
 }
 
 // What is written of a record: the answer's number.
-fn tell_record(out: &mut [u8], at: usize, r: PlayedText) -> usize
-    ensures { Adds (record_told r) out.old at out.new result }
+#[tactic(auto, using(texts::proofs::Overs::over_append), unfolding(texts::specs::Lent::over, crate::specs::Plays::record_told))]
+fn tell_record(out: &mut Space, r: Result<PlayedText, Refusal>)
+    ensures { out.new ≡ over (record_told r) out.old }
 {
-    let answer = r.answer;
-    let k = output::put_byte(out, at, b' ');
-    output::put_decimal(out, k, refusal::answer_number(&answer) as u64)
+    out.put_byte(b' ');
+    output::put_decimal(out, refusal::answer_number(&r) as u64);
 }
 
-fn tell_word(given: Given, r: PlayedText, out: &mut [u8], at: usize) -> usize
-    ensures { Adds (word_told given r) out.old at out.new result }
+fn tell_word(given: Given, r: Result<PlayedText, Refusal>, out: &mut Space)
+    ensures { out.new ≡ over (word_told given r) out.old }
 {
     match given {
-        Given::Text => tell_text(out, at, r),
-        Given::Record => tell_record(out, at, r),
+        Given::Text => tell_text(out, r),
+        Given::Record => tell_record(out, r),
     }
 }
 
-// Plays the words in order; each play gets the game that the one before handed back.
-fn play_words(given: Given, start: Game, s: &[u8], out: &mut [u8], at: usize) -> usize
-    ensures { Adds (game_text given start (words_of s.now)) out.old at out.new result }
+// The game that is played on: a refused word changes nothing.
+fn after_word(g: Game, r: Result<PlayedText, Refusal>) -> Game
+    ensures { result ≡ after_word g r }
+{
+    match r {
+        Ok(played) => played.game,
+        Err(_) => g,
+    }
+}
+
+// Plays the words in order; each play gets the game that the plays before it led to.
+fn play_words(given: Given, start: Game, s: &[u8], out: &mut Space)
+    ensures { out.new ≡ over (game_text given start (words_of s.now)) out.old }
 {
     let mut g = start;
-    let mut k = at;
     let mut i = 0;
     while i < s.len() {
         let left = &s[i..];
         let word = words::first(left);
         let r = play_word(given, g, word);
-        k = tell_word(given, r, out, k);
-        g = r.game;
+        tell_word(given, r, out);
+        g = after_word(g, r);
         i = s.len() - words::rest(left).len();
     }
-    states::put_end(out, k, g)
+    states::put_end(out, g);
 }
 
 // Begins a game and plays the words.
-fn play_game(given: Given, p: Position, s: &[u8], out: &mut [u8], at: usize) -> usize
-    ensures { Adds (game_answer given p s.now) out.old at out.new result }
+#[tactic(auto, using(texts::proofs::Overs::over_append), unfolding(texts::specs::Lent::over, crate::specs::Plays::game_answer))]
+fn play_game(given: Given, p: Position, s: &[u8], out: &mut Space)
+    ensures { out.new ≡ over (game_answer given p s.now) out.old }
 {
-    let begun = Game::from_position(p);
-    let game = begun.game;
-    let k = output::put(out, at, b"ok");
-    play_words(given, game, s, out, k)
+    let game = Game::from_position(p).unwrap_or(Game::empty());
+    out.put(b"ok");
+    play_words(given, game, s, out);
 }
 
-pub(crate) fn play(p: Result<Position, Refusal>, texts: &[u8], out: &mut [u8], at: usize) -> usize
-    ensures { Adds (play_request p texts.now) out.old at out.new result }
+pub(crate) fn play(p: Result<Position, Refusal>, texts: &[u8], out: &mut Space)
+    ensures { out.new ≡ over (play_request p texts.now) out.old }
 {
     match p {
-        Ok(q) => play_game(Given::Text, q, texts, out, at),
-        Err(e) => output::put_refusal(out, at, e),
+        Ok(q) => play_game(Given::Text, q, texts, out),
+        Err(e) => output::put_refusal(out, e),
     }
 }
 
 // Every record must be readable before one is played.
-pub(crate) fn record(p: Result<Position, Refusal>, records: &[u8], out: &mut [u8], at: usize) -> usize
-    ensures { Adds (record_request p records.now) out.old at out.new result }
+pub(crate) fn record(p: Result<Position, Refusal>, records: &[u8], out: &mut Space)
+    ensures { out.new ≡ over (record_request p records.now) out.old }
 {
     match p {
         Ok(q) => {
             if all_records(records) {
-                return play_game(Given::Record, q, records, out, at);
+                play_game(Given::Record, q, records, out);
+            } else {
+                output::put_bad(out, Flaw::Number);
             }
-            output::put_bad(out, at, Flaw::Number)
         }
-        Err(e) => output::put_refusal(out, at, e),
+        Err(e) => output::put_refusal(out, e),
     }
 }
 
 // The outcome of a new game.
-pub(crate) fn outcome(p: Result<Position, Refusal>, out: &mut [u8], at: usize) -> usize
-    ensures { Adds (outcome_request p) out.old at out.new result }
+#[tactic(auto, using(texts::proofs::Overs::over_append), unfolding(texts::specs::Lent::over))]
+pub(crate) fn outcome(p: Result<Position, Refusal>, out: &mut Space)
+    ensures { out.new ≡ over (outcome_request p) out.old }
 {
     match p {
         Ok(q) => {
-            let begun = Game::from_position(q);
-            let game = begun.game;
-            let k = answers::put_ok(out, at);
-            states::put_judged(out, k, game.outcome())
+            let game = Game::from_position(q).unwrap_or(Game::empty());
+            answers::put_ok(out);
+            states::put_judged(out, game.outcome());
         }
-        Err(e) => output::put_refusal(out, at, e),
+        Err(e) => output::put_refusal(out, e),
     }
 }

@@ -1,6 +1,6 @@
 // A request line and its answer. The table holds the requests; the first word of a line picks its row.
 ghost use Rattle.std.specs.Prelude.{◌≡◌, ◌<◌, min, length};
-ghost use Rattle.texts.specs.Lent.{Adds, written};
+ghost use Rattle.texts.specs.Lent.{over, written, Adds};
 ghost use Rattle.requests.specs.Requests.{rows, help_text, request_at, request_of, whole_position, first_position, request_answer, answer_of};
 
 use crate::reading::Form;
@@ -8,6 +8,7 @@ use crate::{asked, plays, reading};
 use captures::moves::MAX_MOVES;
 use scores::eval::Classical;
 use texts::bytes;
+use texts::space::Space;
 use wording::output::Flaw;
 use wording::{escapes, output, words};
 use positions::position::Position;
@@ -135,33 +136,46 @@ fn first(arg: &[u8]) -> Result<Position, Refusal>
     reading::position(Form::Either, words::first(arg))
 }
 
-fn answer_request(request: Request, arg: &[u8], out: &mut [u8], at: usize) -> usize
-    ensures { Adds (request_answer request arg.now) out.old at out.new result }
+fn answer_request(request: Request, arg: &[u8], out: &mut Space)
+    ensures { out.new ≡ over (request_answer request arg.now) out.old }
 {
     match request {
-        Request::Fen => asked::fen(reading::position(Form::Fen, arg), out, at),
-        Request::Hub => asked::hub(reading::position(Form::Hub, arg), out, at),
-        Request::Fen2hub => asked::hub(reading::position(Form::Fen, arg), out, at),
-        Request::Hub2fen => asked::fen(reading::position(Form::Hub, arg), out, at),
-        Request::Square => asked::square(reading::square(arg), out, at),
-        Request::Parts => asked::parts(arg, out, at),
-        Request::Bits => asked::bits(whole(arg), out, at),
-        Request::Moves => asked::moves(whole(arg), MAX_MOVES, out, at),
-        Request::Atmost => asked::atmost(arg, out, at),
-        Request::Parse => asked::parse(first(arg), words::rest(arg), out, at),
-        Request::After => asked::after(first(arg), words::rest(arg), out, at),
-        Request::Perft => asked::perft(first(arg), words::rest(arg), out, at),
-        Request::Divide => asked::divide(first(arg), words::rest(arg), out, at),
-        Request::Eval => asked::eval(whole(arg), Classical::new(), out, at),
-        Request::Evalw => asked::evalw(arg, out, at),
-        Request::Hash => asked::hash(whole(arg), out, at),
-        Request::Flip => asked::flip(whole(arg), out, at),
-        Request::Caps => asked::caps(whole(arg), out, at),
-        Request::Quiet => asked::quiet(whole(arg), out, at),
-        Request::Play => plays::play(first(arg), words::rest(arg), out, at),
-        Request::Outcome => plays::outcome(whole(arg), out, at),
-        Request::Record => plays::record(first(arg), words::rest(arg), out, at),
-        Request::Unknown => output::put_bad(out, at, Flaw::Name),
+        Request::Fen => asked::fen(reading::position(Form::Fen, arg), out),
+        Request::Hub => asked::hub(reading::position(Form::Hub, arg), out),
+        Request::Fen2hub => asked::hub(reading::position(Form::Fen, arg), out),
+        Request::Hub2fen => asked::fen(reading::position(Form::Hub, arg), out),
+        Request::Square => asked::square(reading::square(arg), out),
+        Request::Parts => asked::parts(arg, out),
+        Request::Bits => asked::bits(whole(arg), out),
+        Request::Moves => asked::moves(whole(arg), MAX_MOVES, out),
+        Request::Atmost => asked::atmost(arg, out),
+        Request::Parse => asked::parse(first(arg), words::rest(arg), out),
+        Request::After => asked::after(first(arg), words::rest(arg), out),
+        Request::Perft => asked::perft(first(arg), words::rest(arg), out),
+        Request::Divide => asked::divide(first(arg), words::rest(arg), out),
+        Request::Eval => asked::eval(whole(arg), Classical::new(), out),
+        Request::Evalw => asked::evalw(arg, out),
+        Request::Hash => asked::hash(whole(arg), out),
+        Request::Flip => asked::flip(whole(arg), out),
+        Request::Caps => asked::caps(whole(arg), out),
+        Request::Quiet => asked::quiet(whole(arg), out),
+        Request::Play => plays::play(first(arg), words::rest(arg), out),
+        Request::Outcome => plays::outcome(whole(arg), out),
+        Request::Record => plays::record(first(arg), words::rest(arg), out),
+        Request::Unknown => output::put_bad(out, Flaw::Name),
+    }
+}
+
+#[tactic(auto, unfolding(crate::specs::Requests::answer_of))]
+fn put_answer(line: &[u8], out: &mut Space)
+    ensures { out.new ≡ over (answer_of line.now) out.old }
+{
+    if LONGEST < line.len() {
+        output::put_bad(out, Flaw::Length);
+    } else if escapes::is_plain(line) {
+        answer_request(request_of(words::first(line)), words::rest(line), out);
+    } else {
+        output::put_bad(out, Flaw::Escape);
     }
 }
 
@@ -171,19 +185,24 @@ pub fn answer(line: &[u8], out: &mut [u8]) -> usize
     ensures value { result ≡ min (length (answer_of line.now)) (length out.old) }
     ensures out_after { out.new ≡ written (answer_of line.now) out.old }
 {
-    if LONGEST < line.len() {
-        return output::put_bad(out, 0, Flaw::Length);
-    }
-    if escapes::is_plain(line) {
-        return answer_request(request_of(words::first(line)), words::rest(line), out, 0);
-    }
-    output::put_bad(out, 0, Flaw::Escape)
+    let mut space = Space::new(out);
+    put_answer(line, &mut space);
+    space.at
+}
+
+#[tactic(auto, unfolding(crate::specs::Requests::help_text))]
+fn put_help(out: &mut Space)
+    ensures { out.new ≡ over help_text out.old }
+{
+    let table = TABLE;
+    out.put(&table);
 }
 
 // The requests with their arguments, one a line, at the start of the lent bytes; what has no room is left out.
 pub fn help(out: &mut [u8]) -> usize
     ensures { Adds help_text out.old 0 out.new result }
 {
-    let table = TABLE;
-    output::put(out, 0, &table)
+    let mut space = Space::new(out);
+    put_help(&mut space);
+    space.at
 }

@@ -17,9 +17,10 @@ use Rattle.positions.specs.Acceptance.{Accepted, sound}
 use Rattle.positions.specs.declared.position.Position.{Position}
 use Rattle.positions.proofs.Accepts.{sound_says}
 use Rattle.texts.specs.Bytes.{joined, digits}
-use Rattle.texts.specs.Lent.{Adds}
+use Rattle.texts.specs.Lent.{over, text_of}
+use Rattle.texts.specs.declared.space.Space.{Space}
 use Rattle.texts.specs.Fen.{item_text, list_text, fen_text}
-use Rattle.texts.proofs.Pieces.{Starts, starts}
+use Rattle.texts.proofs.Overs.{over_text}
 
 -- K, digits and comma of bit i
 cost : ℕ → ℕ
@@ -117,5 +118,5 @@ module _ (b : Board) (a : Accepted b) where
 pub fen_fits : (p : Position) → sound p ≡ true → length (fen_text (board_of p)) ≤ 200
 fen_fits p s = omega (arith, fen_short (board_of p) (sound_says p s).accepted)
 
-pub fen_starts : (p : Position) {o new : List ℕ} {n : ℕ} → sound p ≡ true → length o ≡ 200 → Adds (fen_text (board_of p)) o 0 new n → Starts (fen_text (board_of p)) new n
-fen_starts p s e a = starts (omega (arith, fen_fits p s, e)) a
+pub fen_written : (p : Position) (s : Space) → sound p ≡ true → s.at ≡ 0 → length s.bytes.now ≡ 200 → text_of (over (fen_text (board_of p)) s) ≡ fen_text (board_of p)
+fen_written p s h z e = over_text (fen_text (board_of p)) s z (omega (arith, fen_fits p h, e))

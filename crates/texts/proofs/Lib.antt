@@ -3,6 +3,7 @@ pub mod SquareTexts
 pub mod Readers
 pub mod FenLength
 pub mod Pieces
+pub mod Overs
 pub mod Writers
 pub mod ListLaws
 pub mod Marks

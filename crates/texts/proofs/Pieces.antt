@@ -5,7 +5,7 @@ use mathlib.Core.List.{List, [], ◌∷◌, ◌++◌, append_assoc, append-nil}
 use native.Mathlib.Omega.{arith}
 use native.Mathlib.Numerals.{add-one}
 use lib.ListN.{length, take, drop, get_or, set, length-append, length-take, length-drop, drop_of_length-le}
-use lib.Seq.{take_all, drop-cons, set-append_seam, append_snoc, take-append-le, take_at, take-suc, take-nil}
+use lib.Seq.{take_all, drop-cons, set-append_seam, append_snoc, take-append-le, take_at, take-nil}
 use Rattle.texts.specs.Lent.{written, Holds, Adds}
 
 pub written_length : (t o : List ℕ) → length (written t o) ≡ length o
@@ -90,13 +90,3 @@ adds_then {s} {u} {a} {b} {c} {i} {j} {k} x y =
         let p = x.beyond h in
         let q = y.beyond (omega (arith, ap length p.0, p.1)) in
         (q.0 ∙ p.0, q.1 ∙ p.1)
-
-pub adds_as : {s u a b : List ℕ} {i j : ℕ} → s ≡ u → Adds s a i b j → Adds u a i b j
-adds_as {s} {u} {a} {b} {i} {j} e x = subst (λ (z : List ℕ). Adds z a i b j) e x
-
--- one byte of s more
-pub adds_next : {a b c : List ℕ} {i j k : ℕ} (s : List ℕ) (n : ℕ) → n < length s → Adds (take n s) a i b j → Adds (get_or s n 0 ∷ []) b j c k → Adds (take (n + 1) s) a i c k
-adds_next s n h x y = adds_as (sym (take-suc s n 0 h) ∙ ap (λ (m : ℕ). take m s) (sym (add-one n))) (adds_then x y)
-
-pub adds_all : {a b : List ℕ} {i j : ℕ} (s : List ℕ) (n : ℕ) → length s ≤ n → Adds (take n s) a i b j → Adds s a i b j
-adds_all s n h x = adds_as (take_all n s h) x

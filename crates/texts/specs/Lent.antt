@@ -1,7 +1,8 @@
 -- Writing into lent space (docs/RULES.md, "Limits and lent space"): the bytes after a written text stay as they were;
 -- where the text is refused, all of them do.
-use Rattle.std.specs.Prelude.{ℕ, ◌<◌, min, ◌≡◌, List, ◌++◌, cond, length, take, drop, leb, Err, Ok, Result}
+use Rattle.std.specs.Prelude.{ℕ, ◌+◌, ◌<◌, min, ◌≡◌, List, [], ◌∷◌, ◌++◌, cond, length, take, drop, set, leb, ltb, Err, Ok, Result}
 use Rattle.squares.specs.Refusals.{refusal}
+use Rattle.texts.specs.declared.space.Space.{Space}
 use Rattle.squares.specs.declared.refusal.Refusal.{Refusal}
 
 -- the answer for the text t and the lent bytes out: the length, or the refusal 19
@@ -13,6 +14,22 @@ unfoldable pub emitted : List ℕ → List ℕ → List ℕ
 emitted t out = cond (leb (length t) (length out)) (t ++ drop (length t) out) out
 
 -- ---- piece by piece into lent bytes
+
+-- one byte at the place, which goes on by 1; without room nothing changes
+unfoldable pub byte_over : ℕ → Space → Space
+byte_over b s =
+    cond (ltb s.at (length s.bytes.now)) (record s { bytes = record s.bytes { now = set s.bytes.now s.at b }; at = s.at + 1 }) s
+
+-- the space s after the text t was written, byte by byte (law `over_append`)
+unfoldable pub over : List ℕ → Space → Space
+over [] s = s
+over (b ∷ t) s = over t (byte_over b s)
+
+-- what was written so far
+unfoldable pub text_of : Space → List ℕ
+text_of s = take s.at s.bytes.now
+
+-- ---- what that makes of the bytes and the place (law `over_adds`)
 
 -- the lent bytes o with the text t over their start: what has no room is left out, and the bytes after the text stay
 unfoldable pub written : List ℕ → List ℕ → List ℕ

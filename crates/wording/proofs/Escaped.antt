@@ -1,5 +1,5 @@
 -- Escapes, place by place; and what undoing wrote.
-use Prim.Native.Nat.{ℕ, zero, suc, ◌+◌, ◌-◌, ◌*◌, ◌≤◌, ◌<◌, min}
+use Prim.Native.Nat.{ℕ, zero, suc, ◌+◌, ◌-◌, ◌*◌, ◌≤◌, ◌<◌}
 use mathlib.Core.Path.{◌≡◌, refl, ap, sym, ◌∙◌, subst}
 use mathlib.Core.List.{List, [], ◌∷◌, ◌++◌, append_assoc, append-nil}
 use mathlib.Core.Bool.{Bool, true, false, cond, ◌&&◌, true≢false, false≢true}
@@ -9,8 +9,10 @@ use lib.Seq.{drop-drop}
 use lib.Dec.{eqb, leb}
 use borrow.Author.Tests.{le-leb, lt-leb, eq-eqb, ne_eqb}
 use Rattle.texts.proofs.Cuts.{drop_next, rest}
-use Rattle.texts.proofs.Pieces.{start}
-use Rattle.texts.specs.Lent.{Holds, Adds, written}
+use Rattle.texts.proofs.Overs.{over_none, over_then, over_lent}
+use Rattle.texts.proofs.Pieces.{whole}
+use Rattle.texts.specs.Lent.{over}
+use Rattle.texts.specs.declared.space.Space.{Space}
 use Rattle.wording.specs.Numbers.{digit_of}
 use Rattle.wording.specs.Escapes.{Plain, text, broken, high_of, hex_escape, escape_of, UsedIn, before, on_escape, undo, plain, is_plain, text_of, undone, Undid}
 use Rattle.wording.specs.declared.escapes.Escape.{Escape}
@@ -149,27 +151,27 @@ unfolding prepended
 prepended_byte d b (text t) = ap text (sym (append_assoc d (b ∷ []) t))
 prepended_byte d b broken = refl
 
--- the bytes before the place i of the word were undone: what they stand for was written
-pub record Undoing (s o out : List ℕ) (i at : ℕ) : Type 0 where
+-- the bytes before the place i of the word were undone: what they stand for was written into the space o
+pub record Undoing (s : List ℕ) (o out : Space) (i : ℕ) : Type 0 where
   pub done : List ℕ
   pub whole : plain s ≡ prepended done (undo 0 (drop i s))
-  pub held : Holds o done out at
+  pub held : out ≡ over done o
 
-pub undoing_start : (s o : List ℕ) → Undoing s o o 0 0
+pub undoing_start : (s : List ℕ) (o : Space) → Undoing s o o 0
 unfolding plain prepended
-undoing_start s o = record { done = []; whole = go (undo 0 s); held = start o }
+undoing_start s o = record { done = []; whole = go (undo 0 s); held = sym (over_none o) }
   where
     go : (p : Plain) → p ≡ prepended [] p
     go (text t) = refl
     go broken = refl
 
-pub undoing_byte : {s o out new : List ℕ} {i at end : ℕ} (j b : ℕ) → Undoing s o out i at → Adds (b ∷ []) out at new end
-    → undo 0 (drop i s) ≡ before b (undo 0 (drop j s)) → Undoing s o new j end
-undoing_byte {s} {o} {out} {new} {i} {at} {end} j b u a e =
+pub undoing_byte : {s : List ℕ} {o out : Space} {i : ℕ} (j b : ℕ) (new : Space) → Undoing s o out i → new ≡ over (b ∷ []) out
+    → undo 0 (drop i s) ≡ before b (undo 0 (drop j s)) → Undoing s o new j
+undoing_byte {s} {o} {out} {i} j b new u a e =
     record {
       done = u.done ++ (b ∷ []);
       whole = u.whole ∙ ap (prepended u.done) e ∙ prepended_byte u.done b (undo 0 (drop j s));
-      held = a.held o u.done u.held;
+      held = over_then _ _ o out new u.held a;
     }
 
 -- where an escape is invalid, nothing was written
@@ -181,21 +183,20 @@ undone_none s q = go (plain s) q
     go (text t) e = absurd (true≢false e)
     go broken e = refl
 
-pub undid_none : (s o : List ℕ) → is_plain (plain s) ≡ false → Undid s o o 0
-undid_none s o q =
-    let e = undone_none s q in
-    record { answer = (start o).place ∙ sym (ap (λ (t : List ℕ). min (length t) (length o)) e); bytes = (start o).bytes ∙ sym (ap (λ (t : List ℕ). written t o) e) }
+pub over_undone_none : (s : List ℕ) (o : Space) → is_plain (plain s) ≡ false → o ≡ over (undone s) o
+over_undone_none s o q = sym (over_none o) ∙ sym (ap (λ (t : List ℕ). over t o) (undone_none s q))
 
 -- that was seen before anything was written
-pub undoing_never : {s o out : List ℕ} {i at : ℕ} → Undoing s o out i at → is_plain (plain s) ≡ true → undo 0 (drop i s) ≡ broken → ⊥
+pub undoing_never : {s : List ℕ} {o out : Space} {i : ℕ} → Undoing s o out i → is_plain (plain s) ≡ true → undo 0 (drop i s) ≡ broken → ⊥
 unfolding prepended
 undoing_never u q e = true≢false (sym q ∙ ap is_plain (u.whole ∙ ap (prepended u.done) e))
 
-pub undoing_end : {s o out : List ℕ} {i at : ℕ} → Undoing s o out i at → undo 0 (drop i s) ≡ text [] → Undid s o out at
+pub undoing_end : {s : List ℕ} {o out : Space} {i : ℕ} → Undoing s o out i → undo 0 (drop i s) ≡ text [] → out ≡ over (undone s) o
 unfolding prepended undone
 undoing_end {s} {o} u e =
     let w : plain s ≡ text u.done = u.whole ∙ ap (prepended u.done) e ∙ ap text (append-nil u.done) in
-    record {
-      answer = u.held.place ∙ sym (ap (λ (p : Plain). min (length (text_of p)) (length o)) w);
-      bytes = u.held.bytes ∙ sym (ap (λ (p : Plain). written (text_of p) o) w);
-    }
+    u.held ∙ sym (ap (λ (p : Plain). over (text_of p) o) w)
+
+-- from the start of lent bytes on
+pub undid : (s old : List ℕ) (o out : Space) → o.bytes.now ≡ old → o.at ≡ 0 → out ≡ over (undone s) o → Undid s old out.bytes.now out.at
+undid s old o out b z e = let h = whole (over_lent (undone s) old o out b z e) in record { answer = h.0; bytes = h.1 }

@@ -5,9 +5,11 @@
 //
 // A backslash that begins none of these is an invalid escape.
 ghost use Rattle.std.specs.Prelude.{◌≡◌, length};
-ghost use Rattle.wording.specs.Escapes.{high_of, hex_escape, escape_of, UsedIn, plain, is_plain, Undid};
+ghost use Rattle.texts.specs.Lent.{over};
+ghost use Rattle.wording.specs.Escapes.{high_of, hex_escape, escape_of, UsedIn, plain, is_plain, undone, Undid};
 
-use crate::{numbers, output};
+use crate::numbers;
+use texts::space::Space;
 
 // The byte that an escape stands for, and how many bytes the escape has after its backslash; or that it is invalid.
 #[derive(Clone, Copy)]
@@ -82,32 +84,39 @@ pub fn is_plain(s: &[u8]) -> bool
     true
 }
 
-// Writes the text of a word into lent bytes, as much of it as fits, and returns how many bytes were written. Where an
-// escape is invalid nothing is written: a caller that must know asks `is_plain`.
-pub fn unescape(s: &[u8], out: &mut [u8]) -> usize
-    ensures { Undid s.now out.old out.new result }
+// Writes the text of a word; nothing where an escape in it is invalid.
+fn put_plain(out: &mut Space, s: &[u8])
+    ensures { out.new ≡ over (undone s.now) out.old }
 {
     if !is_plain(s) {
-        return 0;
+        return;
     }
     let mut i = 0;
-    let mut at = 0;
     while i < s.len() {
         let b = s[i];
         i += 1;
         if b == b'\\' {
             match read_escape(&s[i..]) {
                 Escape::Byte(x, n) => {
-                    at = output::put_byte(out, at, x);
+                    out.put_byte(x);
                     i += n;
                 }
                 Escape::Bad => {
-                    return 0;
+                    return;
                 }
             }
         } else {
-            at = output::put_byte(out, at, b);
+            out.put_byte(b);
         }
     }
-    at
+}
+
+// Writes the text of a word into lent bytes, as much of it as fits, and returns how many bytes were written. Where an
+// escape is invalid nothing is written: a caller that must know asks `is_plain`.
+pub fn unescape(s: &[u8], out: &mut [u8]) -> usize
+    ensures { Undid s.now out.old out.new result }
+{
+    let mut space = Space::new(out);
+    put_plain(&mut space, s);
+    space.at
 }

@@ -6,7 +6,7 @@ use Rattle.frame.proofs.Joining as laws
 use Rattle.frame.proofs.arguments.arguments.Given as goal
 
 abbrev pub invariant-loop-i : goal.invariant-loop-i
-invariant-loop-i g l = (1 ≤ l.i) × (length l.buf ≡ length l.initial.buf) × (length l.word ≡ 131072) × laws.Joining l.initial.buf l.buf l.at l.i
+invariant-loop-i g l = (1 ≤ l.i) × (length l.word ≡ 131072) × laws.Joining l.initial.space l.space l.i
 
 abbrev pub decreases-loop-i : goal.decreases-loop-i
 decreases-loop-i g l = 2 ^ 64 - l.i

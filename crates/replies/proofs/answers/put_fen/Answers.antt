@@ -1,7 +1,7 @@
 -- The text in lent space that is long enough for every one.
 use mathlib.Core.Path.{refl, sym}
 use Rattle.replies.proofs.Told as told
-use Rattle.texts.proofs.Pieces as laws
+use Rattle.texts.proofs.Overs as laws
 use lib.Seq.{length-take-le}
 use Rattle.replies.proofs.answers.put_fen.Goals as goal
 
@@ -15,8 +15,8 @@ slice_bounds-put-end c =
 
 pub returns-in-Ok : goal.returns-in-Ok
 returns-in-Ok c =
-    laws.adds_as (told.fen_told c.args.p _ refl _ _ _ c.fen.ensures.value c.fen.ensures.out_after c.in-Ok.is).text c.put.ensures
+    laws.over_as _ _ _ _ (told.fen_told c.args.p _ refl _ _ _ c.fen.ensures.value c.fen.ensures.out_after c.in-Ok.is).text c.put.ensures
 
 pub returns-in-Err : goal.returns-in-Err
 returns-in-Err c =
-    laws.adds_as (sym (told.fen_untold c.args.p _ refl _ _ c.fen.ensures.value c.in-Err.is)) (laws.adds_none _ _)
+    laws.over_as _ _ _ _ (sym (told.fen_untold c.args.p _ refl _ _ c.fen.ensures.value c.in-Err.is)) (sym (laws.over_none _))

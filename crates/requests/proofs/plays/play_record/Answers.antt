@@ -1,14 +1,20 @@
 -- The record is read, then played.
-use mathlib.Core.Path.{ap, sym, ◌∙◌}
-use Rattle.gametexts.specs.Texts.{beside}
-use Rattle.requests.specs.Plays.{play_move, play_record_of}
+use Rattle.std.proofs.Common.{rules}
+use Rattle.std.specs.Prelude.{Err}
+use mathlib.Core.Path.{◌≡◌}
+use Rattle.requests.specs.Plays.{play_record_of}
 use Rattle.requests.proofs.plays.play_record.Goals as goal
+
+pub returns-in_err-game : goal.returns-in_err-game
+unfolding play_record_of
+returns-in_err-game c =
+    let q : c.from_residual.result ≡ Err c.in_err-game.field-0.0 = search rules in
+    rw (q, ← c.read_record.ensures, c.in-Some.is, ← c.in_err-game.ensures)
 
 pub returns-in-Some : goal.returns-in-Some
 unfolding play_record_of
-returns-in-Some c =
-    c.beside.ensures ∙ ap (beside _) c.play.ensures ∙ sym (ap (play_move c.args.g) (sym c.read_record.ensures ∙ c.in-Some.is))
+returns-in-Some c = rw (← c.read_record.ensures, c.in-Some.is, ← c.in_ok-game.ensures)
 
 pub returns-in-None : goal.returns-in-None
 unfolding play_record_of
-returns-in-None c = c.refused_text.ensures ∙ sym (ap (play_move c.args.g) (sym c.read_record.ensures ∙ c.in-None.is))
+returns-in-None c = rw (← c.read_record.ensures, c.in-None.is)

@@ -1,6 +1,9 @@
 -- Word by word: what is written of the words that are left ends what is written of all.
-use mathlib.Core.Path.{refl}
-use Rattle.texts.proofs.Pieces as pieces
+use mathlib.Core.Path.{refl, ap, ◌∙◌}
+use mathlib.Core.List.{List}
+use Prim.Native.Nat.{ℕ}
+use Rattle.texts.specs.Lent.{over}
+use Rattle.texts.proofs.Overs as overs
 use Rattle.requests.proofs.PlayLaws as laws
 use Rattle.texts.proofs.Cuts as cuts
 use borrow.Author.Rules.{rules}
@@ -8,7 +11,7 @@ use native.Mathlib.Omega.{arith}
 use Rattle.requests.proofs.plays.play_words.Goals as goal
 
 pub loop-i-init : goal.loop-i-init
-loop-i-init c = (search rules, refl, λ new end a. a)
+loop-i-init c = (search rules, refl)
 
 pub overflow_sub-i : goal.overflow_sub-i
 overflow_sub-i c =
@@ -22,12 +25,14 @@ pub loop-i-preserved : goal.loop-i-preserved
 loop-i-preserved c =
     let s = c.args.s.now in (
       omega arith,
-      search rules,
-      λ new end a. c.loop-i.invariant.2 new end
-          (pieces.adds_as (laws.game_next s c.loop-i.i _ _ _ (cuts.rest s c.loop-i.i) c.first-word.ensures c.rest.ensures (omega arith) c.args.given c.loop-i.g _ c.play_word-r.ensures)
-          (pieces.adds_then c.tell_word-k.ensures a)),
+      overs.over_moved _ _ _ _ _
+          (ap (λ (g : Game). over (word_told c.args.given c.play_word-r.result ++ game_text c.args.given g (words_of (drop (length s - length c.rest.result.now) s))) c.loop-i.out) c.after_word-g.ensures
+          ∙ ap (λ (t : List ℕ). over t c.loop-i.out) (laws.game_next s c.loop-i.i _ _ _ (cuts.rest s c.loop-i.i) c.first-word.ensures c.rest.ensures (omega arith) c.args.given c.loop-i.g _ c.play_word-r.ensures) ∙ c.loop-i.invariant.1)
+          c.tell_word.ensures,
     )
 
 pub returns : goal.returns
 returns c =
-    let s = c.args.s.now in c.loop-i.invariant.2 _ _ (pieces.adds_as (laws.game_end s c.loop-i.i c.args.given c.loop-i.g (omega arith)) c.put_end.ensures)
+    c.put_end.ensures
+    ∙ ap (λ (t : List ℕ). over t c.loop-i.out) (laws.game_end c.args.s.now c.loop-i.i c.args.given c.loop-i.g (omega arith))
+    ∙ c.loop-i.invariant.1

@@ -1,20 +1,18 @@
--- A line that is too long, a broken escape, or the request that the first word names.
-use borrow.Author.Tests.{lt-ltb, le-ltb}
-use Rattle.texts.proofs.Pieces as pieces
-use Rattle.requests.specs.Requests as asked
+-- The answer, from the start of the lent bytes on.
+use mathlib.Core.Path.{ap}
+use mathlib.Core.List.{List}
+use Prim.Native.Nat.{ℕ}
+use Rattle.std.proofs.Common.{MutBor}
+use Rattle.texts.proofs.Overs.{over_lent, same_name}
+use Rattle.texts.proofs.Pieces.{whole}
+use borrow.Author.Rules.{rules}
 use Rattle.requests.proofs.requests.answer.Goals as goal
 
-pub returns-then-line-gt-LONGEST : goal.returns-then-line-gt-LONGEST
-unfolding asked.answer_of
-returns-then-line-gt-LONGEST c = rw (lt-ltb asked.longest _ c.if-line-gt-LONGEST.true) (let w = pieces.whole c.put_bad.ensures in record { value = w.0; out_after = w.1 })
-
-pub returns-then-is_plain : goal.returns-then-is_plain
-unfolding asked.answer_of
-returns-then-is_plain c =
-    rw (le-ltb asked.longest _ c.if-line-gt-LONGEST.false, ← c.is_plain.ensures, c.if-is_plain.true, ← c.first.ensures, ← c.request_of.ensures, ← c.rest.ensures)
-    (let w = pieces.whole c.answer_request.ensures in record { value = w.0; out_after = w.1 })
-
 pub returns : goal.returns
-unfolding asked.answer_of
 returns c =
-    rw (le-ltb asked.longest _ c.if-line-gt-LONGEST.false, ← c.is_plain.ensures, c.if-is_plain.false) (let w = pieces.whole c.put_bad-2.ensures in record { value = w.0; out_after = w.1 })
+    let n = same_name _ _ _ c.put_answer.ensures in
+    let m = ap (λ (r : MutBor (List ℕ)). r.ghost_name) c.new-space.ensures.bytes in
+    let h = whole (over_lent _ _ _ _ (ap (λ (r : MutBor (List ℕ)). r.now) c.new-space.ensures.bytes) c.new-space.ensures.at c.put_answer.ensures) in
+    let v = h.0 in
+    let b = h.1 in
+    record { value = v; out_after = search (rules, b, n, m) }

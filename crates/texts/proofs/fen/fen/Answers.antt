@@ -1,22 +1,15 @@
 -- A sound position has a text of at most 196 bytes; then it is lent space that decides.
-use mathlib.Core.Path.{refl, ap, sym, ◌∙◌}
+use mathlib.Core.Path.{ap, sym, ◌∙◌}
 use mathlib.Core.List.{List}
 use Prim.Native.Nat.{ℕ}
 use lib.ListN.{length}
-use lib.Seq.{length-take-le}
 use borrow.Author.Tests.{le-leb}
-use Rattle.texts.specs.Lent.{emit_of, emitted}
+use Rattle.texts.specs.Lent.{emit_of, emitted, text_of}
 use Rattle.texts.specs.Fen.{fen_text, fen_of, fen_lent}
 use Rattle.positions.specs.Boards.{board_of}
-use Rattle.texts.proofs.FenLength.{fen_fits, fen_starts}
+use Rattle.texts.proofs.FenLength.{fen_fits, fen_written}
+use Rattle.std.proofs.Common.{MutBor}
 use Rattle.texts.proofs.fen.fen.Goals as goal
-
-pub slice_bounds-text-end : goal.slice_bounds-text-end
-slice_bounds-text-end c = (fen_starts c.args.p (sym c.sound.ensures ∙ c.if-sound.true) refl c.put_fen-n.ensures).fits
-
-pub slice_bounds-emit-end : goal.slice_bounds-emit-end
-slice_bounds-emit-end c =
-    sym (length-take-le _ _ (fen_starts c.args.p (sym c.sound.ensures ∙ c.if-sound.true) refl c.put_fen-n.ensures).fits)
 
 pub returns-then-sound : goal.returns-then-sound
 unfolding fen_of fen_lent
@@ -25,7 +18,7 @@ returns-then-sound c =
     let o = c.args.out.now in
     let s = sym c.sound.ensures ∙ c.if-sound.true in
     let h = le-leb (length (fen_text (board_of p))) 200 (fen_fits p s) in
-    let t = (fen_starts p s refl c.put_fen-n.ensures).text in
+    let t = c.text.ensures ∙ ap text_of c.put_fen.ensures ∙ fen_written p _ s c.new-space.ensures.at (ap (λ (r : MutBor (List ℕ)). length r.now) c.new-space.ensures.bytes) in
     record {
       value = rw (s, h) (c.emit.ensures.value ∙ ap (λ (x : List ℕ). emit_of x o) t);
       out_after = rw (s, h) (c.emit.ensures.out_after ∙ ap (λ (x : List ℕ). emitted x o) t);

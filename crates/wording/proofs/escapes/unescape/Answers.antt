@@ -1,46 +1,16 @@
--- What the bytes before the place stand for was written; nothing where an escape is invalid.
-use mathlib.Core.Path.{refl, ap, sym, ◌∙◌}
-use Prim.Native.Nat.{◌+◌}
+-- The text, from the start of the lent bytes on.
+use mathlib.Core.Path.{ap}
+use mathlib.Core.List.{List}
+use Prim.Native.Nat.{ℕ}
+use Rattle.std.proofs.Common.{MutBor}
+use Rattle.texts.proofs.Overs.{same_name}
 use Rattle.wording.proofs.Escaped as laws
-use Rattle.wording.specs.Escapes.{escape_of}
-use Rattle.texts.proofs.Cuts.{rest}
 use borrow.Author.Rules.{rules}
-use native.Mathlib.Omega.{arith}
 use Rattle.wording.proofs.escapes.unescape.Goals as goal
-
-pub returns-then-not-is_plain : goal.returns-then-not-is_plain
-returns-then-not-is_plain c =
-    laws.undid_none c.args.s.now c.args.out.now (sym c.is_plain.ensures ∙ c.if-not-is_plain.true)
-
-pub loop-i-init : goal.loop-i-init
-loop-i-init c =
-    (search rules, refl, sym c.is_plain.ensures ∙ c.if-not-is_plain.false, laws.undoing_start c.args.s.now c.args.out.now)
-
-pub overflow_add-i-in-Byte : goal.overflow_add-i-in-Byte
-overflow_add-i-in-Byte c =
-    let s = c.args.s.now in omega (arith, laws.used_fits s (c.loop-i.i + 1) _ _ _ (omega arith) c.read_escape.ensures.1 c.in-Byte.is)
-
-pub loop-i-preserved-in-Byte : goal.loop-i-preserved-in-Byte
-loop-i-preserved-in-Byte c =
-    let s = c.args.s.now in
-    let g = c.in-Byte.is in (
-      omega (arith, laws.used_fits s (c.loop-i.i + 1) _ _ _ (omega arith) c.read_escape.ensures.1 g),
-      search rules,
-      c.loop-i.invariant.2,
-      laws.undoing_byte _ _ c.loop-i.invariant.3 c.put_byte-at.ensures (laws.undo_escape s c.loop-i.i _ _ (omega arith) c.if-b-eq92.true (sym (ap escape_of (rest s (c.loop-i.i + 1))) ∙ sym c.read_escape.ensures.0 ∙ g)),
-    )
-
-pub returns-in-Bad : goal.returns-in-Bad
-returns-in-Bad c =
-    let s = c.args.s.now in
-    absurd (laws.undoing_never c.loop-i.invariant.3 c.loop-i.invariant.2 (laws.undo_broken s c.loop-i.i (omega arith) c.if-b-eq92.true (sym (ap escape_of (rest s (c.loop-i.i + 1))) ∙ sym c.read_escape.ensures.0 ∙ c.in-Bad.is)))
-
-pub loop-i-preserved : goal.loop-i-preserved
-loop-i-preserved c =
-    let s = c.args.s.now in
-    (search rules, search rules, c.loop-i.invariant.2, laws.undoing_byte _ _ c.loop-i.invariant.3 c.put_byte-at-else-b-eq92.ensures (laws.undo_plain s c.loop-i.i (omega arith) c.if-b-eq92.false))
 
 pub returns : goal.returns
 returns c =
-    let s = c.args.s.now in
-    laws.undoing_end c.loop-i.invariant.3 (laws.undo_end s c.loop-i.i (omega arith))
+    let n = same_name _ _ _ c.put_plain.ensures in
+    let m = ap (λ (r : MutBor (List ℕ)). r.ghost_name) c.new-space.ensures.bytes in
+    let h = laws.undid _ _ _ _ (ap (λ (r : MutBor (List ℕ)). r.now) c.new-space.ensures.bytes) c.new-space.ensures.at c.put_plain.ensures in
+    search (rules, h, n, m)

@@ -1,5 +1,5 @@
 -- A negative number has 1 added, its sign changed, and 1 added to its size.
-use Rattle.texts.proofs.Pieces as laws
+use Rattle.texts.proofs.Overs as laws
 use Rattle.wording.proofs.Signs as signs
 use native.Mathlib.Omega.{arith}
 use Rattle.wording.proofs.output.put_signed.Goals as goal
@@ -23,10 +23,10 @@ overflow_add-z-then-z-lt0 c =
 pub returns-then-z-lt0 : goal.returns-then-z-lt0
 returns-then-z-lt0 c =
     let z = c.args.z in
-    laws.adds_as (signs.turned_text z (signs.below z c.ranges.z c.if-z-lt0.true)) (laws.adds_then c.put_byte-k.ensures c.put_decimal.ensures)
+    laws.over_as _ _ _ _ (signs.turned_text z (signs.below z c.ranges.z c.if-z-lt0.true)) (laws.over_then _ _ _ _ _ c.put_byte.ensures c.put_decimal.ensures)
 
-pub overflow_cast-z-2 : goal.overflow_cast-z-2
-overflow_cast-z-2 c = signs.not_below c.args.z c.ranges.z c.if-z-lt0.false
+pub overflow_cast-z-else-z-lt0 : goal.overflow_cast-z-else-z-lt0
+overflow_cast-z-else-z-lt0 c = signs.not_below c.args.z c.ranges.z c.if-z-lt0.false
 
-pub returns : goal.returns
-returns c = laws.adds_as (signs.not_below_text c.args.z c.ranges.z c.if-z-lt0.false) c.put_decimal-2.ensures
+pub returns-else-z-lt0 : goal.returns-else-z-lt0
+returns-else-z-lt0 c = laws.over_as _ _ _ _ (signs.not_below_text c.args.z c.ranges.z c.if-z-lt0.false) c.put_decimal-else-z-lt0.ensures

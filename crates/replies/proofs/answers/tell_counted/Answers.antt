@@ -1,9 +1,0 @@
--- A count, or the refusal.
-use Rattle.texts.proofs.Pieces as laws
-use Rattle.replies.proofs.answers.tell_counted.Goals as goal
-
-pub returns-in-Ok : goal.returns-in-Ok
-returns-in-Ok c = rw c.in-Ok.is (laws.adds_then c.put_ok-k.ensures c.put_decimal.ensures)
-
-pub returns-in-Err : goal.returns-in-Err
-returns-in-Err c = rw c.in-Err.is c.put_refusal.ensures

@@ -1,8 +1,0 @@
--- Piece by piece.
-use Rattle.texts.proofs.Pieces as laws
-use Rattle.replies.specs.Answers as told
-use Rattle.replies.proofs.answers.tell_hub.Goals as goal
-
-pub returns : goal.returns
-unfolding told.hub_answer
-returns c = laws.adds_then c.put_ok-k.ensures c.put_hub.ensures

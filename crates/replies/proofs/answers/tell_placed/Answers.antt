@@ -1,8 +1,0 @@
--- A position, or the refusal.
-use Rattle.replies.proofs.answers.tell_placed.Goals as goal
-
-pub returns-in-Ok : goal.returns-in-Ok
-returns-in-Ok c = rw c.in-Ok.is c.tell_fen.ensures
-
-pub returns-in-Err : goal.returns-in-Err
-returns-in-Err c = rw c.in-Err.is c.put_refusal.ensures
