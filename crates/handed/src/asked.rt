@@ -37,10 +37,10 @@ fn of_position(
         2 => show::tested(rt, movegen::movegen::has_quiet_moves(p)),
         3 => show::placed(rt, movegen::movegen::after(p, m)),
         4 => show::placed(rt, p.flipped()),
-        5 => show::counted(rt, perft::perft(p, given::small(n))),
+        5 => show::value(rt, perft::perft(p, given::small(n))),
         6 => show::divided(rt, perft::divide(p, given::small(n))),
-        7 => show::scored(rt, eval::evaluate(p)),
-        8 => show::scored(rt, w.evaluate(p)),
+        7 => show::value(rt, eval::evaluate(p)),
+        8 => show::value(rt, w.evaluate(p)),
         9 => show_games::begun(rt, Game::from_position(p)),
         10 => show::standing(rt, p.piece_at(given::small(n))),
         _ => parts(rt, p),
@@ -54,11 +54,11 @@ fn parts(rt: &impl Print, p: Position) -> io::Result<()> {
 
 fn of_number(rt: &impl Print, entry: u64, n: u64) -> io::Result<()> {
     match entry {
-        0 => show::numbered(rt, square::new(given::small(n))),
-        1 => show::numbered(rt, square::bit(given::small(n))),
-        2 => show::numbered(rt, square::row(given::small(n))),
-        3 => show::numbered(rt, square::file(given::small(n))),
-        _ => show::gathered(rt, bitboard::from_bits(n)),
+        0 => show::value(rt, square::new(given::small(n))),
+        1 => show::value(rt, square::bit(given::small(n))),
+        2 => show::value(rt, square::row(given::small(n))),
+        3 => show::value(rt, square::file(given::small(n))),
+        _ => show::value(rt, bitboard::from_bits(n)),
     }
 }
 
@@ -98,8 +98,8 @@ fn of_game(rt: &impl Print, entry: u64, n: u64, g: Game, m: Move) -> io::Result<
         0 => show_games::played(rt, g, g.play(m)),
         1 => show_games::judged(rt, g.outcome()),
         2 => show::listed(rt, g.legal_moves(n as usize)),
-        3 => show::counted(rt, g.repetitions()),
-        4 => show::counted(rt, g.reversible_plies()),
+        3 => show::value(rt, g.repetitions()),
+        4 => show::value(rt, g.reversible_plies()),
         5 => show::placed(rt, g.position()),
         _ => show::tested(rt, g.is_over()),
     }

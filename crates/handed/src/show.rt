@@ -3,11 +3,11 @@
 ghost use Rattle.std.specs.Prelude.{◌≤◌};
 
 use captures::moves::MoveList;
-use movegen::movegen::Listed;
 use movegen::perft::Divided;
 use positions::moves::Move;
 use positions::position::Position;
 use squares::refusal::Refusal;
+use std::fmt::Display;
 use std::io;
 use texts::fen;
 use squares::piece::Piece;
@@ -34,11 +34,21 @@ pub(crate) fn position(rt: &impl Print, p: Position) -> io::Result<()> {
     print!(rt; " {:016x}", p.hash)
 }
 
-pub(crate) fn answer(rt: &impl Print, a: Result<(), Refusal>) -> io::Result<()> {
+// Whether the call was refused.
+pub(crate) fn answer<T>(rt: &impl Print, a: &Result<T, Refusal>) -> io::Result<()> {
     match a {
-        Ok(()) => print!(rt; "done"),
-        Err(e) => refusal(rt, e),
+        Ok(_) => print!(rt; "done"),
+        Err(e) => refusal(rt, *e),
     }
+}
+
+// A value, or the refusal.
+pub(crate) fn value<T: Display + Drop>(rt: &impl Print, v: Result<T, Refusal>) -> io::Result<()> {
+    match v {
+        Ok(x) => print!(rt; "{x}")?,
+        Err(e) => refusal(rt, e)?,
+    }
+    println!(rt)
 }
 
 pub(crate) fn place(rt: &impl Print, p: Result<Position, Refusal>) -> io::Result<()> {
@@ -61,42 +71,10 @@ pub(crate) fn tested(rt: &impl Print, t: Result<bool, Refusal>) -> io::Result<()
     println!(rt)
 }
 
-pub(crate) fn counted(rt: &impl Print, c: Result<u64, Refusal>) -> io::Result<()> {
-    match c {
-        Ok(n) => print!(rt; "{n}")?,
-        Err(e) => refusal(rt, e)?,
-    }
-    println!(rt)
-}
-
-pub(crate) fn scored(rt: &impl Print, s: Result<i32, Refusal>) -> io::Result<()> {
-    match s {
-        Ok(z) => print!(rt; "{z}")?,
-        Err(e) => refusal(rt, e)?,
-    }
-    println!(rt)
-}
-
-pub(crate) fn numbered(rt: &impl Print, n: Result<u32, Refusal>) -> io::Result<()> {
-    match n {
-        Ok(k) => print!(rt; "{k}")?,
-        Err(e) => refusal(rt, e)?,
-    }
-    println!(rt)
-}
-
 pub(crate) fn standing(rt: &impl Print, s: Result<Option<Piece>, Refusal>) -> io::Result<()> {
     match s {
         Ok(Some(_)) => print!(rt; "a piece")?,
         Ok(None) => print!(rt; "nothing")?,
-        Err(e) => refusal(rt, e)?,
-    }
-    println!(rt)
-}
-
-pub(crate) fn gathered(rt: &impl Print, g: Result<Bitboard, Refusal>) -> io::Result<()> {
-    match g {
-        Ok(set) => print!(rt; "{set}")?,
         Err(e) => refusal(rt, e)?,
     }
     println!(rt)
@@ -148,20 +126,16 @@ fn blank(m: Move) -> bool {
 // How many of the 256 entries are blank.
 fn blank_moves(list: MoveList) -> u64 {
     let mut n: u64 = 0;
-    let mut i: usize = 0;
-    while i < 256 {
-        n += one(blank(list.moves[i]));
-        i += 1;
+    for m in list.moves {
+        n += one(blank(m));
     }
     n
 }
 
 fn zeros(counts: [u64; 256]) -> u64 {
     let mut n: u64 = 0;
-    let mut i: usize = 0;
-    while i < 256 {
-        n += one(counts[i] == 0);
-        i += 1;
+    for count in counts {
+        n += one(count == 0);
     }
     n
 }
@@ -170,19 +144,21 @@ fn list(rt: &impl Print, l: MoveList) -> io::Result<()> {
     print!(rt; ", {} moves, {} blank", l.len, blank_moves(l))
 }
 
-pub(crate) fn listed(rt: &impl Print, l: Listed) -> io::Result<()> {
-    let told = l.answer;
-    let moves = l.list;
-    answer(rt, told)?;
-    list(rt, moves)?;
+// A refused list has no moves.
+pub(crate) fn listed(rt: &impl Print, l: Result<MoveList, Refusal>) -> io::Result<()> {
+    answer(rt, &l)?;
+    list(rt, l.unwrap_or(MoveList::new()))?;
     println!(rt)
 }
 
-pub(crate) fn divided(rt: &impl Print, d: Divided) -> io::Result<()> {
-    let told = d.answer;
-    let moves = d.list;
-    let counts = d.counts;
-    answer(rt, told)?;
-    list(rt, moves)?;
-    println!(rt; ", {} counts 0", zeros(counts))
+// A refused count has no moves, and all counts are 0.
+pub(crate) fn divided(rt: &impl Print, d: Result<Divided, Refusal>) -> io::Result<()> {
+    answer(rt, &d)?;
+    let nothing = Divided {
+        list: MoveList::new(),
+        counts: [0; 256],
+    };
+    let divided = d.unwrap_or(nothing);
+    list(rt, divided.list)?;
+    println!(rt; ", {} counts 0", zeros(divided.counts))
 }

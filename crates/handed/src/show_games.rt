@@ -2,53 +2,34 @@
 // entries are blank. After a play the current position follows, or `as it came` where the game equals the one handed
 // in, unused entries included. After the play of a move text the move handed back comes last.
 use crate::show;
-use games::game::{Begun, Game, Outcome, Played, Termination};
+use games::game::{Game, Outcome, Termination};
 use gametexts::game::PlayedText;
-use positions::position;
 use positions::position::Position;
 use squares::piece::Color;
 use std::io;
 use squares::refusal::Refusal;
 
 pub(crate) fn blank_game() -> Game {
-    let b = Game::from_position(position::initial());
-    b.game
-}
-
-fn white(side: Color) -> bool {
-    match side {
-        Color::White => true,
-        Color::Black => false,
-    }
+    Game::new()
 }
 
 fn blank(p: Position) -> bool {
-    let side = p.side;
     let sets = (p.white == 0) & ((p.black == 0) & (p.kings == 0));
-    sets & (white(side) & (p.hash == 0))
-}
-
-fn equal(p: Position, q: Position) -> bool {
-    p.same(q) & (p.hash == q.hash)
+    sets & ((p.side == Color::White) & (p.hash == 0))
 }
 
 fn blank_positions(g: Game) -> u64 {
     let mut n: u64 = 0;
-    let mut i: usize = 0;
-    while i < 51 {
-        n += show::one(blank(g.kept[i]));
-        i += 1;
+    for p in g.kept {
+        n += show::one(blank(p));
     }
     n
 }
 
 // Whether the two games have the same 51 entries.
 fn same_entries(g: Game, h: Game) -> bool {
-    let mut i: usize = 0;
-    while i < 51 {
-        if equal(g.kept[i], h.kept[i]) {
-            i += 1;
-        } else {
+    for i in 0..51 {
+        if g.kept[i] != h.kept[i] {
             return false;
         }
     }
@@ -69,14 +50,13 @@ fn write_numbers(rt: &impl Print, len: usize, reversible: u32, material: u32) ->
     print!(rt; ", kept {len}, counters {reversible} {material}")
 }
 
-fn answered(rt: &impl Print, b: Begun) -> io::Result<()> {
-    let told = b.answer;
-    let g = b.game;
-    show::answer(rt, told)?;
-    game(rt, g)
+// Where a new game is refused, the empty one stands in its place.
+fn answered(rt: &impl Print, b: Result<Game, Refusal>) -> io::Result<()> {
+    show::answer(rt, &b)?;
+    game(rt, b.unwrap_or(Game::empty()))
 }
 
-pub(crate) fn begun(rt: &impl Print, b: Begun) -> io::Result<()> {
+pub(crate) fn begun(rt: &impl Print, b: Result<Game, Refusal>) -> io::Result<()> {
     answered(rt, b)?;
     println!(rt)
 }
@@ -89,15 +69,17 @@ fn codes(rt: &impl Print, answers: &[u8]) -> io::Result<()> {
 }
 
 // The game, then the lent answers as they are after the call.
-pub(crate) fn begun_with(rt: &impl Print, b: Begun, answers: &[u8]) -> io::Result<()> {
+pub(crate) fn begun_with(rt: &impl Print, b: Result<Game, Refusal>, answers: &[u8]) -> io::Result<()> {
     answered(rt, b)?;
     print!(rt; ", answers")?;
     codes(rt, answers)?;
     println!(rt)
 }
 
-fn after_play(rt: &impl Print, came: Game, told: Result<(), Refusal>, g: Game) -> io::Result<()> {
-    show::answer(rt, told)?;
+// A refused play leaves the game as it came.
+fn after_play(rt: &impl Print, came: Game, r: Result<Game, Refusal>) -> io::Result<()> {
+    show::answer(rt, &r)?;
+    let g = r.unwrap_or(came);
     game(rt, g)?;
     if same(came, g) {
         print!(rt; ", as it came")
@@ -107,21 +89,27 @@ fn after_play(rt: &impl Print, came: Game, told: Result<(), Refusal>, g: Game) -
     }
 }
 
-pub(crate) fn played(rt: &impl Print, came: Game, r: Played) -> io::Result<()> {
-    let told = r.answer;
-    let g = r.game;
-    after_play(rt, came, told, g)?;
+pub(crate) fn played(rt: &impl Print, came: Game, r: Result<Game, Refusal>) -> io::Result<()> {
+    after_play(rt, came, r)?;
     println!(rt)
 }
 
-// The same, then the move handed back.
-pub(crate) fn played_text(rt: &impl Print, came: Game, r: PlayedText) -> io::Result<()> {
-    let told = r.answer;
-    let g = r.game;
-    let m = r.mv;
-    after_play(rt, came, told, g)?;
+// The same, then the move handed back; where the text is refused, a blank one.
+pub(crate) fn played_text(
+    rt: &impl Print,
+    came: Game,
+    r: Result<PlayedText, Refusal>,
+) -> io::Result<()> {
+    let played = r.unwrap_or(PlayedText {
+        game: came,
+        mv: show::blank_move(),
+    });
+    match r {
+        Ok(_) => after_play(rt, came, Ok(played.game))?,
+        Err(e) => after_play(rt, came, Err(e))?,
+    }
     print!(rt; ", move ")?;
-    show::record(rt, m)?;
+    show::record(rt, played.mv)?;
     println!(rt)
 }
 

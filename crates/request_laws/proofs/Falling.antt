@@ -35,22 +35,22 @@ use Rattle.notation.specs.Choice.{fit_of}
 use Rattle.notation.specs.Notation.{read_move_of}
 use Rattle.notation.specs.declared.notation.Said.{Said}
 use Rattle.games.specs.Games.{blank_position, window_of, last_of, valid, stood, same_position, irreversible, material_after, judged_of, ended}
-use Rattle.games.specs.Play.{alone_of, fresh_of, new_of, appended_of, moved_of, refused_play, reached_of, play_of, outcome_of, stands_of, repetitions_of, reversible_plies_of, legal_moves_of}
-use Rattle.games.specs.declared.game.Begun.{Begun}
+use Rattle.games.specs.Demand3.{game_of}
+use Rattle.games.specs.Play.{empty_game, alone_of, fresh_of, new_of, appended_of, moved_of, reached_of, play_of, outcome_of, stands_of, repetitions_of, reversible_plies_of, legal_moves_of}
+use Rattle.captures.specs.declared.moves.MoveList.{MoveList}
 use Rattle.games.specs.declared.game.Game.{Game}
-use Rattle.games.specs.declared.game.Played.{Played}
 use Rattle.games.specs.declared.game.Termination.{Termination}
 use Rattle.games.specs.declared.game.Termination.TheVariants.{NoMoves, Repetition, TwentyFiveMoves, SixteenMoves, FiveMoves}
 use Rattle.games.proofs.Stands.{room}
 use Rattle.games.proofs.Valid.{valid_says, material_fits, alone_last, alone_long, alone_valid, more_last, more_long, more_valid}
-use Rattle.gametexts.specs.Texts.{beside, refused_text, play_found, play_said, play_heard, play_str_of}
+use Rattle.gametexts.specs.Texts.{beside, play_found, play_said, play_heard, play_str_of}
 use Rattle.gametexts.specs.declared.game.PlayedText.{PlayedText}
 use Rattle.wording.specs.Escapes.{undone}
 use Rattle.wording.specs.Output.{decimal, number_word}
 use Rattle.texts.specs.Bytes.{cons_head, parts_at}
 use Rattle.replies.specs.Answers.{move_word}
-use Rattle.replies.specs.States.{winner_word, ending_word, judged_word, count_word, plies_text, state_text, stand_word, length_word, moves_word, end_text}
-use Rattle.requests.specs.Plays.{words_of, record_of, play_text_of, play_move, play_record_of, play_word_of, text_told, record_told, word_told, game_text}
+use Rattle.replies.specs.States.{winner_word, ending_word, judged_word, count_word, plies_text, state_text, stand_word, moves_word, end_text}
+use Rattle.requests.specs.Plays.{after_word, words_of, record_of, play_text_of, play_move, play_record_of, play_word_of, text_told, record_told, word_told, game_text}
 use Rattle.requests.specs.declared.plays.Given.{Given}
 use Rattle.requests.specs.declared.plays.Given.TheVariants as given
 use Rattle.request_laws.proofs.Lengths.{decimal_most, decimal_two, fen_most, move_by}
@@ -76,11 +76,11 @@ unfolding positions.computed
 blank_sound = refl
 
 -- every game that is begun, the one of a refusal too
-pub new_good : (p : Position) → Good (new_of p).game
-unfolding new_of fresh_of
+pub new_good : (p : Position) → Good (game_of (new_of p))
+unfolding new_of fresh_of empty_game
 new_good p = go (sound p) refl
   where
-    go : (t : Bool) → sound p ≡ t → Good (cond {A = Begun} t (record { answer = Ok tt; game = alone_of p 0 }) (record { answer = Err BadPosition; game = alone_of blank_position 0 })).game
+    go : (t : Bool) → sound p ≡ t → Good (game_of (cond t (Ok (alone_of p 0)) (Err BadPosition)))
     go true e = alone_good p 0 e (omega arith)
     go false e = alone_good blank_position 0 blank_sound (omega arith)
 
@@ -116,16 +116,16 @@ record Went (g : Game) (m : Move) (n : Game) : Type 0 where
   fallen : pieces n + size m.captured ≡ pieces g
 
 data Case (g : Game) (m : Move) : Type 0 where
-  refused : (e : Refusal) → play_of g m ≡ refused_play g e → Case g m
-  done : (n : Game) → play_of g m ≡ record { answer = Ok tt; game = n } → Went g m n → Case g m
+  refused : (e : Refusal) → play_of g m ≡ Err e → Case g m
+  done : (n : Game) → play_of g m ≡ Ok n → Went g m n → Case g m
 
 module _ (g : Game) (r : Good g) (m : Move) where
-  abbrev told : Bool → Bool → Played
-  told q o = cond q (cond o (refused_play g GameOver) (reached_of g m (after_of (last_of g) m))) (refused_play g NoSuchSquare)
+  abbrev told : Bool → Bool → Result Game Refusal
+  told q o = cond q (cond o (Err GameOver) (reached_of g m (after_of (last_of g) m))) (Err NoSuchSquare)
 
   play_at : (q o : Bool) → squares_of m ≡ q → ended (judged_of g) ≡ o → play_of g m ≡ told q o
   unfolding play_of
-  play_at q o e f = ap (λ (t : Bool). cond t (told (squares_of m) (ended (judged_of g))) (refused_play g BadGame)) r.valid ∙ ap₂ told e f
+  play_at q o e f = ap (λ (t : Bool). cond t (told (squares_of m) (ended (judged_of g))) (Err BadGame)) r.valid ∙ ap₂ told e f
 
   went : ended (judged_of g) ≡ false → listed (legal (board_of (last_of g))) m ≡ true → Went g m (moved_of g m (position_of (successor (board_of (last_of g)) m)))
   unfolding pieces
@@ -226,9 +226,9 @@ pub record Word (g : Game) (told : List ℕ) (n : Game) : Type 0 where
   pub cost : length told + 3 * pieces n ≤ 22 + 3 * pieces g
 
 -- the word plays a move, or it is refused
-data Case_of (g : Game) (a : PlayedText) : Type 0 where
+data Case_of (g : Game) (a : Result PlayedText Refusal) : Type 0 where
   plays : (m : Move) → a ≡ beside m (play_of g m) → Case_of g a
-  leaves : (e : Refusal) → a ≡ refused_text g e → Case_of g a
+  leaves : (e : Refusal) → a ≡ Err e → Case_of g a
 
 module _ (g : Game) (r : Good g) where
   str_is : (t : List ℕ) → play_str_of g t ≡ play_heard g (read_move_of t)
@@ -239,7 +239,7 @@ module _ (g : Game) (r : Good g) where
   unfolding play_said
   said_case h = go (ended (judged_of g)) (fit_of (last_of g) h)
     where
-      go : (o : Bool) (f : Result Move Refusal) → Case_of g (cond o (refused_text g GameOver) (play_found g f))
+      go : (o : Bool) (f : Result Move Refusal) → Case_of g (cond o (Err GameOver) (play_found g f))
       go true f = leaves GameOver refl
       go false (Ok m) = plays m refl
       go false (Err e) = leaves e refl
@@ -260,11 +260,11 @@ module _ (g : Game) (r : Good g) where
       go (Some m) = plays m refl
       go None = leaves BadMoveText refl
 
-  text_refused : (e : Refusal) (a : PlayedText) → a ≡ refused_text g e → Word g (text_told a) a.game
+  text_refused : (e : Refusal) (a : Result PlayedText Refusal) → a ≡ Err e → Word g (text_told a) (after_word g a)
   unfolding text_told number_word
   text_refused e a q = rw q (record { good = r; cost = omega (arith, decimal_most (number_of e)) })
 
-  text_done : (m : Move) (n : Game) → Went g m n → (a : PlayedText) → a ≡ record { answer = Ok tt; game = n; mv = m } → Word g (text_told a) a.game
+  text_done : (m : Move) (n : Game) → Went g m n → (a : Result PlayedText Refusal) → a ≡ Ok (record { game = n; mv = m }) → Word g (text_told a) (after_word g a)
   unfolding text_told
   text_done m n v a q =
       rw q
@@ -273,27 +273,27 @@ module _ (g : Game) (r : Good g) where
         cost = omega (arith, length-append (move_word m) (state_text 47 n), move_by m, state_short n v.good 47, v.fallen);
       })
 
-  record_refused : (e : Refusal) (a : PlayedText) → a ≡ refused_text g e → Word g (record_told a) a.game
+  record_refused : (e : Refusal) (a : Result PlayedText Refusal) → a ≡ Err e → Word g (record_told a) (after_word g a)
   unfolding record_told
   record_refused e a q = rw q (record { good = r; cost = omega (arith, decimal_most (number_of e)) })
 
-  record_done : (m : Move) (n : Game) → Went g m n → (a : PlayedText) → a ≡ record { answer = Ok tt; game = n; mv = m } → Word g (record_told a) a.game
+  record_done : (m : Move) (n : Game) → Went g m n → (a : Result PlayedText Refusal) → a ≡ Ok (record { game = n; mv = m }) → Word g (record_told a) (after_word g a)
   unfolding record_told
   record_done m n v a q = rw q (record { good = v.good; cost = omega (arith, decimal_most 0, v.fallen) })
 
   -- what is written of a word, by what became of it
-  module _ (told : PlayedText → List ℕ)
-      (refused-cost : (e : Refusal) (a : PlayedText) → a ≡ refused_text g e → Word g (told a) a.game)
-      (done-cost : (m : Move) (n : Game) → Went g m n → (a : PlayedText) → a ≡ record { answer = Ok tt; game = n; mv = m } → Word g (told a) a.game) where
-    by_case : (a : PlayedText) → Case_of g a → Word g (told a) a.game
+  module _ (told : Result PlayedText Refusal → List ℕ)
+      (refused-cost : (e : Refusal) (a : Result PlayedText Refusal) → a ≡ Err e → Word g (told a) (after_word g a))
+      (done-cost : (m : Move) (n : Game) → Went g m n → (a : Result PlayedText Refusal) → a ≡ Ok (record { game = n; mv = m }) → Word g (told a) (after_word g a)) where
+    by_case : (a : Result PlayedText Refusal) → Case_of g a → Word g (told a) (after_word g a)
     by_case a (plays m p) = go (play_case g r m)
       where
-        go : Case g m → Word g (told a) a.game
+        go : Case g m → Word g (told a) (after_word g a)
         go (refused e q) = refused-cost e a (p ∙ ap (beside m) q)
         go (done n q v) = done-cost m n v a (p ∙ ap (beside m) q)
     by_case a (leaves e p) = refused-cost e a p
 
-  pub word_cost : (h : Given) (w : List ℕ) → Word g (word_told h (play_word_of h g w)) (play_word_of h g w).game
+  pub word_cost : (h : Given) (w : List ℕ) → Word g (word_told h (play_word_of h g w)) (after_word g (play_word_of h g w))
   word_cost given.Text w = by_case text_told text_refused text_done (play_text_of g w) (text_case w)
   word_cost given.Record w = by_case record_told record_refused record_done (play_record_of g w) (record_case w)
 
@@ -302,25 +302,25 @@ stand_most : (p : Result Position Refusal) → length (stand_word p) ≤ 196
 stand_most (Ok p) = fen_most p
 stand_most (Err e) = omega arith
 
-length_most : (a : Result Unit Refusal) (n : ℕ) → length (length_word a n) ≤ 21
+length_most : (l : Result MoveList Refusal) → length (moves_word l) ≤ 21
 unfolding number_word
-length_most (Ok tt) n = omega (arith, decimal_most n)
-length_most (Err e) n = omega (arith, decimal_most (number_of e))
+length_most (Ok l) = omega (arith, decimal_most l.len)
+length_most (Err e) = omega (arith, decimal_most (number_of e))
 
 end_most : (g : Game) → length (end_text g) ≤ 291
-unfolding end_text moves_word
+unfolding end_text
 end_most g =
     let l = legal_moves_of g 256 in
     let s = stand_word (stands_of g) in
     let t = state_text 32 g in
-    let w = length_word l.answer l.list.len in
+    let w = moves_word l in
     omega (
       arith,
       length-append s (t ++ (32 ∷ w)),
       length-append t (32 ∷ w),
       stand_most (stands_of g),
       state_most 32 g,
-      length_most l.answer l.list.len,
+      length_most l,
     )
 
 pub game_cost : (h : Given) (g : Game) → Good g → (ws : List (List ℕ)) → length (game_text h g ws) ≤ 22 * length ws + 3 * pieces g + 291
@@ -329,8 +329,8 @@ game_cost h g r [] = omega (arith, end_most g)
 game_cost h g r (w ∷ ws) =
     let a = play_word_of h g w in
     let v = word_cost g r h w in
-    let i = game_cost h a.game v.good ws in
-    omega (arith, length-append (word_told h a) (game_text h a.game ws), v.cost, i)
+    let i = game_cost h (after_word g a) v.good ws in
+    omega (arith, length-append (word_told h a) (game_text h (after_word g a) ws), v.cost, i)
 
 pub pieces_most : (g : Game) → pieces g ≤ 128
 unfolding pieces pieces_on

@@ -31,12 +31,12 @@ use Rattle.texts.proofs.HubTrip.{hub_length}
 use Rattle.notation.specs.MoveText.{separator_of, named, move_text}
 use Rattle.texts.proofs.Writers.{joined_short}
 use Rattle.notation.proofs.MoveTexts.{move_short}
-use Rattle.movegen.specs.declared.movegen.Listed.{Listed}
+use Rattle.captures.specs.declared.moves.MoveList.{MoveList}
 use Rattle.movegen.specs.declared.perft.Divided.{Divided}
 use Rattle.wording.specs.Output.{places, decimal, hex, hash, signed, refusal_text, flaw_word, bad}
 use Rattle.wording.specs.declared.output.Flaw.{Flaw}
 use Rattle.wording.specs.declared.output.Flaw.TheVariants as flaw
-use Rattle.replies.specs.Answers.{fen_word, hub_word, move_word, moves_text, counts_text, answering, list_answer, divided_answer}
+use Rattle.replies.specs.Answers.{fen_word, hub_word, move_word, moves_text, counts_text, list_answer, divided_answer}
 
 -- ---- numbers
 digits_long : (b k n : ℕ) → length (io.last_digits b k n) ≡ k
@@ -164,30 +164,14 @@ counts_most l c (suc n) =
       decimal_most (get_or c n 0),
     )
 
-answering_most : (a : Result Unit Refusal) (t : List ℕ) → length (answering a t) ≤ 45 + length t
-answering_most (Ok tt) t = omega arith
-answering_most (Err e) t = omega (arith, refusal_most e)
+pub list_most : (l : Result MoveList Refusal) → length (list_answer l) ≤ 45380
+list_most (Ok l) =
+    let t = moves_text l.moves (min l.len 256) in
+    omega (arith, length-append (decimal l.len) t, decimal_most l.len, moves_most l.moves (min l.len 256))
+list_most (Err e) = omega (arith, refusal_most e)
 
-pub list_most : (l : Listed) → length (list_answer l) ≤ 45380
-unfolding list_answer
-list_most l =
-    let t = moves_text l.list.moves (min l.list.len 256) in
-    omega (
-      arith,
-      answering_most l.answer (decimal l.list.len ++ t),
-      length-append (decimal l.list.len) t,
-      decimal_most l.list.len,
-      moves_most l.list.moves (min l.list.len 256),
-    )
-
-pub divided_most : (d : Divided) → length (divided_answer d) ≤ 45380
-unfolding divided_answer
-divided_most d =
+pub divided_most : (d : Result Divided Refusal) → length (divided_answer d) ≤ 45380
+divided_most (Ok d) =
     let t = counts_text d.list.moves d.counts (min d.list.len 256) in
-    omega (
-      arith,
-      answering_most d.answer (decimal d.list.len ++ t),
-      length-append (decimal d.list.len) t,
-      decimal_most d.list.len,
-      counts_most d.list.moves d.counts (min d.list.len 256),
-    )
+    omega (arith, length-append (decimal d.list.len) t, decimal_most d.list.len, counts_most d.list.moves d.counts (min d.list.len 256))
+divided_most (Err e) = omega (arith, refusal_most e)

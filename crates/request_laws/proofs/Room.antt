@@ -19,6 +19,7 @@ use Rattle.scores.specs.Score.{default, evaluate_of}
 use Rattle.scores.specs.declared.eval.Classical.{Classical}
 use Rattle.movegen.specs.Counts.{perft_of, divide_of}
 use Rattle.movegen.specs.Lists.{legal_moves_of, has_captures_of, has_quiet_moves_of, after_of}
+use Rattle.games.specs.Demand3.{game_of}
 use Rattle.games.specs.Play.{new_of, outcome_of}
 use Rattle.texts.specs.Bytes.{is, index_of}
 use Rattle.texts.proofs.Cuts.{after_is}
@@ -173,7 +174,7 @@ evalw_most arg = cond_most (eqb (blanks_in arg) 5) _ flaw.Words 45380 (omega ari
     go None = omega (arith, bad_most flaw.Number)
 
 outcome_most : (x : Result Position Refusal) → length (outcome_request x) ≤ 45380
-outcome_most x = about x (λ q. ok (judged_word (outcome_of (new_of q).game))) (λ q. omega (arith, judged_most (outcome_of (new_of q).game)))
+outcome_most x = about x (λ q. ok (judged_word (outcome_of (game_of (new_of q))))) (λ q. omega (arith, judged_most (outcome_of (game_of (new_of q)))))
 
 -- ---- squares and sets
 number_most : (x : Result ℕ Refusal) → length (numbered_word x) ≤ 20
@@ -207,7 +208,7 @@ parts_most arg = cond_most (eqb (blanks_in arg) 3) (sets_answer arg) flaw.Words 
 -- ---- games, the only long answers
 game_most : (h : Given) (p : Position) (s : List ℕ) → length s ≤ longest → length (game_answer h p s) ≤ 1442469
 unfolding game_answer
-game_most h p s l = omega (arith, game_cost h (new_of p).game (new_good p) (words_of s), pieces_most (new_of p).game, words_most s)
+game_most h p s l = omega (arith, game_cost h (game_of (new_of p)) (new_good p) (words_of s), pieces_most (game_of (new_of p)), words_most s)
 
 play_most : (x : Result Position Refusal) (s : List ℕ) → length s ≤ longest → length (play_request x s) ≤ 1442469
 play_most x s l = on_placed_lem x (λ q. game_answer given.Text q s) 1442469 (omega arith) (λ q. game_most given.Text q s l)

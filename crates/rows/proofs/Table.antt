@@ -20,15 +20,14 @@ use Rattle.positions.specs.declared.moves.Move.{Move}
 use Rattle.positions.specs.declared.position.Position.{Position}
 use Rattle.captures.specs.Lists.{list_of}
 use Rattle.movegen.specs.Counts.{perft_of}
-use Rattle.movegen.specs.Lists.{refused_list, legal_moves_of, after_of}
-use Rattle.movegen.specs.declared.movegen.Listed.{Listed}
+use Rattle.movegen.specs.Lists.{legal_moves_of, after_of}
+use Rattle.captures.specs.declared.moves.MoveList.{MoveList}
 use Rattle.scores.specs.Computed as scores
 use Rattle.texts.specs.Bytes.{bytes}
 use Rattle.texts.specs.Fen.{from_fen_of}
 use Rattle.games.specs.Computed as games
 use Rattle.games.specs.Games.{blank_position, won}
-use Rattle.games.specs.Play.{not_begun, new_of, outcome_of}
-use Rattle.games.specs.declared.game.Begun.{Begun}
+use Rattle.games.specs.Play.{empty_game, new_of, outcome_of}
 use Rattle.games.specs.declared.game.Game.{Game}
 use Rattle.gametexts.specs.Texts.{game_from_fen_of}
 use Rattle.notation.specs.Choice.{parse_move_of}
@@ -43,7 +42,7 @@ pub data Row : Type 0 where
   -- the refusal's number and square
   refused : String → ℕ → ℕ → Row
   -- the list of its moves, with this limit
-  moves : String → ℕ → Listed → Row
+  moves : String → ℕ → Result MoveList Refusal → Row
   -- the depth count at this depth
   paths : String → ℕ → Result ℕ Refusal → Row
   -- what a move text means on it
@@ -65,10 +64,10 @@ abbrev of : Result Position Refusal → (Position → Type 0) → Type 0
 of (Ok p) P = P p
 of (Err e) P = ⊥
 
--- the game is begun without refusal and has this outcome. Both are said, since a refused new game has an outcome too:
--- it is the game of the empty board
-abbrev begins : Begun → Result (Option Outcome) Refusal → Type 0
-begins b a = (b.answer ≡ Ok tt) × (outcome_of b.game ≡ a)
+-- the game is begun without refusal and has this outcome
+abbrev begins : Result Game Refusal → Result (Option Outcome) Refusal → Type 0
+begins (Ok g) a = outcome_of g ≡ a
+begins (Err e) a = ⊥
 
 abbrev read : String → Result Position Refusal
 read t = from_fen_of (bytes t)
@@ -91,8 +90,8 @@ All (r ∷ rs) = Holds r × All rs
 abbrev at : Board → Result Position Refusal
 at b = Ok (position_of b)
 
-abbrev these : List Move → Listed
-these l = record { answer = Ok tt; list = list_of l }
+abbrev these : List Move → Result MoveList Refusal
+these l = Ok (list_of l)
 
 -- a move that takes the pieces on these squares
 abbrev set : List ℕ → ℕ
@@ -115,7 +114,7 @@ p1 =
 abbrev pub p2_p5 : List Row
 p2_p5 =
     reads "W" (at (board 0 0 0 White))
-    ∷ ends "W" (won Black)
+    ∷ ends "W" (Ok (Some (won Black)))
     ∷ refused "W:" 3 0
     ∷ reads "W:WKK7" (at (board (single 7) 0 (single 7) White))
     ∷ refused "W:WKK 7" 4 0
@@ -126,7 +125,7 @@ p2_p5 =
 abbrev pub p6_p9 : List Row
 p6_p9 =
     moves "W:W28:B22,23" 256 (these (takes 28 17 (22 ∷ []) ∷ takes 28 19 (23 ∷ []) ∷ []))
-    ∷ moves "W:W28:B22,23" 1 (refused_list (refusal 17))
+    ∷ moves "W:W28:B22,23" 1 (Err (refusal 17))
     ∷ moves "W:W28:B13,22,23" 256 (these (takes 28 8 (13 ∷ 23 ∷ []) ∷ []))
     ∷ moves "W:W11:B7,8" 256 (these (takes 11 13 (7 ∷ 8 ∷ []) ∷ []))
     ∷ after "W:W11:B7,8" (takes 11 13 (7 ∷ 8 ∷ [])) (at (board (single 13) 0 0 Black))
@@ -154,10 +153,11 @@ table = (
   (refl, tt),
 )
 
--- P2's board is also what a refused new game is begun from: 51 blank positions, number 1, counters 0
+-- P2's board is also that of the empty game, which stands where a new game was refused: 51 blank positions, number 1,
+-- counters 0
 abbrev blank_game : Game
 blank_game = record { kept = replicate 51 blank_position; len = 1; reversible = 0; material = 0 }
 
-pub not_begun_lem : (e : Refusal) → ((new_of (position_of (board 0 0 0 White))).game ≡ blank_game) × ((not_begun e).game ≡ blank_game)
+pub not_begun_lem : (new_of (position_of (board 0 0 0 White)) ≡ Ok blank_game) × (empty_game ≡ blank_game)
 unfolding games.computed
-not_begun_lem e = (refl, refl)
+not_begun_lem = (refl, refl)
