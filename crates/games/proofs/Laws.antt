@@ -1,5 +1,6 @@
 -- Demand 3 for every sound start and every list of move records: one play at a time the game's answer is the book's, and the
 -- game stands for the book again.
+use Rattle.std.specs.Prelude.{Err, Ok}
 use mathlib.Core.Path.{◌≡◌, refl, sym, ap, ap₂, ◌∙◌}
 use Prim.Native.Nat.{ℕ, suc, ◌+◌}
 use mathlib.Core.Bool.{Bool, true, false, not, cond}
@@ -11,7 +12,6 @@ use Rattle.squares.specs.Refusals.{answer_number_of, number_of, refusal}
 use Rattle.squares.specs.Sets.{size}
 use Rattle.squares.specs.declared.refusal.Refusal.{Refusal}
 use Rattle.squares.specs.declared.refusal.Refusal.TheVariants.{NoSuchSquare, BadGame, GameOver, NoMoveFits, TooManyMoves}
-use Rattle.squares.specs.declared.refusal.Answer.TheVariants as answer
 use Rattle.positions.specs.Acceptance.{sound}
 use Rattle.positions.specs.Boards.{Board, board_of, men_of, kings_of}
 use Rattle.positions.specs.Hash.{position_of}
@@ -19,7 +19,6 @@ use Rattle.positions.specs.Moves.{squares_of}
 use Rattle.positions.specs.Successor.{successor}
 use Rattle.positions.specs.declared.moves.Move.{Move}
 use Rattle.positions.specs.declared.position.Position.{Position}
-use Rattle.positions.specs.declared.position.Placed.TheVariants as placed
 use Rattle.positions.proofs.Accepts.{says_sound, position_sound}
 use Rattle.positions.proofs.Kept.{successor_accepted}
 use Rattle.positions.proofs.Records.{capture_is}
@@ -33,7 +32,6 @@ use Rattle.games.specs.Demand3.{answers_to, game_after, heard_of, heard, told_as
 use Rattle.games.specs.Games.{last_of, valid, stood, judged_of, ended}
 use Rattle.games.specs.Play.{fresh_of, not_begun, new_of, moved_of, refused_play, reached_of, play_of, outcome_of}
 use Rattle.games.specs.declared.game.Game.{Game}
-use Rattle.games.specs.declared.game.Judged.TheVariants as judged
 use Rattle.games.specs.declared.game.Played.{Played}
 use Rattle.games.proofs.BookPlay.{meets, next_of, accepted_listed}
 use Rattle.games.proofs.RefusedPlay.{refused_stands}
@@ -70,7 +68,7 @@ module _ (start : Board) (g : Game) (b : Book) (r : Stands start g b) (m : Move)
   }
 
   -- accepted: the successor stands in both
-  accepted : (q : Position) → board_of q ≡ reached b m → play_of g m ≡ record { answer = answer.Done; game = moved_of g m q } → book_answer b m ≡ 0
+  accepted : (q : Position) → board_of q ≡ reached b m → play_of g m ≡ record { answer = Ok tt; game = moved_of g m q } → book_answer b m ≡ 0
       → ended (judged_of g) ≡ false → Legal (standing b) m → sound q ≡ true → Step start g b m
   accepted q e p k o h s = record {
     answer = ap (λ (x : Played). answer_number_of x.answer) p ∙ sym k;
@@ -108,7 +106,7 @@ module _ (start : Board) (g : Game) (b : Book) (r : Stands start g b) (m : Move)
           let next = successor_accepted (standing b) m a (legal_playable (standing b) fair m move) in
           accepted (position_of (successor (standing b) m)) (unfold reached in refl)
           (play_is g m r.valid true false q f
-          ∙ ap (reached_of g m) (after_one (last_of g) r.sound m q (rw (← board_is) h) (rw (← board_is) k) ∙ ap (λ (x : Board). placed.Position (position_of (successor x m))) (sym board_is)))
+          ∙ ap (reached_of g m) (after_one (last_of g) r.sound m q (rw (← board_is) h) (rw (← board_is) k) ∙ ap (λ (x : Board). Ok (position_of (successor x m))) (sym board_is)))
           (meets b m true false false true (sym (squares_agree m) ∙ q) (over_is false f) h k)
           f move (says_sound (position_of (successor (standing b) m)) (position_sound (successor (standing b) m) next))
 
@@ -145,13 +143,13 @@ runs start g b r (m ∷ ms) =
     }
 
 -- ---- the law
-pub new_is : (p : Position) → sound p ≡ true → new_of p ≡ record { answer = answer.Done; game = fresh_of p }
+pub new_is : (p : Position) → sound p ≡ true → new_of p ≡ record { answer = Ok tt; game = fresh_of p }
 unfolding new_of
-new_is p s = ap (λ (t : Bool). cond t (record { answer = answer.Done; game = fresh_of p }) (not_begun (refusal 12))) s
+new_is p s = ap (λ (t : Bool). cond t (record { answer = Ok tt; game = fresh_of p }) (not_begun (refusal 12))) s
 
 outcome_is : (g : Game) → valid g ≡ true → outcome_of g ≡ judged_of g
 unfolding outcome_of
-outcome_is g v = ap (λ (t : Bool). cond t (judged_of g) (judged.Refused BadGame)) v
+outcome_is g v = ap (λ (t : Bool). cond t (judged_of g) (Err BadGame)) v
 
 pub demand3 : (start : Position) → sound start ≡ true → (moves : List Move) → Demand3 start moves (heard start moves)
 unfolding heard_of

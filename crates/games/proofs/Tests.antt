@@ -1,4 +1,5 @@
 -- The tests of the game and those of the book agree on an accepted board: squares of a record, king endings, the outcome.
+use Rattle.std.specs.Prelude.{None, Ok}
 use mathlib.Core.Path.{◌≡◌, refl, sym, ap, ap₂, ◌∙◌}
 use Prim.Native.Nat.{ℕ, zero, suc, ◌+◌, ◌-◌, ◌^◌, ◌<◌, ◌≤◌, min}
 use native.Mathlib.Nat.{min-eq_left, min-eq_right}
@@ -30,7 +31,6 @@ use Rattle.games.specs.Book as book
 use Rattle.games.specs.Book.{against, three_pieces, two_pieces, first_to_hold, tests_at, numbers_square, on_the_board}
 use Rattle.games.specs.Demand3.{told_as}
 use Rattle.games.specs.Games.{can_move, lone_king, faces, won, drawn, king_ending, judge}
-use Rattle.games.specs.declared.game.Judged.TheVariants.{Going}
 use Rattle.games.specs.declared.game.Termination.TheVariants.{Repetition, TwentyFiveMoves, SixteenMoves, FiveMoves}
 
 -- ---- refusal 11
@@ -153,7 +153,7 @@ stopped k n h = go (leb 32 n) refl
 -- ---- the outcome
 -- both go through the tests in the same order
 in_order : (c : Color) (x y z u v : Bool)
-    → cond x (cond y (drawn Repetition) (cond z (drawn TwentyFiveMoves) (cond u (drawn SixteenMoves) (cond v (drawn FiveMoves) Going)))) (won (other c))
+    → cond x (cond y (drawn Repetition) (cond z (drawn TwentyFiveMoves) (cond u (drawn SixteenMoves) (cond v (drawn FiveMoves) (Ok None))))) (won (other c))
     ≡ told_as (first_to_hold (book.lost c (not x) ∷ book.draw Repetition y ∷ book.draw TwentyFiveMoves z ∷ book.draw SixteenMoves u ∷ book.draw FiveMoves v ∷ []))
 unfolding first_to_hold
 in_order c false y z u v = refl

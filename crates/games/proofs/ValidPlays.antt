@@ -1,4 +1,5 @@
 -- A valid game stays valid: whatever is played on it, accepted or refused, no later call meets 13.
+use Rattle.std.specs.Prelude.{Err, Ok, Result}
 use mathlib.Core.Path.{◌≡◌, refl}
 use native.Mathlib.Omega.{arith}
 use mathlib.Core.Bool.{Bool, true, false, cond}
@@ -9,8 +10,6 @@ use Rattle.positions.specs.Acceptance.{sound}
 use Rattle.positions.specs.Boards.{board_of}
 use Rattle.positions.specs.Moves.{squares_of}
 use Rattle.positions.specs.declared.moves.Move.{Move}
-use Rattle.positions.specs.declared.position.Placed.{Placed}
-use Rattle.positions.specs.declared.position.Placed.TheVariants as placed
 use Rattle.positions.specs.declared.position.Position.{Position}
 use Rattle.positions.proofs.Accepts.{says_sound}
 use Rattle.movegen.specs.Lists.{after_of}
@@ -23,6 +22,7 @@ use Rattle.games.specs.declared.game.Played.{Played}
 use Rattle.games.proofs.Laws.{new_is}
 use Rattle.games.proofs.Stands.{room}
 use Rattle.games.proofs.Valid.{valid_says, material_fits, alone_long, alone_valid, more_long, more_valid}
+use Rattle.squares.specs.declared.refusal.Refusal.{Refusal}
 
 -- a game that passes the test of refusal 13; its array has 51 entries, as every value of the type has
 pub record Fit (g : Game) : Type 0 where
@@ -49,13 +49,13 @@ module _ (g : Game) (f : Fit g) (m : Move) where
   unfolding play_of
   play_fit = go (valid g) (squares_of m) (ended (judged_of g)) refl (after_of (last_of g) m) refl
     where
-      go : (v t o : Bool) → ended (judged_of g) ≡ o → (a : Placed) → after_of (last_of g) m ≡ a
+      go : (v t o : Bool) → ended (judged_of g) ≡ o → (a : Result Position Refusal) → after_of (last_of g) m ≡ a
           → Fit (cond {A = Played} v (cond t (cond o (refused_play g (refusal 14)) (reached_of g m a)) (refused_play g (refusal 11))) (refused_play g (refusal 13))).game
       go false t o e a h = f
       go true false o e a h = f
       go true true true e a h = f
-      go true true false e (placed.Refused x) h = f
-      go true true false e (placed.Position q) h = moved_fit q (says_sound q (after_sound (last_of g) q m h)) e
+      go true true false e (Err x) h = f
+      go true true false e (Ok q) h = moved_fit q (says_sound q (after_sound (last_of g) q m h)) e
 
 -- the game after any list of plays
 pub plays_fit : (g : Game) → Fit g → (moves : List Move) → Fit (game_after play_of g moves)

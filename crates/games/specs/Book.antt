@@ -3,7 +3,7 @@
 -- colour its promotions and its pieces taken. From these alone it says which moves are accepted and how the game ends.
 -- Demand3.antt claims that the program says the same. The book shares three things with the program's definitions:
 -- boards, the list of legal moves, and the board after a move.
-use Rattle.std.specs.Prelude.{ℕ, suc, ◌+◌, Bool, true, false, not, cond, ◌&&◌, ◌||◌, List, [], ◌∷◌, ◌++◌, eqb, leb, ltb, length}
+use Rattle.std.specs.Prelude.{ℕ, suc, ◌+◌, Bool, true, false, not, cond, ◌&&◌, ◌||◌, List, [], ◌∷◌, ◌++◌, eqb, leb, ltb, length, None, Some}
 use Rattle.std.specs.Int.Bits.{bit_and}
 use Rattle.squares.specs.Sets.{has, size}
 use Rattle.squares.specs.Squares.{all, bit_of, promotion}
@@ -17,7 +17,6 @@ use Rattle.rules.specs.Ordered.{legal, listed}
 use Rattle.games.specs.declared.game.Outcome.{Outcome}
 use Rattle.games.specs.declared.game.Termination.{Termination}
 use Rattle.games.specs.declared.game.Termination.TheVariants.{NoMoves, Repetition, TwentyFiveMoves, SixteenMoves, FiveMoves}
-use Rattle.games.specs.declared.game.Winner.TheVariants.{Side, Nobody}
 
 -- what is counted for one colour: how many of its men became kings, how many of its men and kings were taken
 pub record Tally : Type 0 where
@@ -91,11 +90,11 @@ pub record Test : Type 0 where
 
 -- where t holds, c cannot move and the other side has won
 abbrev pub lost : Color → Bool → Test
-lost c t = record { holds = t; gives = record { winner = Side (other c); termination = NoMoves } }
+lost c t = record { holds = t; gives = record { winner = Some (other c); termination = NoMoves } }
 
 -- where t holds, the game is drawn for this reason
 abbrev pub draw : Termination → Bool → Test
-draw why t = record { holds = t; gives = record { winner = Nobody; termination = why } }
+draw why t = record { holds = t; gives = record { winner = None; termination = why } }
 
 -- the first test that holds gives the outcome; where none holds, the game goes on
 unfoldable pub first_to_hold : List Test → Verdict

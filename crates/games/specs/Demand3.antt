@@ -3,11 +3,10 @@
 -- the play before it handed back. `Heard` is what the caller is answered. `Demand3` says: every answer, the last
 -- position and the outcome are those of the book (Book.antt); the hash is right; the pieces on the board add up; and
 -- every accepted move took as many pieces as possible. It is one claim about the whole list, not one for each play.
-use Rattle.std.specs.Prelude.{◌≡◌, ℕ, ◌+◌, List, [], ◌∷◌}
+use Rattle.std.specs.Prelude.{◌≡◌, ℕ, ◌+◌, List, [], ◌∷◌, None, Ok, Result, Some}
 use Rattle.squares.specs.Refusals.{answer_number_of}
 use Rattle.squares.specs.Sets.{size}
 use Rattle.squares.specs.declared.piece.Color.{Color}
-use Rattle.squares.specs.declared.refusal.Answer.TheVariants.{Done}
 use Rattle.positions.specs.Boards.{Board, board_of, men_of, kings_of}
 use Rattle.positions.specs.Hash.{hash_of}
 use Rattle.positions.specs.declared.moves.Move.{Move}
@@ -18,9 +17,10 @@ use Rattle.games.specs.Games.{last_of}
 use Rattle.games.specs.Play.{new_of, play_of, outcome_of}
 use Rattle.games.specs.declared.game.Begun.{Begun}
 use Rattle.games.specs.declared.game.Game.{Game}
-use Rattle.games.specs.declared.game.Judged.{Judged}
-use Rattle.games.specs.declared.game.Judged.TheVariants as judged
 use Rattle.games.specs.declared.game.Played.{Played}
+use Rattle.std.specs.declared.option.Option.{Option}
+use Rattle.games.specs.declared.game.Outcome.{Outcome}
+use Rattle.squares.specs.declared.refusal.Refusal.{Refusal}
 
 -- ---- what the caller is answered
 
@@ -39,10 +39,10 @@ pub record Heard : Type 0 where
   pub begun : Begun
   pub answers : List ℕ
   pub game : Game
-  pub outcome : Judged
+  pub outcome : Result (Option Outcome) Refusal
 
 -- what three functions for new game, play and outcome answer
-unfoldable pub heard_of : (Position → Begun) → (Game → Move → Played) → (Game → Judged) → Position → List Move → Heard
+unfoldable pub heard_of : (Position → Begun) → (Game → Move → Played) → (Game → Result (Option Outcome) Refusal) → Position → List Move → Heard
 heard_of new play outcome start moves =
     let after = game_after play (new start).game moves in
     record { begun = new start; answers = answers_to play (new start).game moves; game = after; outcome = outcome after }
@@ -54,9 +54,9 @@ heard = heard_of new_of play_of outcome_of
 -- ---- what the book says
 
 -- the book's verdict as the program answers it: an outcome or none, never a refusal
-abbrev pub told_as : Verdict → Judged
-told_as goes_on = judged.Going
-told_as (ends o) = judged.Outcome o
+abbrev pub told_as : Verdict → Result (Option Outcome) Refusal
+told_as goes_on = Ok None
+told_as (ends o) = Ok (Some o)
 
 -- the book after the list
 abbrev pub book_of : Position → List Move → Book
@@ -79,7 +79,7 @@ NoneOpen b m = m.captured ≡ 0 → NoJump b
 
 pub record Demand3 (start : Position) (moves : List Move) (h : Heard) : Type 0 where
   -- the new game is not refused, and its position is the start
-  pub begins : h.begun.answer ≡ Done
+  pub begins : h.begun.answer ≡ Ok tt
   pub start_stands : board_of (last_of h.begun.game) ≡ board_of start
   -- every play is answered as the book answers it: 0 where it is accepted, else the refusal's number
   pub answers : h.answers ≡ book_answers (begun_book (board_of start)) moves

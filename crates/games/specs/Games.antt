@@ -1,6 +1,6 @@
 -- A game by value (docs/RULES.md, "Games and outcomes"): the positions since the last capture or man move, the current
 -- one last, and two counters of plies; what refusal 13 tests, how often the position has occurred, and the outcome.
-use Rattle.std.specs.Prelude.{ℕ, ◌+◌, min, Bool, true, false, not, cond, ◌&&◌, ◌||◌, List, [], ◌∷◌, eqb, leb, take, get_or}
+use Rattle.std.specs.Prelude.{ℕ, ◌+◌, min, Bool, true, false, not, cond, ◌&&◌, ◌||◌, List, [], ◌∷◌, eqb, leb, take, get_or, Err, None, Ok, Result, Some}
 use Rattle.squares.specs.Sets.{size}
 use Rattle.squares.specs.Squares.{contains_of}
 use Rattle.squares.specs.Pieces.{other}
@@ -14,14 +14,12 @@ use Rattle.positions.specs.declared.moves.Move.{Move}
 use Rattle.positions.specs.declared.position.Position.{Position}
 use Rattle.rules.specs.Lists.{times, some}
 use Rattle.rules.specs.Ordered.{captures, quiets}
-use Rattle.movegen.specs.declared.movegen.Tested.{Tested}
-use Rattle.movegen.specs.declared.movegen.Tested.TheVariants as tested
 use Rattle.games.specs.declared.game.Game.{Game}
-use Rattle.games.specs.declared.game.Judged.{Judged}
-use Rattle.games.specs.declared.game.Judged.TheVariants as judged
 use Rattle.games.specs.declared.game.Termination.{Termination}
 use Rattle.games.specs.declared.game.Termination.TheVariants.{NoMoves, Repetition, TwentyFiveMoves, SixteenMoves, FiveMoves}
-use Rattle.games.specs.declared.game.Winner.TheVariants as winner
+use Rattle.std.specs.declared.option.Option.{Option}
+use Rattle.games.specs.declared.game.Outcome.{Outcome}
+use Rattle.squares.specs.declared.refusal.Refusal.{Refusal}
 
 -- ---- what is kept
 
@@ -75,9 +73,9 @@ material_after b m n = cond (is_capture m || promotes b m) 0 (min 32 (n + 1))
 -- ---- the outcome
 
 -- the result of a test; a refused test counts as false
-abbrev pub says_of : Tested → Bool
-says_of (tested.Is b) = b
-says_of (tested.Refused e) = false
+abbrev pub says_of : Result Bool Refusal → Bool
+says_of (Ok b) = b
+says_of (Err e) = false
 
 -- a capture or a quiet move is open to the side to move
 unfoldable pub can_move : Board → Bool
@@ -91,31 +89,31 @@ lone_king c b = (eqb (size (colored c b)) 1 && eqb (colored c b) (kings_of c b))
 unfoldable pub faces : Color → ℕ → ℕ → Board → Bool
 faces c least most b = lone_king c b && (leb least (size (colored (other c) b)) && leb (size (colored (other c) b)) most)
 
-abbrev pub won : Color → Judged
-won c = judged.Outcome (record { winner = winner.Side c; termination = NoMoves })
+abbrev pub won : Color → Result (Option Outcome) Refusal
+won c = Ok (Some (record { winner = Some c; termination = NoMoves }))
 
-abbrev pub drawn : Termination → Judged
-drawn t = judged.Outcome (record { winner = winner.Nobody; termination = t })
+abbrev pub drawn : Termination → Result (Option Outcome) Refusal
+drawn t = Ok (Some (record { winner = None; termination = t }))
 
 -- the last two tests, by the plies since the last capture or promotion: against three pieces, against at most two
-unfoldable pub king_ending : Board → ℕ → Judged
+unfoldable pub king_ending : Board → ℕ → Result (Option Outcome) Refusal
 king_ending b material =
     cond ((faces White 3 3 b || faces Black 3 3 b) && leb 32 material) (drawn SixteenMoves)
-    (cond ((faces White 0 2 b || faces Black 0 2 b) && leb 10 material) (drawn FiveMoves) judged.Going)
+    (cond ((faces White 0 2 b || faces Black 0 2 b) && leb 10 material) (drawn FiveMoves) (Ok None))
 
 -- the tests in order; `times` is how often the board has occurred
-unfoldable pub judge : Board → ℕ → ℕ → ℕ → Judged
+unfoldable pub judge : Board → ℕ → ℕ → ℕ → Result (Option Outcome) Refusal
 judge b times reversible material =
     cond (can_move b)
     (cond (leb 3 times) (drawn Repetition) (cond (leb 50 reversible) (drawn TwentyFiveMoves) (king_ending b material)))
     (won (other b.side))
 
 -- the outcome of a valid game
-unfoldable pub judged_of : Game → Judged
+unfoldable pub judged_of : Game → Result (Option Outcome) Refusal
 judged_of g = judge (board_of (last_of g)) (stood g) g.reversible g.material
 
 -- there is an outcome
-abbrev pub ended : Judged → Bool
-ended (judged.Outcome o) = true
-ended judged.Going = false
-ended (judged.Refused e) = false
+abbrev pub ended : Result (Option Outcome) Refusal → Bool
+ended (Ok (Some o)) = true
+ended (Ok None) = false
+ended (Err e) = false

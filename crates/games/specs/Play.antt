@@ -1,35 +1,26 @@
 -- What each entry on games answers, refused calls too (docs/RULES.md, "Games and outcomes"). The order of refusals
 -- (docs/RULES.md, "Refusals"): new game 12; outcome 13; a game's list 13, 10, 17; a move record 13, 11, 14, 17, 15.
-use Rattle.std.specs.Prelude.{ℕ, ◌+◌, ◌-◌, cond, List, [], ◌∷◌, ◌++◌, leb, replicate}
+use Rattle.std.specs.Prelude.{ℕ, ◌+◌, ◌-◌, cond, List, [], ◌∷◌, ◌++◌, leb, replicate, Bool, Err, None, Ok, Result, Some}
 use Prim.Native.Char.{code}
 use Rattle.squares.specs.declared.piece.Color.TheVariants.{White, Black}
 use Rattle.squares.specs.declared.refusal.Refusal.{Refusal}
 use Rattle.squares.specs.Refusals.{refusal}
-use Rattle.squares.specs.declared.refusal.Answer.TheVariants as answer
 use Rattle.positions.specs.Acceptance.{sound}
 use Rattle.positions.specs.Boards.{board_of}
 use Rattle.positions.specs.Hash.{initial_of}
 use Rattle.positions.specs.Moves.{squares_of}
 use Rattle.positions.specs.declared.moves.Move.{Move}
 use Rattle.positions.specs.declared.position.Position.{Position}
-use Rattle.positions.specs.declared.position.Placed.{Placed}
-use Rattle.positions.specs.declared.position.Placed.TheVariants as placed
 use Rattle.movegen.specs.Lists as movegen
 use Rattle.movegen.specs.Lists.{no_list, refused_list, after_of}
 use Rattle.movegen.specs.declared.movegen.Listed.{Listed}
-use Rattle.movegen.specs.declared.movegen.Tested.{Tested}
-use Rattle.movegen.specs.declared.movegen.Tested.TheVariants as tested
-use Rattle.movegen.specs.declared.perft.Counted.{Counted}
-use Rattle.movegen.specs.declared.perft.Counted.TheVariants as counted
 use Rattle.games.specs.Games.{blank_position, window_of, last_of, valid, stood, irreversible, material_after, judged_of, ended}
 use Rattle.games.specs.declared.game.Begun.{Begun}
 use Rattle.games.specs.declared.game.Game.{Game}
-use Rattle.games.specs.declared.game.Judged.{Judged}
-use Rattle.games.specs.declared.game.Judged.TheVariants as judged
 use Rattle.games.specs.declared.game.Outcome.{Outcome}
 use Rattle.games.specs.declared.game.Played.{Played}
-use Rattle.games.specs.declared.game.Winner.{Winner}
-use Rattle.games.specs.declared.game.Winner.TheVariants as winner
+use Rattle.squares.specs.declared.piece.Color.{Color}
+use Rattle.std.specs.declared.option.Option.{Option}
 
 -- ---- a new game
 
@@ -43,10 +34,10 @@ fresh_of p = alone_of p 0
 
 -- where refused: the game begun from the empty board with White to move
 abbrev pub not_begun : Refusal → Begun
-not_begun e = record { answer = answer.Refused e; game = fresh_of blank_position }
+not_begun e = record { answer = Err e; game = fresh_of blank_position }
 
 unfoldable pub new_of : Position → Begun
-new_of p = cond (sound p) (record { answer = answer.Done; game = fresh_of p }) (not_begun (refusal 12))
+new_of p = cond (sound p) (record { answer = Ok tt; game = fresh_of p }) (not_begun (refusal 12))
 
 -- from the starting position
 unfoldable pub initial_game : Game
@@ -72,12 +63,12 @@ moved_of g m q =
 
 -- where refused: the game as it was handed in
 abbrev pub refused_play : Game → Refusal → Played
-refused_play g e = record { answer = answer.Refused e; game = g }
+refused_play g e = record { answer = Err e; game = g }
 
 -- the game with the position after the move, or the refusal that stopped it: 17, then 15
-abbrev pub reached_of : Game → Move → Placed → Played
-reached_of g m (placed.Position q) = record { answer = answer.Done; game = moved_of g m q }
-reached_of g m (placed.Refused e) = refused_play g e
+abbrev pub reached_of : Game → Move → Result Position Refusal → Played
+reached_of g m (Ok q) = record { answer = Ok tt; game = moved_of g m q }
+reached_of g m (Err e) = refused_play g e
 
 unfoldable pub play_of : Game → Move → Played
 play_of g m =
@@ -89,37 +80,37 @@ play_of g m =
 
 -- ---- what is asked of a game
 
-unfoldable pub outcome_of : Game → Judged
-outcome_of g = cond (valid g) (judged_of g) (judged.Refused (refusal 13))
+unfoldable pub outcome_of : Game → Result (Option Outcome) Refusal
+outcome_of g = cond (valid g) (judged_of g) (Err (refusal 13))
 
-unfoldable pub is_over_of : Game → Tested
-is_over_of g = cond (valid g) (tested.Is (ended (judged_of g))) (tested.Refused (refusal 13))
+unfoldable pub is_over_of : Game → Result Bool Refusal
+is_over_of g = cond (valid g) (Ok (ended (judged_of g))) (Err (refusal 13))
 
 -- the current position
-unfoldable pub stands_of : Game → Placed
-stands_of g = cond (valid g) (placed.Position (last_of g)) (placed.Refused (refusal 13))
+unfoldable pub stands_of : Game → Result Position Refusal
+stands_of g = cond (valid g) (Ok (last_of g)) (Err (refusal 13))
 
-unfoldable pub repetitions_of : Game → Counted
-repetitions_of g = cond (valid g) (counted.Count (stood g)) (counted.Refused (refusal 13))
+unfoldable pub repetitions_of : Game → Result ℕ Refusal
+repetitions_of g = cond (valid g) (Ok (stood g)) (Err (refusal 13))
 
-unfoldable pub reversible_plies_of : Game → Counted
-reversible_plies_of g = cond (valid g) (counted.Count g.reversible) (counted.Refused (refusal 13))
+unfoldable pub reversible_plies_of : Game → Result ℕ Refusal
+reversible_plies_of g = cond (valid g) (Ok g.reversible) (Err (refusal 13))
 
 -- no moves if there is an outcome; else the list of the current position, or 17 if it has more than `limit` moves
 unfoldable pub legal_moves_of : Game → ℕ → Listed
 legal_moves_of g limit =
     cond (valid g)
     (cond (leb limit 256)
-    (cond (ended (judged_of g)) (no_list answer.Done) (movegen.legal_moves_of (last_of g) limit))
+    (cond (ended (judged_of g)) (no_list (Ok tt)) (movegen.legal_moves_of (last_of g) limit))
     (refused_list (refusal 10)))
     (refused_list (refusal 13))
 
 -- ---- the result of a finished game, as text: 2-0, 1-1 or 0-2
 
-abbrev pub result_for : Winner → List ℕ
-result_for (winner.Side White) = code "2" ∷ code "-" ∷ code "0" ∷ []
-result_for (winner.Side Black) = code "0" ∷ code "-" ∷ code "2" ∷ []
-result_for winner.Nobody = code "1" ∷ code "-" ∷ code "1" ∷ []
+abbrev pub result_for : Option Color → List ℕ
+result_for (Some White) = code "2" ∷ code "-" ∷ code "0" ∷ []
+result_for (Some Black) = code "0" ∷ code "-" ∷ code "2" ∷ []
+result_for None = code "1" ∷ code "-" ∷ code "1" ∷ []
 
 abbrev pub result_of : Outcome → List ℕ
 result_of o = result_for o.winner

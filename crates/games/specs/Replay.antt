@@ -1,8 +1,7 @@
 -- What `replay` answers: a whole list of moves is played from a start in one call. The moves are lent as numbers,
 -- three for each. The requirement has no such entry (docs/DECISIONS.md). Where it is not refused, the claim of
 -- Demand3.antt holds for the very list that was lent (docs/RULES.md, "The book").
-use Rattle.std.specs.Prelude.{◌≡◌, ℕ, ◌/◌, ◌%◌, cond, List, [], ◌∷◌, ◌++◌, eqb, leb, length, take, drop}
-use Rattle.squares.specs.declared.refusal.Answer.TheVariants.{Done}
+use Rattle.std.specs.Prelude.{◌≡◌, ℕ, ◌/◌, ◌%◌, cond, List, [], ◌∷◌, ◌++◌, eqb, leb, length, take, drop, Ok}
 use Rattle.squares.specs.Refusals.{refusal}
 use Rattle.positions.specs.Acceptance.{sound}
 use Rattle.positions.specs.Moves.{move}
@@ -30,7 +29,7 @@ replay_of start numbers room =
     cond (sound start)
     (cond (eqb (length numbers % 3) 0)
     (cond (leb (length numbers / 3) room)
-    (record { answer = Done; game = game_after play_of (fresh_of start) (moves_in numbers) })
+    (record { answer = Ok tt; game = game_after play_of (fresh_of start) (moves_in numbers) })
     (not_begun (refusal 19)))
     (not_begun (refusal 11)))
     (not_begun (refusal 12))
@@ -61,4 +60,4 @@ pub record Replayed (start : Position) (numbers before after : List ℕ) (r : Be
   pub result : r ≡ replay_of start numbers (length before)
   pub written : after ≡ written_of start numbers before
   -- where it is not refused, the claim of Demand3.antt holds for the list as lent
-  pub demand : r.answer ≡ Done → Demand3 start (moves_in numbers) (heard_by start (moves_in numbers) after r.game)
+  pub demand : r.answer ≡ Ok tt → Demand3 start (moves_in numbers) (heard_by start (moves_in numbers) after r.game)

@@ -19,7 +19,6 @@ use scores::eval;
 use scores::eval::Classical;
 use squares::{bitboard, square};
 use std::io;
-use texts::bytes::Wrote;
 use texts::{bytes, fen, hub};
 use wording::words;
 
@@ -62,7 +61,7 @@ fn of_number(rt: &impl Print, entry: u64, n: u64) -> io::Result<()> {
     }
 }
 
-fn write_into(entry: u64, p: Position, m: Move, out: &mut [u8]) -> Wrote {
+fn write_into(entry: u64, p: Position, m: Move, out: &mut [u8]) -> Result<usize, Refusal> {
     match entry {
         0 => fen::fen(p, out),
         1 => hub::hub(p, out),

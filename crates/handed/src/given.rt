@@ -14,7 +14,6 @@ use positions::position;
 use positions::position::Position;
 use scores::eval::Classical;
 use squares::piece::Color;
-use wording::numbers::{Parsed, Signed};
 use wording::{numbers, words};
 
 pub(crate) fn letter(s: &[u8]) -> u8 {
@@ -24,8 +23,8 @@ pub(crate) fn letter(s: &[u8]) -> u8 {
 // The number in the word with this index.
 pub(crate) fn number(s: &[u8], index: usize) -> u64 {
     match numbers::set(words::word(s, index)) {
-        Parsed::Value(n) => n,
-        Parsed::Bad => 0,
+        Some(n) => n,
+        None => 0,
     }
 }
 
@@ -35,8 +34,8 @@ pub(crate) fn small(n: u64) -> u32 {
 
 fn weight(s: &[u8], index: usize) -> i32 {
     match numbers::read_signed(words::word(s, index)) {
-        Signed::Value(z) => z,
-        Signed::Bad => 0,
+        Some(z) => z,
+        None => 0,
     }
 }
 

@@ -3,17 +3,12 @@
 ghost use Rattle.std.specs.Prelude.{◌≤◌};
 
 use captures::moves::MoveList;
-use movegen::movegen::{Listed, Tested};
-use movegen::perft::{Counted, Divided};
-use notation::notation::Found;
+use movegen::movegen::Listed;
+use movegen::perft::Divided;
 use positions::moves::Move;
-use positions::position::{Placed, Position, Standing};
-use scores::eval::Scored;
-use squares::bitboard::Gathered;
-use squares::refusal::{Answer, Refusal};
-use squares::square::Numbered;
+use positions::position::Position;
+use squares::refusal::Refusal;
 use std::io;
-use texts::bytes::Wrote;
 use texts::fen;
 
 pub(crate) fn refusal(rt: &impl Print, e: Refusal) -> io::Result<()> {
@@ -31,76 +26,76 @@ fn part(rt: &impl Print, text: &[u8], n: usize) -> io::Result<()> {
 pub(crate) fn position(rt: &impl Print, p: Position) -> io::Result<()> {
     let mut text = [0u8; 200];
     match fen::fen(p, &mut text) {
-        Wrote::Length(n) => part(rt, &text, n)?,
-        Wrote::Refused(e) => refusal(rt, e)?,
+        Ok(n) => part(rt, &text, n)?,
+        Err(e) => refusal(rt, e)?,
     }
     print!(rt; " {:016x}", p.hash)
 }
 
-pub(crate) fn answer(rt: &impl Print, a: Answer) -> io::Result<()> {
+pub(crate) fn answer(rt: &impl Print, a: Result<(), Refusal>) -> io::Result<()> {
     match a {
-        Answer::Done => print!(rt; "done"),
-        Answer::Refused(e) => refusal(rt, e),
+        Ok(()) => print!(rt; "done"),
+        Err(e) => refusal(rt, e),
     }
 }
 
-pub(crate) fn place(rt: &impl Print, p: Placed) -> io::Result<()> {
+pub(crate) fn place(rt: &impl Print, p: Result<Position, Refusal>) -> io::Result<()> {
     match p {
-        Placed::Position(q) => position(rt, q),
-        Placed::Refused(e) => refusal(rt, e),
+        Ok(q) => position(rt, q),
+        Err(e) => refusal(rt, e),
     }
 }
 
-pub(crate) fn placed(rt: &impl Print, p: Placed) -> io::Result<()> {
+pub(crate) fn placed(rt: &impl Print, p: Result<Position, Refusal>) -> io::Result<()> {
     place(rt, p)?;
     println!(rt)
 }
 
-pub(crate) fn tested(rt: &impl Print, t: Tested) -> io::Result<()> {
+pub(crate) fn tested(rt: &impl Print, t: Result<bool, Refusal>) -> io::Result<()> {
     match t {
-        Tested::Is(yes) => print!(rt; "{}", if yes { "yes" } else { "no" })?,
-        Tested::Refused(e) => refusal(rt, e)?,
+        Ok(yes) => print!(rt; "{}", if yes { "yes" } else { "no" })?,
+        Err(e) => refusal(rt, e)?,
     }
     println!(rt)
 }
 
-pub(crate) fn counted(rt: &impl Print, c: Counted) -> io::Result<()> {
+pub(crate) fn counted(rt: &impl Print, c: Result<u64, Refusal>) -> io::Result<()> {
     match c {
-        Counted::Count(n) => print!(rt; "{n}")?,
-        Counted::Refused(e) => refusal(rt, e)?,
+        Ok(n) => print!(rt; "{n}")?,
+        Err(e) => refusal(rt, e)?,
     }
     println!(rt)
 }
 
-pub(crate) fn scored(rt: &impl Print, s: Scored) -> io::Result<()> {
+pub(crate) fn scored(rt: &impl Print, s: Result<i32, Refusal>) -> io::Result<()> {
     match s {
-        Scored::Score(z) => print!(rt; "{z}")?,
-        Scored::Refused(e) => refusal(rt, e)?,
+        Ok(z) => print!(rt; "{z}")?,
+        Err(e) => refusal(rt, e)?,
     }
     println!(rt)
 }
 
-pub(crate) fn numbered(rt: &impl Print, n: Numbered) -> io::Result<()> {
+pub(crate) fn numbered(rt: &impl Print, n: Result<u32, Refusal>) -> io::Result<()> {
     match n {
-        Numbered::Number(k) => print!(rt; "{k}")?,
-        Numbered::Refused(e) => refusal(rt, e)?,
+        Ok(k) => print!(rt; "{k}")?,
+        Err(e) => refusal(rt, e)?,
     }
     println!(rt)
 }
 
-pub(crate) fn standing(rt: &impl Print, s: Standing) -> io::Result<()> {
+pub(crate) fn standing(rt: &impl Print, s: Result<Option<Piece>, Refusal>) -> io::Result<()> {
     match s {
-        Standing::Piece(_) => print!(rt; "a piece")?,
-        Standing::Nothing => print!(rt; "nothing")?,
-        Standing::Refused(e) => refusal(rt, e)?,
+        Ok(Some(_)) => print!(rt; "a piece")?,
+        Ok(None) => print!(rt; "nothing")?,
+        Err(e) => refusal(rt, e)?,
     }
     println!(rt)
 }
 
-pub(crate) fn gathered(rt: &impl Print, g: Gathered) -> io::Result<()> {
+pub(crate) fn gathered(rt: &impl Print, g: Result<Bitboard, Refusal>) -> io::Result<()> {
     match g {
-        Gathered::Set(set) => print!(rt; "{set}")?,
-        Gathered::Refused(e) => refusal(rt, e)?,
+        Ok(set) => print!(rt; "{set}")?,
+        Err(e) => refusal(rt, e)?,
     }
     println!(rt)
 }
@@ -110,19 +105,19 @@ pub(crate) fn record(rt: &impl Print, m: Move) -> io::Result<()> {
     print!(rt; "{} {} {}", m.from, m.to, m.captured)
 }
 
-pub(crate) fn found(rt: &impl Print, f: Found) -> io::Result<()> {
+pub(crate) fn found(rt: &impl Print, f: Result<Move, Refusal>) -> io::Result<()> {
     match f {
-        Found::Move(m) => record(rt, m)?,
-        Found::Refused(e) => refusal(rt, e)?,
+        Ok(m) => record(rt, m)?,
+        Err(e) => refusal(rt, e)?,
     }
     println!(rt)
 }
 
 // The answer of a writer, then the lent bytes as they are after it.
-pub(crate) fn wrote(rt: &impl Print, w: Wrote, out: &[u8]) -> io::Result<()> {
+pub(crate) fn wrote(rt: &impl Print, w: Result<usize, Refusal>, out: &[u8]) -> io::Result<()> {
     match w {
-        Wrote::Length(n) => print!(rt; "length {n}")?,
-        Wrote::Refused(e) => refusal(rt, e)?,
+        Ok(n) => print!(rt; "length {n}")?,
+        Err(e) => refusal(rt, e)?,
     }
     print!(rt; " [")?;
     rt.write_all(out)?;

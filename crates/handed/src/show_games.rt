@@ -2,12 +2,11 @@
 // entries are blank. After a play the current position follows, or `as it came` where the game equals the one handed
 // in, unused entries included. After the play of a move text the move handed back comes last.
 use crate::show;
-use games::game::{Begun, Game, Judged, Outcome, Played, Termination};
+use games::game::{Begun, Game, Outcome, Played, Termination};
 use gametexts::game::PlayedText;
 use positions::position;
 use positions::position::Position;
 use squares::piece::Color;
-use squares::refusal::Answer;
 use std::io;
 
 pub(crate) fn blank_game() -> Game {
@@ -96,7 +95,7 @@ pub(crate) fn begun_with(rt: &impl Print, b: Begun, answers: &[u8]) -> io::Resul
     println!(rt)
 }
 
-fn after_play(rt: &impl Print, came: Game, told: Answer, g: Game) -> io::Result<()> {
+fn after_play(rt: &impl Print, came: Game, told: Result<(), Refusal>, g: Game) -> io::Result<()> {
     show::answer(rt, told)?;
     game(rt, g)?;
     if same(came, g) {
@@ -142,11 +141,11 @@ fn outcome(rt: &impl Print, o: Outcome) -> io::Result<()> {
     termination(rt, why)
 }
 
-pub(crate) fn judged(rt: &impl Print, j: Judged) -> io::Result<()> {
+pub(crate) fn judged(rt: &impl Print, j: Result<Option<Outcome>, Refusal>) -> io::Result<()> {
     match j {
-        Judged::Outcome(o) => outcome(rt, o)?,
-        Judged::Going => print!(rt; "going")?,
-        Judged::Refused(e) => show::refusal(rt, e)?,
+        Ok(Some(o)) => outcome(rt, o)?,
+        Ok(None) => print!(rt; "going")?,
+        Err(e) => show::refusal(rt, e)?,
     }
     println!(rt)
 }

@@ -1,4 +1,5 @@
 -- What the entries answer to a sound position, past refusal 12: what crates above cite instead of opening the definitions.
+use Rattle.std.specs.Prelude.{Err, Ok}
 use mathlib.Core.Path.{◌≡◌, sym, ap, ap₂, ◌∙◌}
 use mathlib.Core.Bool.{Bool, true, false, cond}
 use lib.Dec.{ltb}
@@ -11,34 +12,32 @@ use Rattle.positions.specs.Moves.{squares_of}
 use Rattle.positions.specs.Successor.{successor}
 use Rattle.positions.specs.declared.moves.Move.{Move}
 use Rattle.positions.specs.declared.position.Position.{Position}
-use Rattle.positions.specs.declared.position.Placed.TheVariants as placed
 use Rattle.rules.specs.Ordered.{captures, quiets, legal, listed}
 use Rattle.rules.specs.Lists.{some}
 use Rattle.movegen.specs.Lists.{has_captures_of, has_quiet_moves_of, played_of, after_of}
-use Rattle.movegen.specs.declared.movegen.Tested.TheVariants as tested
 use Rattle.movegen.proofs.Listed.{played_many, played_none, after_at}
 
 module _ (p : Position) (s : sound p ≡ true) where
   -- ---- the tests
-  pub captures_told : has_captures_of p ≡ tested.Is (some (captures (board_of p)))
+  pub captures_told : has_captures_of p ≡ Ok (some (captures (board_of p)))
   unfolding has_captures_of
-  captures_told = ap (λ (t : Bool). cond t (tested.Is (some (captures (board_of p)))) (tested.Refused BadPosition)) s
+  captures_told = ap (λ (t : Bool). cond t (Ok (some (captures (board_of p)))) (Err BadPosition)) s
 
-  pub quiets_told : has_quiet_moves_of p ≡ tested.Is (some (quiets (board_of p)))
+  pub quiets_told : has_quiet_moves_of p ≡ Ok (some (quiets (board_of p)))
   unfolding has_quiet_moves_of
-  quiets_told = ap (λ (t : Bool). cond t (tested.Is (some (quiets (board_of p)))) (tested.Refused BadPosition)) s
+  quiets_told = ap (λ (t : Bool). cond t (Ok (some (quiets (board_of p)))) (Err BadPosition)) s
 
   -- ---- the position after a move, past refusal 11: 17, then 15, else the successor with its hash
   module _ (m : Move) (q : squares_of m ≡ true) where
-    pub after_many : ltb 256 (length (legal (board_of p))) ≡ true → after_of p m ≡ placed.Refused TooManyMoves
+    pub after_many : ltb 256 (length (legal (board_of p))) ≡ true → after_of p m ≡ Err TooManyMoves
     after_many e = sym (after_at p m s q) ∙ sym (played_many p m e)
 
     module _ (few : ltb 256 (length (legal (board_of p))) ≡ false) where
-      pub after_none : listed (legal (board_of p)) m ≡ false → after_of p m ≡ placed.Refused NoMoveFits
+      pub after_none : listed (legal (board_of p)) m ≡ false → after_of p m ≡ Err NoMoveFits
       after_none e = sym (after_at p m s q) ∙ sym (played_none p m few e)
 
-      pub after_one : listed (legal (board_of p)) m ≡ true → after_of p m ≡ placed.Position (position_of (successor (board_of p) m))
+      pub after_one : listed (legal (board_of p)) m ≡ true → after_of p m ≡ Ok (position_of (successor (board_of p) m))
       unfolding played_of
       after_one e =
           sym (after_at p m s q)
-          ∙ ap₂ (λ (t u : Bool). cond t (placed.Refused TooManyMoves) (cond u (placed.Position (position_of (successor (board_of p) m))) (placed.Refused NoMoveFits))) few e
+          ∙ ap₂ (λ (t u : Bool). cond t (Err TooManyMoves) (cond u (Ok (position_of (successor (board_of p) m))) (Err NoMoveFits))) few e

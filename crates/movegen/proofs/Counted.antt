@@ -1,4 +1,5 @@
 -- Sums of counts along a list: each count fits below 2 ^ 48, so a list of at most 256 fits a word; the walk comes to the whole.
+use Rattle.std.specs.Prelude.{Err, Ok, Result}
 use mathlib.Core.Path.{◌≡◌, refl, sym, ap, ap₂, ◌∙◌}
 use Prim.Native.Nat.{ℕ, zero, suc, ◌+◌, ◌-◌, ◌*◌, ◌^◌, ◌≤◌, ◌<◌}
 use native.Mathlib.Nat.{suc-mul, mul-le-mul_right}
@@ -27,8 +28,6 @@ use Rattle.quiets.specs.declared.quiets.Listing.{Listing}
 use Rattle.movegen.specs.Counts.{then_count, sum_from, depth_count}
 use Rattle.movegen.specs.Generate.{seen, generate_of, next_of}
 use Rattle.captures.specs.declared.view.View.{View}
-use Rattle.movegen.specs.declared.perft.Counted.{Counted}
-use Rattle.movegen.specs.declared.perft.Counted.TheVariants.{Count, Refused}
 use Rattle.capture_laws.proofs.Stored.{few_len, few_entries}
 use Rattle.quiet_laws.proofs.Filled.{filled}
 use Rattle.movegen.proofs.Generated.{generated, view_seen, next_is}
@@ -39,29 +38,29 @@ unfoldable most : ℕ → ℕ
 most zero = 1
 most (suc n) = 256 * most n
 
-of_count : {n k : ℕ} → Count n ≡ Count k → n ≡ k
+of_count : {n k : ℕ} → Ok n ≡ Ok k → n ≡ k
 of_count e = cc
 
-no_count : {e : Refusal} {k : ℕ} → Refused e ≡ Count k → ⊥
+no_count : {e : Refusal} {k : ℕ} → Err e ≡ Ok k → ⊥
 no_count e = let z : ◌≡◌ {A = ℕ} 0 1 = cc in omega arith
 
-sum_le : (f : Move → Counted) (B : ℕ) → ((m : Move) (k : ℕ) → f m ≡ Count k → k ≤ B) → (l : List Move) (s k : ℕ) → sum_from f s l ≡ Count k → k ≤ s + length l * B
+sum_le : (f : Move → Result ℕ Refusal) (B : ℕ) → ((m : Move) (k : ℕ) → f m ≡ Ok k → k ≤ B) → (l : List Move) (s k : ℕ) → sum_from f s l ≡ Ok k → k ≤ s + length l * B
 unfolding sum_from then_count
 sum_le f B h [] s k e = omega (arith, of_count e)
 sum_le f B h (m ∷ l) s k e = go (f m) refl e (λ t. sum_le f B h l t k)
   where
-    go : (c : Counted) → f m ≡ c → then_count c (λ n. sum_from f (s + n) l) ≡ Count k → ((t : ℕ) → sum_from f t l ≡ Count k → k ≤ t + length l * B) → k ≤ s + suc (length l) * B
-    go (Count n) q r ih = omega (arith, ih (s + n) r, h m n q, suc-mul (length l) B)
-    go (Refused x) q r ih = absurd (no_count r)
+    go : (c : Result ℕ Refusal) → f m ≡ c → then_count c (λ n. sum_from f (s + n) l) ≡ Ok k → ((t : ℕ) → sum_from f t l ≡ Ok k → k ≤ t + length l * B) → k ≤ s + suc (length l) * B
+    go (Ok n) q r ih = omega (arith, ih (s + n) r, h m n q, suc-mul (length l) B)
+    go (Err x) q r ih = absurd (no_count r)
 
-depth_le : (n : ℕ) (b : Board) (k : ℕ) → depth_count n b ≡ Count k → k ≤ most n
+depth_le : (n : ℕ) (b : Board) (k : ℕ) → depth_count n b ≡ Ok k → k ≤ most n
 unfolding depth_count most
 depth_le zero b k e = omega (arith, of_count e)
 depth_le (suc n) b k e = go (ltb 256 (length (legal b))) refl e (λ c j q. depth_le n c j q)
   where
     go : (t : Bool) → ltb 256 (length (legal b)) ≡ t
-        → elim t [ true ↦ Refused TooManyMoves | false ↦ sum_from (λ m. depth_count n (successor b m)) 0 (legal b) ] ≡ Count k
-        → ((c : Board) (j : ℕ) → depth_count n c ≡ Count j → j ≤ most n) → k ≤ 256 * most n
+        → elim t [ true ↦ Err TooManyMoves | false ↦ sum_from (λ m. depth_count n (successor b m)) 0 (legal b) ] ≡ Ok k
+        → ((c : Board) (j : ℕ) → depth_count n c ≡ Ok j → j ≤ most n) → k ≤ 256 * most n
     go true q r ih = absurd (no_count r)
     go false q r ih =
         omega (arith, sum_le (λ m. depth_count n (successor b m)) (most n) (λ m j p. ih (successor b m) j p) (legal b) 0 k r, mul-le-mul_right (most n) (ltb-false 256 (length (legal b)) q))
@@ -77,11 +76,11 @@ most_le (suc (suc (suc (suc (suc zero))))) h = omega arith
 most_le (suc (suc (suc (suc (suc (suc zero)))))) h = omega arith
 most_le (suc (suc (suc (suc (suc (suc (suc n))))))) h = absurd (omega arith)
 
-pub count_le : (n : ℕ) (b : Board) (k : ℕ) → n ≤ 6 → depth_count n b ≡ Count k → k ≤ 2 ^ 48
+pub count_le : (n : ℕ) (b : Board) (k : ℕ) → n ≤ 6 → depth_count n b ≡ Ok k → k ≤ 2 ^ 48
 count_le n b k h e = omega (arith, depth_le n b k e, most_le n h)
 
 -- ---- a walk along the list of a board, n plies below each move
-abbrev pub below : ℕ → Board → Move → Counted
+abbrev pub below : ℕ → Board → Move → Result ℕ Refusal
 below n b m = depth_count n (successor b m)
 
 -- what is still to count, from i on with s counted, comes to the whole
@@ -100,32 +99,32 @@ module _ (n : ℕ) (b : Board) where
       ap (λ (j : ℕ). then_count (below n b (get_or (legal b) i blank)) (λ k. sum_from (below n b) (s + k) (drop j (legal b)))) (add-one i)
       ∙ ap (sum_from (below n b) s) (sym (drop-cons (legal b) i blank h)) ∙ w.same
 
-  pub counting_more : (s i k : ℕ) → i < length (legal b) → n ≤ 6 → Counting n b s i → below n b (get_or (legal b) i blank) ≡ Count k → Counting n b (s + k) (i + 1)
+  pub counting_more : (s i k : ℕ) → i < length (legal b) → n ≤ 6 → Counting n b s i → below n b (get_or (legal b) i blank) ≡ Ok k → Counting n b (s + k) (i + 1)
   unfolding then_count
   counting_more s i k h l w e = record {
     small = omega (arith, w.small, count_le n (successor b (get_or (legal b) i blank)) k l e);
-    same = ap (λ (c : Counted). then_count c (λ k. sum_from (below n b) (s + k) (drop (i + 1) (legal b)))) (sym e) ∙ turn s i h w;
+    same = ap (λ (c : Result ℕ Refusal). then_count c (λ k. sum_from (below n b) (s + k) (drop (i + 1) (legal b)))) (sym e) ∙ turn s i h w;
   }
 
-  pub counting_refused : (s i : ℕ) (x : Refusal) → i < length (legal b) → Counting n b s i → below n b (get_or (legal b) i blank) ≡ Refused x
-      → Refused x ≡ sum_from (below n b) 0 (legal b)
+  pub counting_refused : (s i : ℕ) (x : Refusal) → i < length (legal b) → Counting n b s i → below n b (get_or (legal b) i blank) ≡ Err x
+      → Err x ≡ sum_from (below n b) 0 (legal b)
   unfolding then_count
-  counting_refused s i x h w e = ap (λ (c : Counted). then_count c (λ k. sum_from (below n b) (s + k) (drop (i + 1) (legal b)))) (sym e) ∙ turn s i h w
+  counting_refused s i x h w e = ap (λ (c : Result ℕ Refusal). then_count c (λ k. sum_from (below n b) (s + k) (drop (i + 1) (legal b)))) (sym e) ∙ turn s i h w
 
-  pub counting_done : (s i : ℕ) → length (legal b) ≤ i → Counting n b s i → Count s ≡ sum_from (below n b) 0 (legal b)
+  pub counting_done : (s i : ℕ) → length (legal b) ≤ i → Counting n b s i → Ok s ≡ sum_from (below n b) 0 (legal b)
   unfolding sum_from
   counting_done s i h w = ap (sum_from (below n b) s) (sym (drop_of_length-le (legal b) h)) ∙ w.same
 
   -- ---- one ply more
   pub depth_more : length (legal b) ≤ 256 → sum_from (below n b) 0 (legal b) ≡ depth_count (suc n) b
   unfolding depth_count
-  depth_more h = sym (ap (λ (t : Bool). elim t [ true ↦ Refused TooManyMoves | false ↦ sum_from (below n b) 0 (legal b) ]) (le-ltb 256 (length (legal b)) h))
+  depth_more h = sym (ap (λ (t : Bool). elim t [ true ↦ Err TooManyMoves | false ↦ sum_from (below n b) 0 (legal b) ]) (le-ltb 256 (length (legal b)) h))
 
-  pub depth_many : ltb 256 (length (legal b)) ≡ true → Refused TooManyMoves ≡ depth_count (suc n) b
+  pub depth_many : ltb 256 (length (legal b)) ≡ true → Err TooManyMoves ≡ depth_count (suc n) b
   unfolding depth_count
-  depth_many h = sym (ap (λ (t : Bool). elim t [ true ↦ Refused TooManyMoves | false ↦ sum_from (below n b) 0 (legal b) ]) h)
+  depth_many h = sym (ap (λ (t : Bool). elim t [ true ↦ Err TooManyMoves | false ↦ sum_from (below n b) 0 (legal b) ]) h)
 
-pub depth_none : (d : ℕ) (b : Board) → d ≡ 0 → Count 1 ≡ depth_count d b
+pub depth_none : (d : ℕ) (b : Board) → d ≡ 0 → Ok 1 ≡ depth_count d b
 unfolding depth_count
 depth_none d b e = ap (λ (n : ℕ). depth_count n b) (sym e)
 
@@ -175,7 +174,7 @@ module _ (v : View) (a : Accepted (seen v)) (l : Listing) (e : l ≡ generate_of
     step_accepted next q = rw (stepped next q) (successor_accepted (seen v) (get_or (legal (seen v)) i blank) a playable)
 
     -- what a count below it says
-    pub counted : (n : ℕ) (next : View) (res c : Counted) → next ≡ next_of v (get_or l.list.moves i blank) → res ≡ depth_count n (seen next) → res ≡ c
+    pub counted : (n : ℕ) (next : View) (res c : Result ℕ Refusal) → next ≡ next_of v (get_or l.list.moves i blank) → res ≡ depth_count n (seen next) → res ≡ c
         → below n (seen v) (get_or (legal (seen v)) i blank) ≡ c
     counted n next res c q r s = ap (depth_count n) (sym (stepped next q)) ∙ sym r ∙ s
 
@@ -188,26 +187,26 @@ module _ (v : View) (a : Accepted (seen v)) (l : Listing) (e : l ≡ generate_of
   pub in_array : i < l.list.len → i < 256
   in_array h = omega (arith, listing_short.len, listing_short.few)
 
-  pub sum_done : l.list.len ≤ i → Count s ≡ depth_count (suc n) (seen v)
+  pub sum_done : l.list.len ≤ i → Ok s ≡ depth_count (suc n) (seen v)
   sum_done h = counting_done n (seen v) s i (omega (arith, listing_short.len)) c ∙ depth_more n (seen v) listing_short.few
 
   module _ (h : i < l.list.len) (next : View) (q : next ≡ next_of v (get_or l.list.moves i blank)) where
     pub next_accepted : Accepted (seen next)
     next_accepted = step_accepted v a l e listing_short i h next q
 
-    pub sum_below : (res x : Counted) → res ≡ depth_count n (seen next) → res ≡ x → below n (seen v) (get_or (legal (seen v)) i blank) ≡ x
+    pub sum_below : (res x : Result ℕ Refusal) → res ≡ depth_count n (seen next) → res ≡ x → below n (seen v) (get_or (legal (seen v)) i blank) ≡ x
     sum_below res x = counted v a l e listing_short i h n next res x q
 
-    module _ (low : n ≤ 6) (res : Counted) (r : res ≡ depth_count n (seen next)) where
-      pub sum_fits : (k : ℕ) → res ≡ Count k → s + k < 2 ^ 64
-      sum_fits k z = omega (arith, c.small, count_le n _ k low (sum_below res (Count k) r z), listing_short.len, listing_short.few)
+    module _ (low : n ≤ 6) (res : Result ℕ Refusal) (r : res ≡ depth_count n (seen next)) where
+      pub sum_fits : (k : ℕ) → res ≡ Ok k → s + k < 2 ^ 64
+      sum_fits k z = omega (arith, c.small, count_le n _ k low (sum_below res (Ok k) r z), listing_short.len, listing_short.few)
 
-      pub sum_again : (k : ℕ) → res ≡ Count k → Counting n (seen v) (s + k) (i + 1)
-      sum_again k z = counting_more n (seen v) s i k (omega (arith, listing_short.len)) low c (sum_below res (Count k) r z)
+      pub sum_again : (k : ℕ) → res ≡ Ok k → Counting n (seen v) (s + k) (i + 1)
+      sum_again k z = counting_more n (seen v) s i k (omega (arith, listing_short.len)) low c (sum_below res (Ok k) r z)
 
-      pub sum_refused : (x : Refusal) → res ≡ Refused x → Refused x ≡ depth_count (suc n) (seen v)
+      pub sum_refused : (x : Refusal) → res ≡ Err x → Err x ≡ depth_count (suc n) (seen v)
       sum_refused x z =
-          counting_refused n (seen v) s i x (omega (arith, listing_short.len)) c (sum_below res (Refused x) r z)
+          counting_refused n (seen v) s i x (omega (arith, listing_short.len)) c (sum_below res (Err x) r z)
           ∙ depth_more n (seen v) listing_short.few
 
 -- a depth that is not 0 is one more than the depth below

@@ -1,4 +1,5 @@
 -- The counts below the moves of a list, stored one by one; unused ones stay 0.
+use Rattle.std.specs.Prelude.{Err, Ok, Result}
 use mathlib.Core.Path.{◌≡◌, refl, sym, ap, ap₂, ◌∙◌}
 use Prim.Native.Nat.{ℕ, zero, suc, ◌+◌, ◌-◌, ◌≤◌, ◌<◌}
 use native.Mathlib.Omega.{arith}
@@ -7,7 +8,6 @@ use mathlib.Core.List.{List, [], ◌∷◌, ◌++◌, map}
 use lib.ListN.{length, take, set, get_or, replicate, length-map, get_or-map}
 use lib.Seq.{length-take-le, take_all, take-suc, append_snoc, set_at, take-append-add}
 use Rattle.squares.specs.declared.refusal.Refusal.{Refusal}
-use Rattle.squares.specs.declared.refusal.Answer.TheVariants as answer
 use Rattle.positions.specs.Boards.{Board}
 use Rattle.positions.specs.Successor.{successor}
 use Rattle.positions.specs.declared.moves.Move.{Move}
@@ -15,8 +15,6 @@ use Rattle.captures.specs.Lists.{blank, list_of}
 use Rattle.captures.specs.declared.moves.MoveList.{MoveList}
 use Rattle.rules.specs.Ordered.{legal}
 use Rattle.movegen.specs.Counts.{depth_count, undivided, number_in, counts_below, divided_by, divided_of}
-use Rattle.movegen.specs.declared.perft.Counted.{Counted}
-use Rattle.movegen.specs.declared.perft.Counted.TheVariants.{Count, Refused}
 use Rattle.movegen.proofs.Counted.{Counting, counting_none, below}
 
 abbrev number : ℕ → Board → Move → ℕ
@@ -51,7 +49,7 @@ module _ (n : ℕ) (b : Board) where
       ∙ ap (λ (ys : List ℕ). ys ++ replicate (256 - (i + 1)) 0)
       (ap (λ (a : ℕ). take i xs ++ (a ∷ [])) (sym e) ∙ sym (take-suc xs i d h) ∙ ap (λ (j : ℕ). take j xs) (sym (add-one i)))
 
-  pub dividing_more : (counts : List ℕ) (i k : ℕ) (d : Dividing n b counts i) → i < length (legal b) → i < 256 → below n b (get_or (legal b) i blank) ≡ Count k
+  pub dividing_more : (counts : List ℕ) (i k : ℕ) (d : Dividing n b counts i) → i < length (legal b) → i < 256 → below n b (get_or (legal b) i blank) ≡ Ok k
       → Counting n b (d.total + k) (i + 1) → Dividing n b (set counts i k) (i + 1)
   unfolding number_in
   dividing_more counts i k d h l e c = record {
@@ -70,14 +68,14 @@ module _ (n : ℕ) (b : Board) where
       ∙ ap (λ (ys : List ℕ). xs ++ ys) (take_zeros (256 - length xs) 256 (omega arith))
 
   pub dividing_done : (counts : List ℕ) (i : ℕ) (list : MoveList) (d : Dividing n b counts i) → i ≡ length (legal b) → length (legal b) ≤ 256 → list ≡ list_of (legal b)
-      → Count d.total ≡ depth_count (suc n) b → record { answer = answer.Done; list = list; counts = counts } ≡ divided_of n b
+      → Ok d.total ≡ depth_count (suc n) b → record { answer = Ok tt; list = list; counts = counts } ≡ divided_of n b
   unfolding divided_of counts_below
   dividing_done counts i list d h l e c =
       let m = length-map (legal b) (number n b) in
-      ap₂ (λ (l : MoveList) (xs : List ℕ). record { answer = answer.Done; list = l; counts = xs }) e
+      ap₂ (λ (l : MoveList) (xs : List ℕ). record { answer = Ok tt; list = l; counts = xs }) e
       (d.stored ∙ ap₂ (λ (xs : List ℕ) (j : ℕ). xs ++ replicate (256 - j) 0) (take_all i (numbers n b) (omega (arith, m))) (h ∙ sym m) ∙ sym (whole (numbers n b) (omega (arith, m))))
-      ∙ ap (λ (x : Counted). divided_by x (record { answer = answer.Done; list = list_of (legal b); counts = take 256 (numbers n b ++ replicate 256 0) })) c
+      ∙ ap (λ (x : Result ℕ Refusal). divided_by x (record { answer = Ok tt; list = list_of (legal b); counts = take 256 (numbers n b ++ replicate 256 0) })) c
 
-  pub divided_refused : (e : Refusal) → depth_count (suc n) b ≡ Refused e → undivided e ≡ divided_of n b
+  pub divided_refused : (e : Refusal) → depth_count (suc n) b ≡ Err e → undivided e ≡ divided_of n b
   unfolding divided_of
-  divided_refused e q = sym (ap (λ (x : Counted). divided_by x (record { answer = answer.Done; list = list_of (legal b); counts = counts_below n b })) q)
+  divided_refused e q = sym (ap (λ (x : Result ℕ Refusal). divided_by x (record { answer = Ok tt; list = list_of (legal b); counts = counts_below n b })) q)

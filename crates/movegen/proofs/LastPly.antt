@@ -1,4 +1,5 @@
 -- On a fair board the last ply's number is the depth count 1: the number of legal moves, or 17.
+use Rattle.std.specs.Prelude.{Err, Ok}
 use mathlib.Core.Path.{◌≡◌, refl, sym, ap, ◌∙◌}
 use Prim.Native.Nat.{ℕ, ◌+◌, min}
 use native.Mathlib.Omega.{arith}
@@ -31,32 +32,31 @@ use Rattle.captures.specs.View.{view_of}
 use Rattle.movegen.specs.Generate.{seen, capture_moves_of}
 use Rattle.movegen.specs.LastPly.{limited_count, listed_count, count_by_sets, last_ply_of}
 use Rattle.captures.specs.declared.view.View.{View}
-use Rattle.movegen.specs.declared.perft.Counted.TheVariants.{Count, Refused}
 use Rattle.movegen.proofs.Generated.{view_seen}
 
 -- ---- depth 1
-ones : (l : List Move) (s : ℕ) → sum_from (λ m. Count 1) s l ≡ Count (s + length l)
+ones : (l : List Move) (s : ℕ) → sum_from (λ m. Ok 1) s l ≡ Ok (s + length l)
 unfolding sum_from then_count
-ones [] s = ap Count (omega arith)
-ones (m ∷ l) s = ones l (s + 1) ∙ ap Count (omega arith)
+ones [] s = ap Ok (omega arith)
+ones (m ∷ l) s = ones l (s + 1) ∙ ap Ok (omega arith)
 
 pub depth_one : (b : Board) → depth_count 1 b ≡ limited_count (length (legal b))
 unfolding depth_count limited_count
 depth_one b = go (ltb 256 (length (legal b)))
   where
-    go : (t : Bool) → elim t [ true ↦ Refused TooManyMoves | false ↦ sum_from (λ m. Count 1) 0 (legal b) ] ≡ cond t (Refused TooManyMoves) (Count (length (legal b)))
+    go : (t : Bool) → elim t [ true ↦ Err TooManyMoves | false ↦ sum_from (λ m. Ok 1) 0 (legal b) ] ≡ cond t (Err TooManyMoves) (Ok (length (legal b)))
     go true = refl
-    go false = ones (legal b) 0 ∙ ap Count (omega arith)
+    go false = ones (legal b) 0 ∙ ap Ok (omega arith)
 
 -- ---- the formula
 -- a list with its mark, and its number
-marked : (n k : ℕ) (o : Bool) → o ≡ ltb 256 n → k ≡ min 256 n → cond o (Refused TooManyMoves) (Count k) ≡ limited_count n
+marked : (n k : ℕ) (o : Bool) → o ≡ ltb 256 n → k ≡ min 256 n → cond o (Err TooManyMoves) (Ok k) ≡ limited_count n
 unfolding limited_count
-marked n k o e q = ap (λ (t : Bool). cond t (Refused TooManyMoves) (Count k)) e ∙ go (ltb 256 n) refl
+marked n k o e q = ap (λ (t : Bool). cond t (Err TooManyMoves) (Ok k)) e ∙ go (ltb 256 n) refl
   where
-    go : (t : Bool) → ltb 256 n ≡ t → cond t (Refused TooManyMoves) (Count k) ≡ cond t (Refused TooManyMoves) (Count n)
+    go : (t : Bool) → ltb 256 n ≡ t → cond t (Err TooManyMoves) (Ok k) ≡ cond t (Err TooManyMoves) (Ok n)
     go true p = refl
-    go false p = ap Count (omega (arith, q, ltb-false 256 n p))
+    go false p = ap Ok (omega (arith, q, ltb-false 256 n p))
 
 by_sets : (b : Board) → Fair b → count_by_sets (pieces b Man) (pieces b King) (enemy b) (empty b) b.side ≡ limited_count (length (legal b))
 unfolding count_by_sets listed_count capture_moves_of list_of

@@ -1,4 +1,5 @@
 -- The list within a limit, the search in it, the position after a move of it.
+use Rattle.std.specs.Prelude.{Err, Ok}
 use mathlib.Core.Path.{◌≡◌, refl, sym, ap, ap₂, ◌∙◌}
 use Prim.Native.Nat.{ℕ, ◌≤◌}
 use native.Mathlib.Omega.{arith}
@@ -9,7 +10,6 @@ use lib.ListN.{length}
 use lib.Dec.{leb, ltb}
 use borrow.Author.Tests.{ltb-true, ltb-false, lt-leb, le-leb}
 use Rattle.squares.specs.declared.refusal.Refusal.TheVariants.{TooManyMoves, NoMoveFits, NoSuchSquare, BadPosition}
-use Rattle.squares.specs.declared.refusal.Answer.TheVariants as answer
 use Rattle.positions.specs.Acceptance.{sound, Sound}
 use Rattle.positions.specs.Boards.{Board, board_of, colored, enemy, of_kind, pieces, empty}
 use Rattle.positions.specs.Hash.{position_of}
@@ -17,7 +17,6 @@ use Rattle.positions.specs.Moves.{squares_of}
 use Rattle.positions.specs.Successor.{successor, Playable, play_of}
 use Rattle.positions.specs.declared.moves.Move.{Move}
 use Rattle.positions.specs.declared.position.Position.{Position}
-use Rattle.positions.specs.declared.position.Placed.TheVariants as placed
 use Rattle.positions.proofs.Accepts.{sound_says, position_sound, of_position}
 use Rattle.positions.proofs.Hashes.{play_is}
 use Rattle.positions.proofs.Kept.{successor_accepted}
@@ -38,7 +37,6 @@ use Rattle.quiets.specs.Tests.{has_quiet_of, has_capture_of}
 use Rattle.quiets.specs.declared.quiets.Listing.{Listing}
 use Rattle.movegen.specs.Lists.{refused_list, listed_of, within_of, has_captures_of, has_quiet_moves_of, played_of, after_of}
 use Rattle.movegen.specs.declared.movegen.Listed.{Listed}
-use Rattle.movegen.specs.declared.movegen.Tested.TheVariants as tested
 use Rattle.capture_laws.proofs.Recorded.{listed_is}
 use Rattle.capture_laws.proofs.Stored.{few_len, few_entries}
 use Rattle.quiet_laws.proofs.Filled.{filled}
@@ -54,10 +52,10 @@ unfolding within_of listed_of
 within_law xs limit h = go (ltb 256 (length xs)) refl
   where
     told : Bool → Listed
-    told t = cond t (refused_list TooManyMoves) (record { answer = answer.Done; list = list_of xs })
+    told t = cond t (refused_list TooManyMoves) (record { answer = Ok tt; list = list_of xs })
 
     done : Bool → Listed
-    done t = cond t (record { answer = answer.Done; list = list_of xs }) (refused_list TooManyMoves)
+    done t = cond t (record { answer = Ok tt; list = list_of xs }) (refused_list TooManyMoves)
 
     short : (t : Bool) → ltb limit (length xs) ≡ t → told (ltb limit (length xs)) ≡ done (leb (length xs) limit)
     short true e = ap told e ∙ sym (ap done (lt-leb (length xs) limit (ltb-true limit (length xs) e)))
@@ -79,38 +77,38 @@ found_law l xs m e o =
     ∙ listed_is xs m
 
 -- ---- the position after a move
-pub played_many : (p : Position) (m : Move) → ltb 256 (length (legal (board_of p))) ≡ true → placed.Refused TooManyMoves ≡ played_of p m
+pub played_many : (p : Position) (m : Move) → ltb 256 (length (legal (board_of p))) ≡ true → Err TooManyMoves ≡ played_of p m
 unfolding played_of
 played_many p m e =
-    sym (ap (λ (t : Bool). cond t (placed.Refused TooManyMoves) (cond (listed (legal (board_of p)) m) (placed.Position (position_of (successor (board_of p) m))) (placed.Refused NoMoveFits))) e)
+    sym (ap (λ (t : Bool). cond t (Err TooManyMoves) (cond (listed (legal (board_of p)) m) (Ok (position_of (successor (board_of p) m))) (Err NoMoveFits))) e)
 
-pub played_none : (p : Position) (m : Move) → ltb 256 (length (legal (board_of p))) ≡ false → listed (legal (board_of p)) m ≡ false → placed.Refused NoMoveFits ≡ played_of p m
+pub played_none : (p : Position) (m : Move) → ltb 256 (length (legal (board_of p))) ≡ false → listed (legal (board_of p)) m ≡ false → Err NoMoveFits ≡ played_of p m
 unfolding played_of
-played_none p m e n = sym (ap₂ (λ (s t : Bool). cond s (placed.Refused TooManyMoves) (cond t (placed.Position (position_of (successor (board_of p) m))) (placed.Refused NoMoveFits))) e n)
+played_none p m e n = sym (ap₂ (λ (s t : Bool). cond s (Err TooManyMoves) (cond t (Ok (position_of (successor (board_of p) m))) (Err NoMoveFits))) e n)
 
 pub listed_playable : (p : Position) (m : Move) → sound p ≡ true → listed (legal (board_of p)) m ≡ true → Playable (board_of p) m
 listed_playable p m s e = legal_playable (board_of p) (fair_of p s) m ((listed_legal (board_of p) (fair_of p s) m).0 e)
 
 pub played_one : (p : Position) (m : Move) → sound p ≡ true → ltb 256 (length (legal (board_of p))) ≡ false → listed (legal (board_of p)) m ≡ true
-    → placed.Position (play_of p m) ≡ played_of p m
+    → Ok (play_of p m) ≡ played_of p m
 unfolding played_of
 played_one p m s e o =
-    ap placed.Position (play_is p m (sound_says p s) (listed_playable p m s o))
-    ∙ sym (ap₂ (λ (s t : Bool). cond s (placed.Refused TooManyMoves) (cond t (placed.Position (position_of (successor (board_of p) m))) (placed.Refused NoMoveFits))) e o)
+    ap Ok (play_is p m (sound_says p s) (listed_playable p m s o))
+    ∙ sym (ap₂ (λ (s t : Bool). cond s (Err TooManyMoves) (cond t (Ok (position_of (successor (board_of p) m))) (Err NoMoveFits))) e o)
 
 -- past 12 and 11
 pub after_at : (p : Position) (m : Move) → sound p ≡ true → squares_of m ≡ true → played_of p m ≡ after_of p m
 unfolding after_of
-after_at p m s q = sym (ap₂ (λ (s t : Bool). cond s (cond t (played_of p m) (placed.Refused NoSuchSquare)) (placed.Refused BadPosition)) s q)
+after_at p m s q = sym (ap₂ (λ (s t : Bool). cond s (cond t (played_of p m) (Err NoSuchSquare)) (Err BadPosition)) s q)
 
 -- what is handed back is sound
-pub after_sound : (p q : Position) (m : Move) → after_of p m ≡ placed.Position q → Sound q
+pub after_sound : (p q : Position) (m : Move) → after_of p m ≡ Ok q → Sound q
 unfolding after_of played_of
 after_sound p q m e = go (sound p) refl (squares_of m) (ltb 256 (length (legal (board_of p)))) (listed (legal (board_of p)) m) refl e
   where
     go : (s : Bool) → sound p ≡ s → (t n o : Bool) → listed (legal (board_of p)) m ≡ o
-        → cond s (cond t (cond n (placed.Refused TooManyMoves) (cond o (placed.Position (position_of (successor (board_of p) m))) (placed.Refused NoMoveFits))) (placed.Refused NoSuchSquare)) (placed.Refused BadPosition)
-        ≡ placed.Position q → Sound q
+        → cond s (cond t (cond n (Err TooManyMoves) (cond o (Ok (position_of (successor (board_of p) m))) (Err NoMoveFits))) (Err NoSuchSquare)) (Err BadPosition)
+        ≡ Ok q → Sound q
     go true s true false true o e =
         rw (← of_position e)
         (position_sound (successor (board_of p) m) (successor_accepted (board_of p) m (sound_says p s).accepted (listed_playable p m s o)))
@@ -130,22 +128,22 @@ empty_is b = ap (without all) (both b.side)
     both Black = or_comm b.black b.white
 
 module _ (p : Position) (s : sound p ≡ true) (v : View) (e : v ≡ view_of (board_of p)) where
-  pub captures_tested : (r : Bool) → r ≡ has_capture_of (own_men_of v) (own_kings_of v) v.them (empty_of v) → tested.Is r ≡ has_captures_of p
+  pub captures_tested : (r : Bool) → r ≡ has_capture_of (own_men_of v) (own_kings_of v) v.them (empty_of v) → Ok r ≡ has_captures_of p
   unfolding has_captures_of pieces of_kind
   captures_tested r h =
       let b = board_of p in
-      ap tested.Is
+      ap Ok
       (h ∙ ap (λ (w : View). has_capture_of (own_men_of w) (own_kings_of w) w.them (empty_of w)) e
       ∙ ap (has_capture_of (own_men_of (view_of b)) (own_kings_of (view_of b)) (enemy b)) (empty_is b)
       ∙ has_capture_law b (fair_of p s))
-      ∙ sym (ap (λ (t : Bool). cond t (tested.Is (some (captures (board_of p)))) (tested.Refused BadPosition)) s)
+      ∙ sym (ap (λ (t : Bool). cond t (Ok (some (captures (board_of p)))) (Err BadPosition)) s)
 
-  pub quiets_tested : (r : Bool) → r ≡ has_quiet_of (own_men_of v) (own_kings_of v) (empty_of v) v.side → tested.Is r ≡ has_quiet_moves_of p
+  pub quiets_tested : (r : Bool) → r ≡ has_quiet_of (own_men_of v) (own_kings_of v) (empty_of v) v.side → Ok r ≡ has_quiet_moves_of p
   unfolding has_quiet_moves_of pieces of_kind
   quiets_tested r h =
       let b = board_of p in
-      ap tested.Is
+      ap Ok
       (h ∙ ap (λ (w : View). has_quiet_of (own_men_of w) (own_kings_of w) (empty_of w) w.side) e
       ∙ ap (λ (x : ℕ). has_quiet_of (own_men_of (view_of b)) (own_kings_of (view_of b)) x p.side) (empty_is b)
       ∙ has_quiet_law b (fair_of p s))
-      ∙ sym (ap (λ (t : Bool). cond t (tested.Is (some (quiets (board_of p)))) (tested.Refused BadPosition)) s)
+      ∙ sym (ap (λ (t : Bool). cond t (Ok (some (quiets (board_of p)))) (Err BadPosition)) s)

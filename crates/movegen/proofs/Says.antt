@@ -1,5 +1,6 @@
 -- What the answers of the entries say in the words of the rules (crates/rules/specs/Rules.antt), for every input: laws that a
 -- caller can cite.
+use Rattle.std.specs.Prelude.{Err, Ok}
 use mathlib.Core.Path.{◌≡◌, refl, sym, ap, ◌∙◌}
 use mathlib.Core.Bool.{Bool, true, false, cond}
 use mathlib.Core.List.{List}
@@ -10,7 +11,6 @@ use lib.Dec.{leb, ltb}
 use lib.ListN.{length}
 use borrow.Author.Tests.{leb-true, le-ltb}
 use Rattle.squares.specs.Refusals.{refusal}
-use Rattle.squares.specs.declared.refusal.Answer.TheVariants as answer
 use Rattle.squares.proofs.Refusals.{not_done}
 use Rattle.positions.specs.Acceptance.{sound}
 use Rattle.positions.specs.Boards.{board_of}
@@ -18,7 +18,6 @@ use Rattle.positions.specs.Hash.{position_of}
 use Rattle.positions.specs.Moves.{squares_of}
 use Rattle.positions.specs.Successor.{successor}
 use Rattle.positions.specs.declared.moves.Move.{Move}
-use Rattle.positions.specs.declared.position.Placed.TheVariants as placed
 use Rattle.positions.specs.declared.position.Position.{Position}
 use Rattle.captures.specs.Lists as codes
 use Rattle.captures.specs.Lists.{entries, list_of}
@@ -30,7 +29,6 @@ use Rattle.capture_laws.proofs.Recorded.{listed_is}
 use Rattle.capture_laws.proofs.Stored.{few_entries}
 use Rattle.movegen.specs.Lists.{refused_list, listed_of, legal_moves_of, has_captures_of, has_quiet_moves_of, played_of, after_of}
 use Rattle.movegen.specs.declared.movegen.Listed.{Listed}
-use Rattle.movegen.specs.declared.movegen.Tested.TheVariants as tested
 use Rattle.movegen.proofs.Answers.{after_one}
 use Rattle.movegen.proofs.Listed.{fair_of}
 
@@ -43,17 +41,17 @@ listed_here l m = listed_is l m
 abbrev answered : Position → Bool → Bool → Bool → Listed
 answered p s t u =
     cond s
-    (cond t (cond u (record { answer = answer.Done; list = list_of (legal (board_of p)) }) (refused_list (refusal 17))) (refused_list (refusal 10)))
+    (cond t (cond u (record { answer = Ok tt; list = list_of (legal (board_of p)) }) (refused_list (refusal 17))) (refused_list (refusal 10)))
     (refused_list (refusal 12))
 
 -- ---- the list: where it answers, a move is in it exactly when it is legal
-pub moves_say : (p : Position) (limit : ℕ) → (legal_moves_of p limit).answer ≡ answer.Done → (m : Move)
+pub moves_say : (p : Position) (limit : ℕ) → (legal_moves_of p limit).answer ≡ Ok tt → (m : Move)
     → (codes.listed (entries (legal_moves_of p limit).list) m ≡ true) ↔ Legal (board_of p) m
 unfolding legal_moves_of listed_of
 moves_say p limit e m = go (sound p) refl (leb limit 256) refl (leb (length (legal (board_of p))) limit) refl e
   where
     go : (s : Bool) → sound p ≡ s → (t : Bool) → leb limit 256 ≡ t → (u : Bool) → leb (length (legal (board_of p))) limit ≡ u
-        → (answered p s t u).answer ≡ answer.Done → (codes.listed (entries (answered p s t u).list) m ≡ true) ↔ Legal (board_of p) m
+        → (answered p s t u).answer ≡ Ok tt → (codes.listed (entries (answered p s t u).list) m ≡ true) ↔ Legal (board_of p) m
     go true s true t true u h =
         let a = leb-true limit 256 t in
         let b = leb-true (length (legal (board_of p))) limit u in
@@ -65,11 +63,11 @@ moves_say p limit e m = go (sound p) refl (leb limit 256) refl (leb (length (leg
     go false s t u v w h = not_done (refusal 12) h
 
 -- ---- the tests: where they answer, they say whether a jump is open, and whether there is a quiet move
-pub captures_say : (p : Position) (t : Bool) → has_captures_of p ≡ tested.Is t → (t ≡ true) ↔ Open (board_of p)
+pub captures_say : (p : Position) (t : Bool) → has_captures_of p ≡ Ok t → (t ≡ true) ↔ Open (board_of p)
 unfolding has_captures_of
 captures_say p t e = go (sound p) refl e
   where
-    go : (s : Bool) → sound p ≡ s → cond s (tested.Is (some (captures (board_of p)))) (tested.Refused (refusal 12)) ≡ tested.Is t
+    go : (s : Bool) → sound p ≡ s → cond s (Ok (some (captures (board_of p)))) (Err (refusal 12)) ≡ Ok t
         → (t ≡ true) ↔ Open (board_of p)
     go true s h =
         let q : some (captures (board_of p)) ≡ t = cc in
@@ -77,11 +75,11 @@ captures_say p t e = go (sound p) refl e
         ((λ z. r.0 (q ∙ z)), (λ o. sym q ∙ r.1 o))
     go false s h = absurd (let z : ◌≡◌ {A = ℕ} 0 1 = cc in omega arith)
 
-pub quiets_say : (p : Position) (t : Bool) → has_quiet_moves_of p ≡ tested.Is t → (t ≡ true) ↔ ((w : BitMove) × Quiet (board_of p) w)
+pub quiets_say : (p : Position) (t : Bool) → has_quiet_moves_of p ≡ Ok t → (t ≡ true) ↔ ((w : BitMove) × Quiet (board_of p) w)
 unfolding has_quiet_moves_of
 quiets_say p t e = go (sound p) refl e
   where
-    go : (s : Bool) → sound p ≡ s → cond s (tested.Is (some (quiets (board_of p)))) (tested.Refused (refusal 12)) ≡ tested.Is t
+    go : (s : Bool) → sound p ≡ s → cond s (Ok (some (quiets (board_of p)))) (Err (refusal 12)) ≡ Ok t
         → (t ≡ true) ↔ ((w : BitMove) × Quiet (board_of p) w)
     go true s h =
         let q : some (quiets (board_of p)) ≡ t = cc in
@@ -90,13 +88,13 @@ quiets_say p t e = go (sound p) refl e
     go false s h = absurd (let z : ◌≡◌ {A = ℕ} 0 1 = cc in omega arith)
 
 -- ---- the position after a move: only a legal move is answered, with its successor
-pub after_says : (p q : Position) (m : Move) → after_of p m ≡ placed.Position q → Legal (board_of p) m × (q ≡ position_of (successor (board_of p) m))
+pub after_says : (p q : Position) (m : Move) → after_of p m ≡ Ok q → Legal (board_of p) m × (q ≡ position_of (successor (board_of p) m))
 unfolding after_of played_of
 after_says p q m e = go (sound p) refl (squares_of m) (ltb 256 (length (legal (board_of p)))) (listed (legal (board_of p)) m) refl e
   where
     go : (s : Bool) → sound p ≡ s → (t n o : Bool) → listed (legal (board_of p)) m ≡ o
-        → cond s (cond t (cond n (placed.Refused (refusal 17)) (cond o (placed.Position (position_of (successor (board_of p) m))) (placed.Refused (refusal 15)))) (placed.Refused (refusal 11))) (placed.Refused (refusal 12))
-        ≡ placed.Position q → Legal (board_of p) m × (q ≡ position_of (successor (board_of p) m))
+        → cond s (cond t (cond n (Err (refusal 17)) (cond o (Ok (position_of (successor (board_of p) m))) (Err (refusal 15)))) (Err (refusal 11))) (Err (refusal 12))
+        ≡ Ok q → Legal (board_of p) m × (q ≡ position_of (successor (board_of p) m))
     go true s true false true o h = ((listed_legal (board_of p) (fair_of p s) m).0 o, cc)
     go true s true false false o h = absurd (let z : ◌≡◌ {A = ℕ} 0 1 = cc in omega arith)
     go true s true true t o h = absurd (let z : ◌≡◌ {A = ℕ} 0 1 = cc in omega arith)
@@ -105,7 +103,7 @@ after_says p q m e = go (sound p) refl (squares_of m) (ltb 256 (length (legal (b
 
 -- and on a sound position with at most 256 moves every legal move is
 pub legal_after : (p : Position) (m : Move) → sound p ≡ true → length (legal (board_of p)) ≤ 256 → Legal (board_of p) m
-    → after_of p m ≡ placed.Position (position_of (successor (board_of p) m))
+    → after_of p m ≡ Ok (position_of (successor (board_of p) m))
 legal_after p m s few h =
     let fair = fair_of p s in
     after_one p s m (legal_squares (board_of p) fair m h) (le-ltb 256 (length (legal (board_of p))) few) ((listed_legal (board_of p) fair m).1 h)

@@ -1,4 +1,5 @@
 -- A short list that had room for all captures gives the list of the search, and its number.
+use Rattle.std.specs.Prelude.{Err, Ok}
 use mathlib.Core.Path.{◌≡◌, sym, ap, ap₂, ◌∙◌, subst}
 use mathlib.Core.Bool.{Bool, false, cond}
 use Prim.Native.Nat.{ℕ}
@@ -12,7 +13,6 @@ use Rattle.captures.proofs.Alike.{Alike, few_alike, listed_all}
 use Rattle.quiets.specs.Quiets.{listing}
 use Rattle.movegen.specs.Generate.{listing_of, long_captures_of, capture_moves_of}
 use Rattle.movegen.specs.LastPly.{listed_count}
-use Rattle.movegen.specs.declared.perft.Counted.TheVariants.{Count, Refused}
 
 module _ (men kings them empty : ℕ) (t : Captures 14) (q : t ≡ all_captures_of 14 men kings them empty) where
   alike : Alike (long_captures_of men kings them empty) t
@@ -27,8 +27,8 @@ module _ (men kings them empty : ℕ) (t : Captures 14) (q : t ≡ all_captures_
       (ap list_in q ∙ listed_all 14 (omega arith) men kings them empty ∙ ap list_of (sym s.moves) ∙ sym (listed_all 256 (omega arith) men kings them empty))
       (o ∙ sym s.overflow)
 
-  pub as_many : t.overflow ≡ false → Count t.len ≡ listed_count (capture_moves_of men kings them empty)
+  pub as_many : t.overflow ≡ false → Ok t.len ≡ listed_count (capture_moves_of men kings them empty)
   unfolding listed_count capture_moves_of list_in
   as_many o =
       let s = alike.same o in
-      sym (ap₂ (λ (x : Bool) (n : ℕ). cond x (Refused TooManyMoves) (Count n)) s.overflow s.len)
+      sym (ap₂ (λ (x : Bool) (n : ℕ). cond x (Err TooManyMoves) (Ok n)) s.overflow s.len)

@@ -1,7 +1,7 @@
 -- The last ply of a depth count, computed on sets: the number of moves, or 17 where there are more than 256. No list
 -- is made where no jump is open. A law says that this is the depth count 1 of the rules (`last_ply` in
 -- proofs/LastPly.antt).
-use Rattle.std.specs.Prelude.{ℕ, cond, ltb, length}
+use Rattle.std.specs.Prelude.{ℕ, cond, ltb, length, Err, Ok, Result}
 use Rattle.std.specs.Int.Bits.{bit_and, bit_or}
 use Rattle.squares.specs.Sets.{without}
 use Rattle.squares.specs.Squares.{all}
@@ -12,20 +12,19 @@ use Rattle.quiets.specs.Quiets.{all_quiets}
 use Rattle.quiets.specs.declared.quiets.Listing.{Listing}
 use Rattle.movegen.specs.Generate.{capture_moves_of}
 use Rattle.captures.specs.declared.view.View.{View}
-use Rattle.movegen.specs.declared.perft.Counted.{Counted}
-use Rattle.movegen.specs.declared.perft.Counted.TheVariants.{Count, Refused}
+use Rattle.squares.specs.declared.refusal.Refusal.{Refusal}
 
 -- a number of moves, or 17 where it is above 256
-unfoldable pub limited_count : ℕ → Counted
-limited_count n = cond (ltb 256 n) (Refused (refusal 17)) (Count n)
+unfoldable pub limited_count : ℕ → Result ℕ Refusal
+limited_count n = cond (ltb 256 n) (Err (refusal 17)) (Ok n)
 
 -- the number of moves in a list, or 17 where it is marked as too short for them
-unfoldable pub listed_count : Listing → Counted
-listed_count l = cond l.overflow (Refused (refusal 17)) (Count l.list.len)
+unfoldable pub listed_count : Listing → Result ℕ Refusal
+listed_count l = cond l.overflow (Err (refusal 17)) (Ok l.list.len)
 
-unfoldable pub count_by_sets : ℕ → ℕ → ℕ → ℕ → Color → Counted
+unfoldable pub count_by_sets : ℕ → ℕ → ℕ → ℕ → Color → Result ℕ Refusal
 count_by_sets men kings them empty side =
     cond (has_capture_of men kings them empty) (listed_count (capture_moves_of men kings them empty)) (limited_count (length (all_quiets men kings empty side)))
 
-unfoldable pub last_ply_of : View → Counted
+unfoldable pub last_ply_of : View → Result ℕ Refusal
 last_ply_of v = count_by_sets (without v.us v.kings) (bit_and v.us v.kings) v.them (without all (bit_or v.us v.them)) v.side

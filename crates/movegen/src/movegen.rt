@@ -24,10 +24,10 @@ use captures::movegen::Captures;
 use captures::pieces::{ROOM, all_captures};
 use captures::view::View;
 use positions::moves::Move;
-use positions::position::{Placed, Position};
+use positions::position::Position;
 use quiets::quiets::Listing;
 use squares::bitboard;
-use squares::refusal::{Answer, Refusal};
+use squares::refusal::Refusal;
 
 // A side with more kings than this skips the short list of captures.
 const FEW_KINGS: u32 = 3;
@@ -35,15 +35,8 @@ const FEW_KINGS: u32 = 3;
 // The answer and the list. Where the call is refused, the list is empty.
 #[derive(Clone, Copy)]
 pub struct Listed {
-    pub answer: Answer,
+    pub answer: Result<(), Refusal>,
     pub list: MoveList,
-}
-
-// The result of a test, or the refusal.
-#[derive(Clone, Copy)]
-pub enum Tested {
-    Is(bool),
-    Refused(Refusal),
 }
 
 // What a search found, as a list.
@@ -75,7 +68,7 @@ pub(crate) fn generate(v: View) -> Listing
 }
 
 // The empty list, with this answer.
-pub fn no_moves(answer: Answer) -> Listed
+pub fn no_moves(answer: Result<(), Refusal>) -> Listed
     ensures { result ≡ no_list answer }
 {
     let list = MoveList::new();
@@ -88,7 +81,7 @@ pub fn no_moves(answer: Answer) -> Listed
 fn refused(e: Refusal) -> Listed
     ensures { result ≡ refused_list e }
 {
-    no_moves(Answer::Refused(e))
+    no_moves(Err(e))
 }
 
 // The list if it has at most `limit` moves, else 17.
@@ -100,7 +93,7 @@ fn within(l: Listing, limit: usize) -> Listed
         return refused(Refusal::TooManyMoves);
     }
     Listed {
-        answer: Answer::Done,
+        answer: Ok(()),
         list: list,
     }
 }
@@ -119,27 +112,27 @@ pub fn legal_moves(p: Position, limit: usize) -> Listed
 }
 
 // Whether the side to move has a capture. Refusal: 12.
-pub fn has_captures(p: Position) -> Tested
+pub fn has_captures(p: Position) -> Result<bool, Refusal>
     ensures { result ≡ has_captures_of p }
 {
     if p.sound() {
-        return Tested::Is(quiets::quiets::has_capture(View::of(p)));
+        return Ok(quiets::quiets::has_capture(View::of(p)));
     }
-    Tested::Refused(Refusal::BadPosition)
+    Err(Refusal::BadPosition)
 }
 
 // Whether the side to move has a quiet move, even where it must capture. Refusal: 12.
-pub fn has_quiet_moves(p: Position) -> Tested
+pub fn has_quiet_moves(p: Position) -> Result<bool, Refusal>
     ensures { result ≡ has_quiet_moves_of p }
 {
     if p.sound() {
-        return Tested::Is(quiets::quiets::has_quiet(View::of(p)));
+        return Ok(quiets::quiets::has_quiet(View::of(p)));
     }
-    Tested::Refused(Refusal::BadPosition)
+    Err(Refusal::BadPosition)
 }
 
 // The position after a legal move, with its hash. Refusals: 12, 11, 17, 15.
-pub fn after(p: Position, m: Move) -> Placed
+pub fn after(p: Position, m: Move) -> Result<Position, Refusal>
     ensures { result ≡ after_of p m }
 {
     if p.sound() {
@@ -147,14 +140,14 @@ pub fn after(p: Position, m: Move) -> Placed
             let l = generate(View::of(p));
             let list = l.list;
             if l.overflow {
-                return Placed::Refused(Refusal::TooManyMoves);
+                return Err(Refusal::TooManyMoves);
             }
             if list.contains(m) {
-                return Placed::Position(position::play(p, m));
+                return Ok(position::play(p, m));
             }
-            return Placed::Refused(Refusal::NoMoveFits);
+            return Err(Refusal::NoMoveFits);
         }
-        return Placed::Refused(Refusal::NoSuchSquare);
+        return Err(Refusal::NoSuchSquare);
     }
-    Placed::Refused(Refusal::BadPosition)
+    Err(Refusal::BadPosition)
 }

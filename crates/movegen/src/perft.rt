@@ -27,25 +27,18 @@ use captures::view::View;
 use positions::moves::Move;
 use positions::position::Position;
 use squares::bitboard::Bitboard;
-use squares::refusal::{Answer, Refusal};
+use squares::refusal::Refusal;
 use squares::square::Square;
 use squares::{bitboard, square};
 
 // The largest depth: 256^7 still fits in 64 bits.
 pub const MAX_DEPTH: u32 = 7;
 
-// A count, or the refusal.
-#[derive(Clone, Copy)]
-pub enum Counted {
-    Count(u64),
-    Refused(Refusal),
-}
-
 // The first moves and the count after each; unused counts are 0. Where the call is refused, the list is empty and all
 // counts are 0.
 #[derive(Clone, Copy)]
 pub struct Divided {
-    pub answer: Answer,
+    pub answer: Result<(), Refusal>,
     pub list: MoveList,
     pub counts: [u64; 256],
 }
@@ -72,42 +65,42 @@ fn next(v: View, mv: Move) -> View
 }
 
 // A number of moves, or 17 where it is above 256.
-fn limited(moves: u32) -> Counted
+fn limited(moves: u32) -> Result<u64, Refusal>
     ensures { result ≡ limited_count moves }
 {
     if MAX_MOVES < moves as usize {
-        Counted::Refused(Refusal::TooManyMoves)
+        Err(Refusal::TooManyMoves)
     } else {
-        Counted::Count(moves as u64)
+        Ok(moves as u64)
     }
 }
 
 // The number of moves that a search found, or 17 where it found more than 256.
 #[tactic(auto, unfolding(crate::specs::LastPly::listed_count, captures::specs::Record::list_in))]
-fn listed(found: &Captures<256>) -> Counted
+fn listed(found: &Captures<256>) -> Result<u64, Refusal>
     ensures { result ≡ listed_count (listing_of found.now) }
 {
     if found.overflow {
-        Counted::Refused(Refusal::TooManyMoves)
+        Err(Refusal::TooManyMoves)
     } else {
-        Counted::Count(found.len as u64)
+        Ok(found.len as u64)
     }
 }
 
 // The number of captures, from a short list, or from the long one where the short one is too small.
-fn captures_count(v: View) -> Counted
+fn captures_count(v: View) -> Result<u64, Refusal>
     ensures { result ≡ listed_count (capture_moves_of (own_men_of v) (own_kings_of v) v.them (empty_of v)) }
 {
     let few = all_captures::<ROOM>(v);
     if !few.overflow {
-        return Counted::Count(few.len as u64);
+        return Ok(few.len as u64);
     }
     listed(&all_captures::<MAX_MOVES>(v))
 }
 
 // The number of legal moves: the last ply of a count needs no more. Where no jump is open no list is made, and the long
 // list is made only where the short one is too small.
-fn last_ply(v: View) -> Counted
+fn last_ply(v: View) -> Result<u64, Refusal>
     ensures { result ≡ last_ply_of v }
 {
     if quiets::quiets::has_capture(v) {
@@ -118,19 +111,19 @@ fn last_ply(v: View) -> Counted
 }
 
 // The number of ways to play `depth` plies.
-fn count(v: View, depth: u32) -> Counted
+fn count(v: View, depth: u32) -> Result<u64, Refusal>
     requires { Accepted (seen v) × (depth ≤ 7) }
     ensures { result ≡ depth_count depth (seen v) }
 {
     if depth == 0 {
-        return Counted::Count(1);
+        return Ok(1);
     }
     if depth == 1 {
         return last_ply(v);
     }
     let l = movegen::generate(v);
     if l.overflow {
-        return Counted::Refused(Refusal::TooManyMoves);
+        return Err(Refusal::TooManyMoves);
     }
     let list = l.list;
     let len = list.len;
@@ -139,29 +132,29 @@ fn count(v: View, depth: u32) -> Counted
     while i < len {
         let mv = list.moves[i];
         match count(next(v, mv), depth - 1) {
-            Counted::Count(n) => {
+            Ok(n) => {
                 sum += n;
             }
-            Counted::Refused(e) => {
-                return Counted::Refused(e);
+            Err(e) => {
+                return Err(e);
             }
         }
         i += 1;
     }
-    Counted::Count(sum)
+    Ok(sum)
 }
 
 // The depth count of a position. Refusals: 12, 10, 17.
-pub fn perft(p: Position, depth: u32) -> Counted
+pub fn perft(p: Position, depth: u32) -> Result<u64, Refusal>
     ensures { result ≡ perft_of p depth }
 {
     if p.sound() {
         if depth <= MAX_DEPTH {
             return count(View::of(p), depth);
         }
-        return Counted::Refused(Refusal::BeyondLimit);
+        return Err(Refusal::BeyondLimit);
     }
-    Counted::Refused(Refusal::BadPosition)
+    Err(Refusal::BadPosition)
 }
 
 fn refused(e: Refusal) -> Divided
@@ -170,7 +163,7 @@ fn refused(e: Refusal) -> Divided
     let list = MoveList::new();
     let counts = [0u64; 256];
     Divided {
-        answer: Answer::Refused(e),
+        answer: Err(e),
         list: list,
         counts: counts,
     }
@@ -192,17 +185,17 @@ fn split(v: View, plies: u32) -> Divided
     while i < len {
         let mv = list.moves[i];
         match count(next(v, mv), plies) {
-            Counted::Count(n) => {
+            Ok(n) => {
                 counts[i] = n;
             }
-            Counted::Refused(e) => {
+            Err(e) => {
                 return refused(e);
             }
         }
         i += 1;
     }
     Divided {
-        answer: Answer::Done,
+        answer: Ok(()),
         list: list,
         counts: counts,
     }

@@ -1,4 +1,5 @@
 -- What a move's text says fits that move and no other: the form in which a round trip needs it.
+use Rattle.std.specs.Prelude.{Ok}
 use mathlib.Core.Path.{◌≡◌, refl, sym, ap, ap₂, ◌∙◌}
 use Prim.Native.Nat.{ℕ, ◌<◌, ◌≤◌}
 use native.Mathlib.Omega.{arith}
@@ -22,8 +23,6 @@ use Rattle.movegen.proofs.Listed.{fair_of}
 use Rattle.notation.specs.Notation.{read_move_of}
 use Rattle.notation.specs.Choice.{begins, as_hub, by_ends, or_else, fitting, only, fit_of, parse_move_of}
 use Rattle.notation.specs.declared.notation.Said.{Said}
-use Rattle.notation.specs.declared.notation.Heard.TheVariants as heard
-use Rattle.notation.specs.declared.notation.Found.TheVariants as found
 
 -- what was read says m: as Hub where it takes a piece, by its two squares where it takes none
 pub record Says (h : Said) (m : Move) : Type 0 where
@@ -108,13 +107,13 @@ module _ (h : Said) (m : Move) (s : Says h m) where
       go false f = keep_ext (by_ends h) (is_it same m) l (λ x k. quiet_same (quiet f) x) ∙ kept_one same m (λ y. same_true y m) l e
 
   -- on a position: what was read of a listed move is answered with that move
-  pub fit_back : (p : Position) → sound p ≡ true → length (legal (board_of p)) ≤ 256 → listed (legal (board_of p)) m ≡ true → fit_of p h ≡ found.Move m
+  pub fit_back : (p : Position) → sound p ≡ true → length (legal (board_of p)) ≤ 256 → listed (legal (board_of p)) m ≡ true → fit_of p h ≡ Ok m
   unfolding fit_of only
   fit_back p e few l =
       rw (e, le-leb _ 256 few) (ap only (chosen_back (legal (board_of p)) (listed_once (board_of p) (fair_of p e) m l)))
 
   -- and the text that says it, too
-  pub parse_back : (p : Position) (text : List ℕ) → read_move_of text ≡ heard.Said h → sound p ≡ true → length (legal (board_of p)) ≤ 256
-      → listed (legal (board_of p)) m ≡ true → parse_move_of p text ≡ found.Move m
+  pub parse_back : (p : Position) (text : List ℕ) → read_move_of text ≡ Ok h → sound p ≡ true → length (legal (board_of p)) ≤ 256
+      → listed (legal (board_of p)) m ≡ true → parse_move_of p text ≡ Ok m
   unfolding parse_move_of
   parse_back p text r e few l = rw (e, r) (fit_back p e few l)

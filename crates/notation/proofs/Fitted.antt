@@ -1,4 +1,5 @@
 -- Where a text is answered with a move: the move is listed and legal, it fits, and no other listed move does.
+use Rattle.std.specs.Prelude.{Err, Ok, Result}
 use mathlib.Core.Path.{◌≡◌, refl, ap, ◌∙◌}
 use Prim.Native.Nat.{ℕ, ◌≤◌, ◌<◌}
 use native.Mathlib.Omega.{arith}
@@ -27,9 +28,7 @@ use Rattle.movegen.proofs.Listed.{fair_of}
 use Rattle.notation.specs.Choice.{as_hub, by_ends, or_else, fitting, only, fit_of, fit_heard, parse_move_of}
 use Rattle.notation.specs.Notation.{read_move_of}
 use Rattle.notation.specs.declared.notation.Said.{Said}
-use Rattle.notation.specs.declared.notation.Heard.{Heard}
-use Rattle.notation.specs.declared.notation.Heard.TheVariants as heard
-use Rattle.notation.specs.declared.notation.Found.TheVariants as found
+use Rattle.squares.specs.declared.refusal.Refusal.{Refusal}
 
 -- m is the one move of the list that p takes
 pub record Alone (p : Move → Bool) (l : List Move) (m : Move) : Type 0 where
@@ -51,7 +50,7 @@ pub record Fitted (p : Position) (h : Said) (m : Move) : Type 0 where
   pub means : Means h (legal (board_of p)) m
 
 -- ---- lists
-of_one : (l : List Move) (m : Move) → only l ≡ found.Move m → l ≡ m ∷ []
+of_one : (l : List Move) (m : Move) → only l ≡ Ok m → l ≡ m ∷ []
 unfolding only
 of_one [] m e = absurd (let z : ◌≡◌ {A = ℕ} 0 1 = cc in omega arith)
 of_one (x ∷ []) m e = ap (λ (y : Move). y ∷ []) (let z : x ≡ m = cc in z)
@@ -114,12 +113,12 @@ means_fitting h l m (hub c a) e =
 means_fitting h l m (ends none a) e = by_ends_lem h l none ∙ kept_alone (by_ends h) l m a e
 
 -- ---- what an answer says
-pub fit_says : (p : Position) (h : Said) (m : Move) → fit_of p h ≡ found.Move m → Fitted p h m
+pub fit_says : (p : Position) (h : Said) (m : Move) → fit_of p h ≡ Ok m → Fitted p h m
 unfolding fit_of
 fit_says p h m e = go (sound p) refl (leb (length (legal (board_of p))) 256) refl e
   where
     go : (s : Bool) → sound p ≡ s → (t : Bool) → leb (length (legal (board_of p))) 256 ≡ t
-        → cond s (cond t (only (fitting h (legal (board_of p)))) (found.Refused TooManyMoves)) (found.Refused BadPosition) ≡ found.Move m → Fitted p h m
+        → cond s (cond t (only (fitting h (legal (board_of p)))) (Err TooManyMoves)) (Err BadPosition) ≡ Ok m → Fitted p h m
     go true s true t e =
         let q = fitting_means h (legal (board_of p)) m (of_one (fitting h (legal (board_of p))) m e) in
         record {
@@ -132,7 +131,7 @@ fit_says p h m e = go (sound p) refl (leb (length (legal (board_of p))) 256) ref
     go true s false t e = absurd (let z : ◌≡◌ {A = ℕ} 0 1 = cc in omega arith)
     go false s t u e = absurd (let z : ◌≡◌ {A = ℕ} 0 1 = cc in omega arith)
 
-pub fitted_answer : (p : Position) (h : Said) (m : Move) → Fitted p h m → fit_of p h ≡ found.Move m
+pub fitted_answer : (p : Position) (h : Said) (m : Move) → Fitted p h m → fit_of p h ≡ Ok m
 unfolding fit_of only
 fitted_answer p h m f =
     rw (f.accepted, le-leb _ 256 f.few)
@@ -145,7 +144,7 @@ pub record Unfit (p : Position) (h : Said) : Type 0 where
   pub not_hub : 2 < h.count → (n : Move) → listed (legal (board_of p)) n ≡ true → as_hub h n ≡ false
   pub not_ends : (n : Move) → listed (legal (board_of p)) n ≡ true → by_ends h n ≡ false
 
-of_none : (l : List Move) → only l ≡ found.Refused NoMoveFits → l ≡ []
+of_none : (l : List Move) → only l ≡ Err NoMoveFits → l ≡ []
 unfolding only
 of_none [] e = refl
 of_none (x ∷ []) e = absurd (let z : ◌≡◌ {A = ℕ} 0 1 = cc in omega arith)
@@ -164,31 +163,31 @@ none_fitting h l e = go (ltb 2 h.count) refl e
     go true c e = hubs (keep (as_hub h) l) refl e
     go false c e = ((λ d. absurd (omega (arith, d, ltb-false 2 h.count c))), none_kept (by_ends h) l e)
 
-pub none_says : (p : Position) (h : Said) → fit_of p h ≡ found.Refused NoMoveFits → Unfit p h
+pub none_says : (p : Position) (h : Said) → fit_of p h ≡ Err NoMoveFits → Unfit p h
 unfolding fit_of hubless
 none_says p h e = go (sound p) refl (leb (length (legal (board_of p))) 256) refl e
   where
     go : (s : Bool) → sound p ≡ s → (t : Bool) → leb (length (legal (board_of p))) 256 ≡ t
-        → cond s (cond t (only (fitting h (legal (board_of p)))) (found.Refused TooManyMoves)) (found.Refused BadPosition) ≡ found.Refused NoMoveFits → Unfit p h
+        → cond s (cond t (only (fitting h (legal (board_of p)))) (Err TooManyMoves)) (Err BadPosition) ≡ Err NoMoveFits → Unfit p h
     go true s true t e =
         let q = none_fitting h (legal (board_of p)) (of_none (fitting h (legal (board_of p))) e) in
         record { accepted = s; few = leb-true _ 256 t; not_hub = q.0; not_ends = q.1 }
     go true s false t e = absurd (let z : ◌≡◌ {A = ℕ} 0 1 = cc in omega arith)
     go false s t u e = absurd (let z : ◌≡◌ {A = ℕ} 0 1 = cc in omega arith)
 
-pub unfit_answer : (p : Position) (h : Said) → Unfit p h → fit_of p h ≡ found.Refused NoMoveFits
+pub unfit_answer : (p : Position) (h : Said) → Unfit p h → fit_of p h ≡ Err NoMoveFits
 unfolding fit_of only hubless
 unfit_answer p h f =
     rw (f.accepted, le-leb _ 256 f.few)
     (ap only (by_ends_lem h (legal (board_of p)) f.not_hub ∙ keep_none (by_ends h) (legal (board_of p)) (λ n k. f.not_ends n ((listed_member (legal (board_of p)) n).1 k))))
 
 -- a text that is answered with a move says something, and that means the move
-pub parse_says : (p : Position) (text : List ℕ) (m : Move) → parse_move_of p text ≡ found.Move m → (h : Said) × (read_move_of text ≡ heard.Said h) × Fitted p h m
+pub parse_says : (p : Position) (text : List ℕ) (m : Move) → parse_move_of p text ≡ Ok m → (h : Said) × (read_move_of text ≡ Ok h) × Fitted p h m
 unfolding parse_move_of
 parse_says p text m e = go (sound p) (read_move_of text) refl e
   where
-    go : (s : Bool) (a : Heard) → read_move_of text ≡ a → cond s (fit_heard p a) (found.Refused BadPosition) ≡ found.Move m
-        → (h : Said) × (read_move_of text ≡ heard.Said h) × Fitted p h m
-    go true (heard.Said h) r e = (h, r, fit_says p h m e)
-    go true (heard.Refused x) r e = absurd (let z : ◌≡◌ {A = ℕ} 0 1 = cc in omega arith)
+    go : (s : Bool) (a : Result Said Refusal) → read_move_of text ≡ a → cond s (fit_heard p a) (Err BadPosition) ≡ Ok m
+        → (h : Said) × (read_move_of text ≡ Ok h) × Fitted p h m
+    go true (Ok h) r e = (h, r, fit_says p h m e)
+    go true (Err x) r e = absurd (let z : ◌≡◌ {A = ℕ} 0 1 = cc in omega arith)
     go false a r e = absurd (let z : ◌≡◌ {A = ℕ} 0 1 = cc in omega arith)

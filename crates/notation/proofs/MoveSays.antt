@@ -1,4 +1,5 @@
 -- Reading a move's text says the move: the squares come apart at the separator, and the taken squares give the set.
+use Rattle.std.specs.Prelude.{Ok}
 use Prim.Native.Nat.{ℕ, suc, ◌+◌, ◌^◌, ◌<◌, ◌≤◌}
 use mathlib.Core.Path.{◌≡◌, refl, sym, ap, ap₂, ◌∙◌}
 use mathlib.Core.List.{List, [], ◌∷◌, map}
@@ -24,7 +25,6 @@ use Rattle.texts.proofs.Marks.{marks, always, put_members, each_members}
 use Rattle.notation.specs.MoveText.{separator_of, named, move_text}
 use Rattle.notation.specs.Notation.{at_cut, unsaid, heard_square, heard_squares, well_formed, heard_trimmed, read_move_of}
 use Rattle.notation.specs.declared.notation.Said.{Said}
-use Rattle.notation.specs.declared.notation.Heard.TheVariants as heard
 use Rattle.notation.proofs.Chosen.{Says}
 use Rattle.notation.proofs.MoveTexts.{move_short}
 
@@ -41,7 +41,7 @@ said_all : Said → List ℕ → Said
 said_all h [] = h
 said_all h (n ∷ l) = said_all (heard_square h n) l
 
-squares_law : (h : Said) (l : List ℕ) → each is_square l ≡ true → heard_squares h (map digits l) ≡ heard.Said (said_all h l)
+squares_law : (h : Said) (l : List ℕ) → each is_square l ≡ true → heard_squares h (map digits l) ≡ Ok (said_all h l)
 unfolding heard_squares said_all each
 squares_law h [] e = refl
 squares_law h (n ∷ l) e = rw (digits_law n (and_left (is_square n) _ e)).read (squares_law (heard_square h n) l (and_right (is_square n) _ e))
@@ -145,13 +145,13 @@ module _ (m : Move) (o : OnBoard m) where
   unfolding text_by named joined
   held c = holds_in c (digits m.from) (joined c (map digits (m.to ∷ map square_at_bit (members m.captured))))
 
-  said_is : (x : Bool) → is_capture m ≡ x → heard_squares (unsaid x) (map digits (named m)) ≡ heard.Said (said_of m)
+  said_is : (x : Bool) → is_capture m ≡ x → heard_squares (unsaid x) (map digits (named m)) ≡ Ok (said_of m)
   unfolding named said_of said_all
   said_is x e =
       squares_law (unsaid x) (named m) all_squares
-      ∙ ap (λ (h : Said). heard.Said (said_all h (map square_at_bit (members m.captured)))) (two_squares x m.from m.to)
-      ∙ ap heard.Said (later x m.from m.to m.to 2 0 (members m.captured) (omega arith) taken_on)
-      ∙ ap₂ (λ (t : Bool) (s : ℕ). heard.Said (said t m.from m.to (last_of m.to (map square_at_bit (members m.captured))) (2 + length (members m.captured)) s)) (sym e) (put_members m.captured o.fits)
+      ∙ ap (λ (h : Said). Ok (said_all h (map square_at_bit (members m.captured)))) (two_squares x m.from m.to)
+      ∙ ap Ok (later x m.from m.to m.to 2 0 (members m.captured) (omega arith) taken_on)
+      ∙ ap₂ (λ (t : Bool) (s : ℕ). Ok (said t m.from m.to (last_of m.to (map square_at_bit (members m.captured))) (2 + length (members m.captured)) s)) (sym e) (put_members m.captured o.fits)
 
   -- a capture has no -, other text exactly two squares
   well_formed_lem : (d x : Bool) → is_capture m ≡ x → (x ≡ true → d ≡ false) → well_formed d (said_of m) ≡ true
@@ -161,15 +161,15 @@ module _ (m : Move) (o : OnBoard m) where
 
   -- with the separator of its kind
   by_separator : (c : ℕ) (d x : Bool) → at_cut c ≡ true → holds 45 (text_by c) ≡ d → holds 120 (text_by c) ≡ x → is_capture m ≡ x
-      → (x ≡ true → d ≡ false) → heard_trimmed (text_by c) ≡ heard.Said (said_of m)
+      → (x ≡ true → d ≡ false) → heard_trimmed (text_by c) ≡ Ok (said_of m)
   unfolding heard_trimmed
   by_separator c d x ec ed ex e f = rw (ed, ex, split_is c ec, said_is x e, well_formed_lem d x e f)
 
-  trimmed : heard_trimmed (move_text m) ≡ heard.Said (said_of m)
+  trimmed : heard_trimmed (move_text m) ≡ Ok (said_of m)
   unfolding move_text text_by separator_of is at_cut
   trimmed = go (is_capture m) refl
     where
-      go : (t : Bool) → is_capture m ≡ t → heard_trimmed (text_by (cond t 120 45)) ≡ heard.Said (said_of m)
+      go : (t : Bool) → is_capture m ≡ t → heard_trimmed (text_by (cond t 120 45)) ≡ Ok (said_of m)
       go true e = by_separator 120 false true refl (not_held 45 120 dash refl) (held 120) e (λ q. refl)
       go false e = by_separator 45 true false refl (held 45) (not_held 120 45 cross refl) e (λ q. absurd (false≢true q))
 
@@ -188,7 +188,7 @@ move_readable limit m h e =
     and_both _ _ (le-leb (length (move_text m)) limit (omega (arith, h, move_short m e))) (ascii_lacks (move_text m) (move_lacks m (on_board_lem m e) above refl refl))
 
 -- reading what was written
-pub move_says : (m : Move) → squares_of m ≡ true → read_move_of (move_text m) ≡ heard.Said (said_of m)
+pub move_says : (m : Move) → squares_of m ≡ true → read_move_of (move_text m) ≡ Ok (said_of m)
 unfolding read_move_of blank
 move_says m e =
     let o = on_board_lem m e in

@@ -1,4 +1,5 @@
 -- The text of a listed move means that move, and it does so too where it was written into lent space.
+use Rattle.std.specs.Prelude.{Ok}
 use Prim.Native.Nat.{ℕ, ◌≤◌}
 use mathlib.Core.Path.{◌≡◌, ap, ◌∙◌}
 use mathlib.Core.List.{List}
@@ -13,11 +14,9 @@ use Rattle.positions.proofs.Accepts.{says_sound}
 use Rattle.rules.specs.Ordered.{legal, listed}
 use Rattle.rules.proofs.Laws.{fair_of_accepted, listed_legal, legal_squares}
 use Rattle.texts.specs.Lent.{emit_of}
-use Rattle.texts.specs.declared.bytes.Wrote.TheVariants as wrote
 use Rattle.texts.proofs.ReadBack.{lent_front}
 use Rattle.notation.specs.Choice.{parse_move_of}
 use Rattle.notation.specs.MoveText.{move_text, to_hub_of, to_hub_lent}
-use Rattle.notation.specs.declared.notation.Found.TheVariants as found
 use Rattle.notation.proofs.Chosen.{parse_back}
 use Rattle.notation.proofs.MoveSays.{said_of, says_move, move_says}
 
@@ -30,13 +29,13 @@ module _ (p : Position) (m : Move) (sound : Sound p) (few : length (legal (board
       legal_squares (board_of p) fair m ((listed_legal (board_of p) fair m).0 in_list)
 
   -- reading what was written
-  pub move_back : parse_move_of p (move_text m) ≡ found.Move m
+  pub move_back : parse_move_of p (move_text m) ≡ Ok m
   move_back =
       parse_back (said_of m) m (says_move m listed_squares) p (move_text m) (move_says m listed_squares) (says_sound p sound) few in_list
 
   -- through lent space: n is the length that the writer told
-  pub to_hub_lent_reads : (out : List ℕ) (n : ℕ) → to_hub_of m out ≡ wrote.Length n → parse_move_of p (take n (to_hub_lent m out)) ≡ found.Move m
+  pub to_hub_lent_reads : (out : List ℕ) (n : ℕ) → to_hub_of m out ≡ Ok n → parse_move_of p (take n (to_hub_lent m out)) ≡ Ok m
   unfolding to_hub_of to_hub_lent
   to_hub_lent_reads out n e =
-      let f : emit_of (move_text m) out ≡ wrote.Length n = rw listed_squares at e in
+      let f : emit_of (move_text m) out ≡ Ok n = rw listed_squares at e in
       rw listed_squares (ap (parse_move_of p) (lent_front (move_text m) out n f) ∙ move_back)

@@ -1,5 +1,6 @@
 -- What the entries answer, in the numbers and order of docs/REFUSALS.md: a move text 1, 9; on a position 12, 1, 9,
 -- 17, 15, 16; the writers 11, 19.
+use Rattle.std.specs.Prelude.{Err, Ok}
 use mathlib.Core.Path.{◌≡◌, refl, sym, ap₂}
 use mathlib.Core.Bool.{Bool, true, false, not, cond}
 use mathlib.Core.List.{List, [], ◌∷◌}
@@ -9,7 +10,7 @@ use lib.Dec.{eqb, leb, ltb}
 use lib.ListN.{length, get_or}
 use borrow.Author.Tests.{ne_eqb, lt-ltb}
 use Rattle.squares.specs.Refusals.{refusal}
-use Rattle.squares.specs.Told.{result, turned_back, when, in_order}
+use Rattle.squares.specs.Told.{told, result, turned_back, when, in_order}
 use Rattle.squares.proofs.Orders.{refused_unless, none_left}
 use Rattle.squares.specs.declared.refusal.Refusal.{Refusal}
 use Rattle.positions.specs.Acceptance.{sound}
@@ -22,22 +23,18 @@ use Rattle.rules.specs.Ordered.{legal}
 use Rattle.texts.specs.Bytes.{longest_text, readable, trim}
 use Rattle.texts.specs.Bytes as texts
 use Rattle.texts.specs.Lent.{emit_of}
-use Rattle.texts.specs.Told.{wrote_told}
 use Rattle.notation.specs.Choice.{fitting, only, fit_of, parse_move_of}
 use Rattle.notation.specs.MoveText.{move_text, short_text, to_hub_of, display_of}
 use Rattle.notation.specs.Notation.{heard_trimmed, read_move_of}
-use Rattle.notation.specs.Told.{heard_told, found_told}
-use Rattle.notation.specs.declared.notation.Found.TheVariants as found
-use Rattle.notation.specs.declared.notation.Heard.TheVariants as heard
 use Rattle.notation.specs.declared.notation.Said.{Said}
 
 -- 1, then 9 or what was read
-pub read_move_told : (s : List ℕ) → heard_told (read_move_of s) ≡ in_order (when 1 (not (readable longest_text s)) ∷ []) (heard_told (heard_trimmed (trim texts.blank s)))
+pub read_move_told : (s : List ℕ) → told (read_move_of s) ≡ in_order (when 1 (not (readable longest_text s)) ∷ []) (told (heard_trimmed (trim texts.blank s)))
 unfolding read_move_of
-read_move_told s = refused_unless heard_told 1 0 (readable longest_text s) _ _ _ _ refl (none_left _)
+read_move_told s = refused_unless told 1 0 (readable longest_text s) _ _ _ _ refl (none_left _)
 
 -- what was read fits none, several, or one of the moves
-only_told : (l : List Move) → found_told (only l) ≡ in_order (when 15 (eqb (length l) 0) ∷ when 16 (ltb 1 (length l)) ∷ []) (result (get_or l 0 blank))
+only_told : (l : List Move) → told (only l) ≡ in_order (when 15 (eqb (length l) 0) ∷ when 16 (ltb 1 (length l)) ∷ []) (result (get_or l 0 blank))
 unfolding only in_order
 only_told [] = refl
 only_told (m ∷ []) = refl
@@ -46,44 +43,44 @@ only_told (m ∷ (n ∷ l)) =
 
 -- 12, 17, 15, 16 of what was read
 pub fit_told : (p : Position) (h : Said)
-    → found_told (fit_of p h)
+    → told (fit_of p h)
     ≡ (let fits = fitting h (legal (board_of p)) in
     in_order
     (when 12 (not (sound p)) ∷ when 17 (not (leb (length (legal (board_of p))) 256)) ∷ when 15 (eqb (length fits) 0) ∷ when 16 (ltb 1 (length fits)) ∷ [])
     (result (get_or fits 0 blank)))
 unfolding fit_of
 fit_told p h =
-    refused_unless found_told 12 0 (sound p) _ _ _ _ refl
-    (refused_unless found_told 17 0 (leb (length (legal (board_of p))) 256) _ _ _ _ refl (only_told (fitting h (legal (board_of p)))))
+    refused_unless told 12 0 (sound p) _ _ _ _ refl
+    (refused_unless told 17 0 (leb (length (legal (board_of p))) 256) _ _ _ _ refl (only_told (fitting h (legal (board_of p)))))
 
 -- 12, then 1 or 9
-pub parse_refused_told : (p : Position) (s : List ℕ) (e : Refusal) → read_move_of s ≡ heard.Refused e
-    → found_told (parse_move_of p s) ≡ in_order (when 12 (not (sound p)) ∷ []) (turned_back e)
+pub parse_refused_told : (p : Position) (s : List ℕ) (e : Refusal) → read_move_of s ≡ Err e
+    → told (parse_move_of p s) ≡ in_order (when 12 (not (sound p)) ∷ []) (turned_back e)
 unfolding parse_move_of
-parse_refused_told p s e r = rw r (refused_unless found_told 12 0 (sound p) _ _ _ _ refl (none_left _))
+parse_refused_told p s e r = rw r (refused_unless told 12 0 (sound p) _ _ _ _ refl (none_left _))
 
 -- a text that was read means what was read: 12, 17, 15, 16
-pub parse_read_told : (p : Position) (s : List ℕ) (h : Said) → read_move_of s ≡ heard.Said h → found_told (parse_move_of p s) ≡ found_told (fit_of p h)
+pub parse_read_told : (p : Position) (s : List ℕ) (h : Said) → read_move_of s ≡ Ok h → told (parse_move_of p s) ≡ told (fit_of p h)
 unfolding parse_move_of fit_of
 parse_read_told p s h r = rw r (go (sound p))
   where
     go : (t : Bool)
-        → found_told (cond t (cond t (cond (leb (length (legal (board_of p))) 256) (only (fitting h (legal (board_of p)))) (found.Refused (refusal 17))) (found.Refused (refusal 12))) (found.Refused (refusal 12)))
-        ≡ found_told (cond t (cond (leb (length (legal (board_of p))) 256) (only (fitting h (legal (board_of p)))) (found.Refused (refusal 17))) (found.Refused (refusal 12)))
+        → told (cond t (cond t (cond (leb (length (legal (board_of p))) 256) (only (fitting h (legal (board_of p)))) (Err (refusal 17))) (Err (refusal 12))) (Err (refusal 12)))
+        ≡ told (cond t (cond (leb (length (legal (board_of p))) 256) (only (fitting h (legal (board_of p)))) (Err (refusal 17))) (Err (refusal 12)))
     go true = refl
     go false = refl
 
 -- 11, 19
 pub to_hub_told : (m : Move) (out : List ℕ)
-    → wrote_told (to_hub_of m out) ≡ in_order (when 11 (not (squares_of m)) ∷ when 19 (not (leb (length (move_text m)) (length out))) ∷ []) (result (length (move_text m)))
+    → told (to_hub_of m out) ≡ in_order (when 11 (not (squares_of m)) ∷ when 19 (not (leb (length (move_text m)) (length out))) ∷ []) (result (length (move_text m)))
 unfolding to_hub_of emit_of
 to_hub_told m out =
-    refused_unless wrote_told 11 0 (squares_of m) _ _ _ _ refl
-    (refused_unless wrote_told 19 0 (leb (length (move_text m)) (length out)) _ _ _ _ refl (none_left _))
+    refused_unless told 11 0 (squares_of m) _ _ _ _ refl
+    (refused_unless told 19 0 (leb (length (move_text m)) (length out)) _ _ _ _ refl (none_left _))
 
 pub display_told : (m : Move) (out : List ℕ)
-    → wrote_told (display_of m out) ≡ in_order (when 11 (not (squares_of m)) ∷ when 19 (not (leb (length (short_text m)) (length out))) ∷ []) (result (length (short_text m)))
+    → told (display_of m out) ≡ in_order (when 11 (not (squares_of m)) ∷ when 19 (not (leb (length (short_text m)) (length out))) ∷ []) (result (length (short_text m)))
 unfolding display_of emit_of
 display_told m out =
-    refused_unless wrote_told 11 0 (squares_of m) _ _ _ _ refl
-    (refused_unless wrote_told 19 0 (leb (length (short_text m)) (length out)) _ _ _ _ refl (none_left _))
+    refused_unless told 11 0 (squares_of m) _ _ _ _ refl
+    (refused_unless told 19 0 (leb (length (short_text m)) (length out)) _ _ _ _ refl (none_left _))

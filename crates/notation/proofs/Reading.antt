@@ -1,4 +1,5 @@
 -- Reading a move's text: one separator is enough to split at; one square more a turn.
+use Rattle.std.specs.Prelude.{Err, Ok, Result}
 use Prim.Native.Nat.{ℕ, ◌+◌, ◌-◌, ◌≤◌, ◌<◌}
 use mathlib.Core.Path.{◌≡◌, refl, sym, ap, ap₂, ◌∙◌}
 use mathlib.Core.List.{List, [], ◌∷◌}
@@ -8,15 +9,12 @@ use lib.Dec.{eqb, leb}
 use lib.Bits.{bit_or}
 use borrow.Author.Tests.{eqb-true, eq-eqb, ne_eqb}
 use Rattle.squares.specs.Squares.{single}
-use Rattle.squares.specs.declared.square.Numbered.{Numbered}
-use Rattle.squares.specs.declared.square.Numbered.TheVariants as numbered
 use Rattle.texts.specs.Bytes.{is, holds, split_on, up_to, read_square, parts_from}
 use Rattle.texts.proofs.Cuts.{parts_start, part_step, parts_none}
 use Rattle.texts.proofs.ListLaws.{lacks_held, split_agree}
 use Rattle.notation.specs.Notation.{at_cut, malformed, unsaid, as_first, as_second, as_later, heard_square, on_square, heard_squares, well_formed, in_form, heard_trimmed}
 use Rattle.notation.specs.declared.notation.Said.{Said}
-use Rattle.notation.specs.declared.notation.Heard.{Heard}
-use Rattle.notation.specs.declared.notation.Heard.TheVariants as heard
+use Rattle.squares.specs.declared.refusal.Refusal.{Refusal}
 
 -- ---- one separator is enough: without an x, at -; without a -, at x
 pub split_dash : (s : List ℕ) → holds 120 s ≡ false → split_on at_cut s ≡ split_on (is 45) s
@@ -77,39 +75,39 @@ pub opened : (c : ℕ) (s : List ℕ) (h : Said) (x : Bool) → h ≡ unsaid x �
 opened c s h x e = ap₂ heard_squares (sym e) (sym (parts_start (is c) s))
 
 -- u is what stands before the next separator, a what it says
-pub heard_turn : (c : ℕ) (s : List ℕ) (at : ℕ) (u : List ℕ) (h : Said) (a : Numbered) → at ≤ length s
+pub heard_turn : (c : ℕ) (s : List ℕ) (at : ℕ) (u : List ℕ) (h : Said) (a : Result ℕ Refusal) → at ≤ length s
     → u ≡ up_to c (take (length s - at) (drop at s)) → a ≡ read_square u
     → heard_squares h (parts_from (is c) s at) ≡ on_square a (λ n. heard_squares (heard_square h n) (parts_from (is c) s (at + length u + 1)))
 unfolding heard_squares
 heard_turn c s at u h a l e f = ap (heard_squares h) (part_step c s at u l e) ∙ rw (← f)
 
-pub heard_end : (c : ℕ) (s : List ℕ) (at : ℕ) (h : Said) → length s < at → heard_squares h (parts_from (is c) s at) ≡ heard.Said h
+pub heard_end : (c : ℕ) (s : List ℕ) (at : ℕ) (h : Said) → length s < at → heard_squares h (parts_from (is c) s at) ≡ Ok h
 unfolding heard_squares
 heard_end c s at h l = ap (heard_squares h) (parts_none (is c) s at l)
 
 -- ---- the form
 
 -- t is whether it is of the form
-pub formed : (d : Bool) (a : Heard) (h : Said) (t : Bool) → a ≡ heard.Said h → t ≡ well_formed d h → t ≡ true → heard.Said h ≡ in_form d a
-formed d a h t e f g = sym (ap (in_form d) e ∙ ap (λ (x : Bool). cond x (heard.Said h) malformed) (sym f ∙ g))
+pub formed : (d : Bool) (a : Result Said Refusal) (h : Said) (t : Bool) → a ≡ Ok h → t ≡ well_formed d h → t ≡ true → Ok h ≡ in_form d a
+formed d a h t e f g = sym (ap (in_form d) e ∙ ap (λ (x : Bool). cond x (Ok h) malformed) (sym f ∙ g))
 
-pub unformed : (d : Bool) (a : Heard) (h : Said) (t : Bool) → a ≡ heard.Said h → t ≡ well_formed d h → t ≡ false → malformed ≡ in_form d a
-unformed d a h t e f g = sym (ap (in_form d) e ∙ ap (λ (x : Bool). cond x (heard.Said h) malformed) (sym f ∙ g))
+pub unformed : (d : Bool) (a : Result Said Refusal) (h : Said) (t : Bool) → a ≡ Ok h → t ≡ well_formed d h → t ≡ false → malformed ≡ in_form d a
+unformed d a h t e f g = sym (ap (in_form d) e ∙ ap (λ (x : Bool). cond x (Ok h) malformed) (sym f ∙ g))
 
 -- a capture with a - is malformed, whatever its squares are
 dashed : (h : Said) (fs : List (List ℕ)) → h.capture ≡ true → in_form true (heard_squares h fs) ≡ malformed
 unfolding heard_squares well_formed
-dashed h [] e = ap (λ (t : Bool). cond (cond t (leb 2 h.count && false) (eqb h.count 2)) (heard.Said h) malformed) e ∙ last (leb 2 h.count)
+dashed h [] e = ap (λ (t : Bool). cond (cond t (leb 2 h.count && false) (eqb h.count 2)) (Ok h) malformed) e ∙ last (leb 2 h.count)
   where
-    last : (t : Bool) → cond (t && false) (heard.Said h) malformed ≡ malformed
+    last : (t : Bool) → cond (t && false) (Ok h) malformed ≡ malformed
     last true = refl
     last false = refl
 dashed h (f ∷ fs) e = go (read_square f) (λ n. dashed (heard_square h n) fs (kept h n ∙ e))
   where
-    go : (a : Numbered) → ((n : ℕ) → in_form true (heard_squares (heard_square h n) fs) ≡ malformed)
+    go : (a : Result ℕ Refusal) → ((n : ℕ) → in_form true (heard_squares (heard_square h n) fs) ≡ malformed)
         → in_form true (on_square a (λ n. heard_squares (heard_square h n) fs)) ≡ malformed
-    go (numbered.Number n) ih = ih n
-    go (numbered.Refused x) ih = refl
+    go (Ok n) ih = ih n
+    go (Err x) ih = refl
 
 pub with_cross : (t : List ℕ) (d : Bool) → d ≡ holds 45 t → holds 120 t ≡ true
     → in_form d (heard_squares (unsaid true) (split_on (is 120) t)) ≡ heard_trimmed t

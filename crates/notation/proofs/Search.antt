@@ -1,4 +1,5 @@
 -- The search for the moves that fit: one entry more a turn; Hub first, then by first and last square.
+use Rattle.std.specs.Prelude.{Err, Ok, Result}
 use mathlib.Core.Path.{◌≡◌, refl, sym, ap, ap₂, ◌∙◌}
 use Prim.Native.Nat.{ℕ, ◌+◌, ◌≤◌, ◌<◌}
 use native.Mathlib.Omega.{arith}
@@ -11,7 +12,6 @@ use lib.Dec.{leb}
 use borrow.Author.Tests.{leb-true, lt-ltb, le-ltb}
 use Rattle.squares.specs.declared.refusal.Refusal.{Refusal}
 use Rattle.squares.specs.declared.refusal.Refusal.TheVariants.{BadPosition, TooManyMoves}
-use Rattle.squares.specs.declared.refusal.Answer.TheVariants as answer
 use Rattle.positions.specs.Acceptance.{sound}
 use Rattle.positions.specs.Boards.{board_of}
 use Rattle.positions.specs.declared.moves.Move.{Move}
@@ -27,8 +27,6 @@ use Rattle.notation.specs.Choice.{as_hub, by_ends, or_else, fitting, only, choic
 use Rattle.notation.specs.declared.notation.Said.{Said}
 use Rattle.notation.specs.declared.notation.Choice.{Choice}
 use Rattle.notation.specs.declared.notation.Choice.TheVariants.{Nothing, One, Several}
-use Rattle.notation.specs.declared.notation.Found.{Found}
-use Rattle.notation.specs.declared.notation.Found.TheVariants as found
 
 -- ---- one entry more
 choice_snoc : (l : List Move) (m : Move) → choice_of (l ++ (m ∷ [])) ≡ one_more (choice_of l) m
@@ -85,15 +83,15 @@ choice_only (x ∷ []) = refl
 choice_only (x ∷ (y ∷ l)) = refl
 
 -- ---- on a position
-of_refused : {e f : Refusal} → answer.Refused e ≡ answer.Refused f → e ≡ f
+of_refused : {e f : Refusal} → Err e ≡ Err f → e ≡ f
 of_refused e = cc
 
 module _ (p : Position) (h : Said) where
   abbrev told : Bool → Bool → Listed
-  told s t = cond s (cond t (record { answer = answer.Done; list = list_of (legal (board_of p)) }) (refused_list TooManyMoves)) (refused_list BadPosition)
+  told s t = cond s (cond t (record { answer = Ok tt; list = list_of (legal (board_of p)) }) (refused_list TooManyMoves)) (refused_list BadPosition)
 
-  abbrev said : Bool → Bool → Found
-  said s t = cond s (cond t (only (fitting h (legal (board_of p)))) (found.Refused TooManyMoves)) (found.Refused BadPosition)
+  abbrev said : Bool → Bool → Result Move Refusal
+  said s t = cond s (cond t (only (fitting h (legal (board_of p)))) (Err TooManyMoves)) (Err BadPosition)
 
   told_is : legal_moves_of p 256 ≡ told (sound p) (leb (length (legal (board_of p))) 256)
   unfolding legal_moves_of listed_of
@@ -103,22 +101,22 @@ module _ (p : Position) (h : Said) where
   unfolding fit_of
   said_is = refl
 
-  pub fit_done : (l : Listed) → l ≡ legal_moves_of p 256 → l.answer ≡ answer.Done → answered (choice_of (fitting h (entries l.list))) ≡ fit_of p h
+  pub fit_done : (l : Listed) → l ≡ legal_moves_of p 256 → l.answer ≡ Ok tt → answered (choice_of (fitting h (entries l.list))) ≡ fit_of p h
   fit_done l e d =
       ap (λ (x : Listed). answered (choice_of (fitting h (entries x.list)))) (e ∙ told_is)
       ∙ go (sound p) (leb (length (legal (board_of p))) 256) refl (sym (ap (λ (x : Listed). x.answer) (e ∙ told_is)) ∙ d) ∙ said_is
     where
-      go : (s t : Bool) → leb (length (legal (board_of p))) 256 ≡ t → (told s t).answer ≡ answer.Done
+      go : (s t : Bool) → leb (length (legal (board_of p))) 256 ≡ t → (told s t).answer ≡ Ok tt
           → answered (choice_of (fitting h (entries (told s t).list))) ≡ said s t
       go true true e d =
           ap (λ (xs : List Move). answered (choice_of (fitting h xs))) (few_entries (legal (board_of p)) (leb-true _ _ e)) ∙ choice_only (fitting h (legal (board_of p)))
       go true false e d = absurd (let z : ◌≡◌ {A = ℕ} 0 1 = cc in omega arith)
       go false t e d = absurd (let z : ◌≡◌ {A = ℕ} 0 1 = cc in omega arith)
 
-  pub fit_refused : (l : Listed) (x : Refusal) → l ≡ legal_moves_of p 256 → l.answer ≡ answer.Refused x → found.Refused x ≡ fit_of p h
+  pub fit_refused : (l : Listed) (x : Refusal) → l ≡ legal_moves_of p 256 → l.answer ≡ Err x → Err x ≡ fit_of p h
   fit_refused l x e d = go (sound p) (leb (length (legal (board_of p))) 256) (sym (ap (λ (x : Listed). x.answer) (e ∙ told_is)) ∙ d) ∙ said_is
     where
-      go : (s t : Bool) → (told s t).answer ≡ answer.Refused x → found.Refused x ≡ said s t
+      go : (s t : Bool) → (told s t).answer ≡ Err x → Err x ≡ said s t
       go true true d = absurd (let z : ◌≡◌ {A = ℕ} 0 1 = cc in omega arith)
-      go true false d = ap found.Refused (sym (of_refused d))
-      go false t d = ap found.Refused (sym (of_refused d))
+      go true false d = ap Err (sym (of_refused d))
+      go false t d = ap Err (sym (of_refused d))

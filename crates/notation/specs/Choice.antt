@@ -1,7 +1,7 @@
 -- Which legal move a text means (docs/RULES.md, "Move texts"). It must be of the text's kind, capture or not, and
 -- begin on its first square. A text of three or more squares is tried as Hub text first: first square, last square,
 -- taken squares. If no move fits so, and for a text of two squares, the first and the last square decide.
-use Rattle.std.specs.Prelude.{ℕ, List, [], ◌∷◌, Bool, true, false, cond, ◌&&◌, eqb, leb, ltb, length}
+use Rattle.std.specs.Prelude.{ℕ, List, [], ◌∷◌, Bool, true, false, cond, ◌&&◌, eqb, leb, ltb, length, Err, Ok, Result}
 use Rattle.std.specs.Bool.{beq}
 use Rattle.squares.specs.Refusals.{refusal}
 use Rattle.positions.specs.Acceptance.{sound}
@@ -13,12 +13,9 @@ use Rattle.rules.specs.Lists.{keep}
 use Rattle.rules.specs.Ordered.{legal}
 use Rattle.notation.specs.Notation.{read_move_of}
 use Rattle.notation.specs.declared.notation.Said.{Said}
-use Rattle.notation.specs.declared.notation.Heard.{Heard}
-use Rattle.notation.specs.declared.notation.Heard.TheVariants as heard
 use Rattle.notation.specs.declared.notation.Choice.{Choice}
 use Rattle.notation.specs.declared.notation.Choice.TheVariants.{Nothing, One, Several}
-use Rattle.notation.specs.declared.notation.Found.{Found}
-use Rattle.notation.specs.declared.notation.Found.TheVariants as found
+use Rattle.squares.specs.declared.refusal.Refusal.{Refusal}
 
 -- the move is of the text's kind and begins on its first square
 unfoldable pub begins : Said → Move → Bool
@@ -42,26 +39,26 @@ unfoldable pub fitting : Said → List Move → List Move
 fitting h l = cond (ltb 2 h.count) (or_else (keep (as_hub h) l) (keep (by_ends h) l)) (keep (by_ends h) l)
 
 -- the only move; 15 where there is none, 16 where there are several
-unfoldable pub only : List Move → Found
-only [] = found.Refused (refusal 15)
-only (m ∷ []) = found.Move m
-only (m ∷ (n ∷ l)) = found.Refused (refusal 16)
+unfoldable pub only : List Move → Result Move Refusal
+only [] = Err (refusal 15)
+only (m ∷ []) = Ok m
+only (m ∷ (n ∷ l)) = Err (refusal 16)
 
 -- refusals: 12, 17, 15, 16
-unfoldable pub fit_of : Position → Said → Found
+unfoldable pub fit_of : Position → Said → Result Move Refusal
 fit_of p h =
     cond (sound p)
-    (cond (leb (length (legal (board_of p))) 256) (only (fitting h (legal (board_of p)))) (found.Refused (refusal 17)))
-    (found.Refused (refusal 12))
+    (cond (leb (length (legal (board_of p))) 256) (only (fitting h (legal (board_of p)))) (Err (refusal 17)))
+    (Err (refusal 12))
 
 -- fits what was read; a refusal is passed on
-abbrev pub fit_heard : Position → Heard → Found
-fit_heard p (heard.Said h) = fit_of p h
-fit_heard p (heard.Refused e) = found.Refused e
+abbrev pub fit_heard : Position → Result Said Refusal → Result Move Refusal
+fit_heard p (Ok h) = fit_of p h
+fit_heard p (Err e) = Err e
 
 -- refusals: 12, 1, 9, 17, 15, 16
-unfoldable pub parse_move_of : Position → List ℕ → Found
-parse_move_of p s = cond (sound p) (fit_heard p (read_move_of s)) (found.Refused (refusal 12))
+unfoldable pub parse_move_of : Position → List ℕ → Result Move Refusal
+parse_move_of p s = cond (sound p) (fit_heard p (read_move_of s)) (Err (refusal 12))
 
 -- ---- the same as the code computes it
 
@@ -82,7 +79,7 @@ one_more Nothing m = One m
 one_more (One n) m = Several
 one_more Several m = Several
 
-abbrev pub answered : Choice → Found
-answered Nothing = found.Refused (refusal 15)
-answered (One m) = found.Move m
-answered Several = found.Refused (refusal 16)
+abbrev pub answered : Choice → Result Move Refusal
+answered Nothing = Err (refusal 15)
+answered (One m) = Ok m
+answered Several = Err (refusal 16)

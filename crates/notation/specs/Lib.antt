@@ -1,5 +1,4 @@
 pub mod Notation
 pub mod Choice
-pub mod Told
 pub mod Computed
 pub mod MoveText

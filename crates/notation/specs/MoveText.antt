@@ -1,6 +1,6 @@
 -- How a move is written (docs/RULES.md, "Move texts"): as Hub text, 32-28 or 28x8x13x23 with the taken squares in
 -- rising order, and as short text, which stops after the first two squares.
-use Rattle.std.specs.Prelude.{ℕ, List, [], ◌∷◌, ◌++◌, map, cond}
+use Rattle.std.specs.Prelude.{ℕ, List, [], ◌∷◌, ◌++◌, map, cond, Err, Result}
 use Prim.Native.Char.{code}
 use Rattle.squares.specs.Sets.{members}
 use Rattle.squares.specs.Squares.{square_at_bit}
@@ -9,8 +9,7 @@ use Rattle.positions.specs.Moves.{is_capture, squares_of}
 use Rattle.positions.specs.declared.moves.Move.{Move}
 use Rattle.texts.specs.Bytes.{joined, digits}
 use Rattle.texts.specs.Lent.{emit_of, emitted}
-use Rattle.texts.specs.declared.bytes.Wrote.{Wrote}
-use Rattle.texts.specs.declared.bytes.Wrote.TheVariants as wrote
+use Rattle.squares.specs.declared.refusal.Refusal.{Refusal}
 
 -- x where the move takes a piece
 unfoldable pub separator_of : Move → ℕ
@@ -28,15 +27,15 @@ unfoldable pub short_text : Move → List ℕ
 short_text m = joined (separator_of m) (map digits (m.from ∷ m.to ∷ []))
 
 -- the answer; refusals: 11, 19
-unfoldable pub to_hub_of : Move → List ℕ → Wrote
-to_hub_of m out = cond (squares_of m) (emit_of (move_text m) out) (wrote.Refused (refusal 11))
+unfoldable pub to_hub_of : Move → List ℕ → Result ℕ Refusal
+to_hub_of m out = cond (squares_of m) (emit_of (move_text m) out) (Err (refusal 11))
 
 -- the lent bytes afterwards
 unfoldable pub to_hub_lent : Move → List ℕ → List ℕ
 to_hub_lent m out = cond (squares_of m) (emitted (move_text m) out) out
 
-unfoldable pub display_of : Move → List ℕ → Wrote
-display_of m out = cond (squares_of m) (emit_of (short_text m) out) (wrote.Refused (refusal 11))
+unfoldable pub display_of : Move → List ℕ → Result ℕ Refusal
+display_of m out = cond (squares_of m) (emit_of (short_text m) out) (Err (refusal 11))
 
 unfoldable pub display_lent : Move → List ℕ → List ℕ
 display_lent m out = cond (squares_of m) (emitted (short_text m) out) out

@@ -1,4 +1,5 @@
 -- The test of acceptance says what it should, square by square, and every position handed back passes it.
+use Rattle.std.specs.Prelude.{Err, Ok}
 use mathlib.Core.Path.{◌≡◌, refl, sym, ap, ap₂, ◌∙◌}
 use Prim.Native.Nat.{ℕ, ◌<◌, ◌^◌}
 use native.Mathlib.Nat.{lt_of_le_of_lt}
@@ -20,7 +21,6 @@ use Rattle.positions.specs.Hash.{position_of, initial_of}
 use Rattle.positions.specs.Acceptance.{misplaced, accepted_sets, accepted, sound, Accepted, Sound, place_of, from_parts_of}
 use Rattle.positions.specs.Computed.{computed}
 use Rattle.positions.specs.declared.position.Position.{Position}
-use Rattle.positions.specs.declared.position.Placed.TheVariants as placed
 use Rattle.positions.proofs.Rotation.{Squares}
 
 -- ---- sets of squares
@@ -136,33 +136,33 @@ pub initial_sound : Sound initial_of
 unfolding computed
 initial_sound = position_sound start (accepted_says start refl)
 
-pub of_position : {p q : Position} → placed.Position p ≡ placed.Position q → p ≡ q
+pub of_position : {p q : Position} → Ok p ≡ Ok q → p ≡ q
 of_position e = cc
 
 place_sound : (w b k : ℕ) (s : Color) (p : Position) → squares_only w ≡ true → squares_only b ≡ true → eqb (without k (bit_or w b)) 0 ≡ true
-    → place_of w b k s ≡ placed.Position p → Sound p
+    → place_of w b k s ≡ Ok p → Sound p
 unfolding place_of accepted accepted_sets
 place_sound w b k s p hw hb hk = both (eqb (bit_and w b) 0) refl
   where
     row : eqb (bit_and w b) 0 ≡ true → (t : Bool) → eqb (misplaced w b k) 0 ≡ t
-        → cond t (placed.Position (position_of (board w b k s))) (placed.Refused (ManOnPromotionRow (first_of (misplaced w b k)))) ≡ placed.Position p → Sound p
+        → cond t (Ok (position_of (board w b k s))) (Err (ManOnPromotionRow (first_of (misplaced w b k)))) ≡ Ok p → Sound p
     row q true r e =
         rw (← of_position e)
         (position_sound (board w b k s) (accepted_says (board w b k s) (and_both _ _ (and_both _ _ hw hb) (and_both _ _ q (and_both _ _ hk r)))))
     row q false r e = absurd (let z : ◌≡◌ {A = ℕ} 0 1 = cc in omega arith)
 
     both : (t : Bool) → eqb (bit_and w b) 0 ≡ t
-        → cond t (cond (eqb (misplaced w b k) 0) (placed.Position (position_of (board w b k s))) (placed.Refused (ManOnPromotionRow (first_of (misplaced w b k)))))
-        (placed.Refused (Overlap (first_of (bit_and w b)))) ≡ placed.Position p → Sound p
+        → cond t (cond (eqb (misplaced w b k) 0) (Ok (position_of (board w b k s))) (Err (ManOnPromotionRow (first_of (misplaced w b k)))))
+        (Err (Overlap (first_of (bit_and w b)))) ≡ Ok p → Sound p
     both true q e = row q (eqb (misplaced w b k) 0) refl e
     both false q e = absurd (let z : ◌≡◌ {A = ℕ} 0 1 = cc in omega arith)
 
-pub from_parts_sound : (w b k : ℕ) (s : Color) (p : Position) → from_parts_of w b k s ≡ placed.Position p → Sound p
+pub from_parts_sound : (w b k : ℕ) (s : Color) (p : Position) → from_parts_of w b k s ≡ Ok p → Sound p
 unfolding from_parts_of
 from_parts_sound w b k s p = go (squares_only w && (squares_only b && squares_only k)) refl
   where
     go : (t : Bool) → (squares_only w && (squares_only b && squares_only k)) ≡ t
-        → cond t (place_of w b (bit_and k (bit_or w b)) s) (placed.Refused NoSuchSquare) ≡ placed.Position p → Sound p
+        → cond t (place_of w b (bit_and k (bit_or w b)) s) (Err NoSuchSquare) ≡ Ok p → Sound p
     go true q e =
         let hw = and_left _ _ q in
         let hb = and_left _ _ (and_right (squares_only w) _ q) in

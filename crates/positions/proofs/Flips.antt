@@ -1,4 +1,5 @@
 -- The flip of an accepted board is accepted, and the flip of the flip is the board.
+use Rattle.std.specs.Prelude.{Ok}
 use mathlib.Core.Path.{◌≡◌, refl, sym, ap, ap₂, ◌∙◌}
 use Prim.Native.Nat.{ℕ, ◌-◌}
 use mathlib.Core.Bool.{Bool, true, false, ◌&&◌, ◌||◌, false≢true, or_comm}
@@ -16,7 +17,6 @@ use Rattle.positions.specs.Acceptance.{Accepted, Sound}
 use Rattle.positions.specs.Flip.{rotated, flip, flipped_of}
 use Rattle.positions.specs.Computed.{computed}
 use Rattle.positions.specs.declared.position.Position.{Position}
-use Rattle.positions.specs.declared.position.Placed.TheVariants as placed
 use Rattle.positions.proofs.Rotation.{Squares, has_rotated, rotated_lt, rotated_twice}
 use Rattle.positions.proofs.Accepts.{says_sound, position_sound, sound_position}
 
@@ -97,15 +97,15 @@ flip_twice b a =
     λ i. board (w i) (k i) (g i) (other_twice b.side i)
 
 -- ---- of a position: what `flipped` hands back is sound, and flipped again gives it back
-pub flipped_is : (p : Position) → Sound p → flipped_of p ≡ placed.Position (position_of (flip (board_of p)))
+pub flipped_is : (p : Position) → Sound p → flipped_of p ≡ Ok (position_of (flip (board_of p)))
 unfolding flipped_of
 flipped_is p s = rw (says_sound p s)
 
 pub flipped_sound : (p : Position) → Sound p → Sound (position_of (flip (board_of p)))
 flipped_sound p s = position_sound (flip (board_of p)) (flip_accepted (board_of p) s.accepted)
 
-pub flipped_twice : (p : Position) → Sound p → flipped_of (position_of (flip (board_of p))) ≡ placed.Position p
+pub flipped_twice : (p : Position) → Sound p → flipped_of (position_of (flip (board_of p))) ≡ Ok p
 flipped_twice p s =
     flipped_is (position_of (flip (board_of p))) (flipped_sound p s)
-    ∙ ap (λ (b : Board). placed.Position (position_of b)) (flip_twice (board_of p) s.accepted)
-    ∙ ap placed.Position (sym (sound_position p s))
+    ∙ ap (λ (b : Board). Ok (position_of b)) (flip_twice (board_of p) s.accepted)
+    ∙ ap Ok (sym (sound_position p s))

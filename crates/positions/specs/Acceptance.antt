@@ -1,7 +1,7 @@
 -- Which boards and positions are accepted (docs/RULES.md, "Accepted boards"): every piece is on a square, no square has
 -- both colours, no man is on its promotion row, only pieces are marked as kings. A king marked on an empty square is
 -- dropped where sets are handed in (`from_parts_of`), and refused where a position is (`sound`).
-use Rattle.std.specs.Prelude.{◌≡◌, ℕ, ◌<◌, ◌^◌, Bool, true, false, cond, ◌&&◌, ◌||◌, eqb}
+use Rattle.std.specs.Prelude.{◌≡◌, ℕ, ◌<◌, ◌^◌, Bool, true, false, cond, ◌&&◌, ◌||◌, eqb, Err, Ok, Result}
 use Rattle.std.specs.Int.Bits.{bit_and, bit_or}
 use Rattle.squares.specs.Sets.{has, without}
 use Rattle.squares.specs.Squares.{promotion, first_of, on_board, squares_only}
@@ -11,8 +11,7 @@ use Rattle.squares.specs.Refusals.{refusal, refusal_at}
 use Rattle.positions.specs.Boards.{Board, board, board_of}
 use Rattle.positions.specs.Hash.{hash_of, position_of}
 use Rattle.positions.specs.declared.position.Position.{Position}
-use Rattle.positions.specs.declared.position.Placed.{Placed}
-use Rattle.positions.specs.declared.position.Placed.TheVariants as placed
+use Rattle.squares.specs.declared.refusal.Refusal.{Refusal}
 
 -- the men on their promotion row
 unfoldable pub misplaced : ℕ → ℕ → ℕ → ℕ
@@ -49,16 +48,16 @@ pub record Sound (p : Position) : Type 0 where
   pub hash : p.hash ≡ hash_of (board_of p)
 
 -- the position of these sets; refusal 7, then 8, with the lowest such square
-unfoldable pub place_of : ℕ → ℕ → ℕ → Color → Placed
+unfoldable pub place_of : ℕ → ℕ → ℕ → Color → Result Position Refusal
 place_of white black kings side =
     cond (eqb (bit_and white black) 0)
-    (cond (eqb (misplaced white black kings) 0) (placed.Position (position_of (board white black kings side)))
-    (placed.Refused (refusal_at 8 (first_of (misplaced white black kings)))))
-    (placed.Refused (refusal_at 7 (first_of (bit_and white black))))
+    (cond (eqb (misplaced white black kings) 0) (Ok (position_of (board white black kings side)))
+    (Err (refusal_at 8 (first_of (misplaced white black kings)))))
+    (Err (refusal_at 7 (first_of (bit_and white black))))
 
 -- the same for any sets: refusal 11 comes first, and kings marked on empty squares are dropped
-unfoldable pub from_parts_of : ℕ → ℕ → ℕ → Color → Placed
+unfoldable pub from_parts_of : ℕ → ℕ → ℕ → Color → Result Position Refusal
 from_parts_of white black kings side =
     cond (squares_only white && (squares_only black && squares_only kings))
     (place_of white black (bit_and kings (bit_or white black)) side)
-    (placed.Refused (refusal 11))
+    (Err (refusal 11))

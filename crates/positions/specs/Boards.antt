@@ -1,6 +1,6 @@
 -- Boards (docs/RULES.md, "Pieces and sides"): the pieces of each colour, the kings of both, the side to move.
 -- A position is a board with a hash (Hash.antt). Which boards are accepted is in Acceptance.antt.
-use Rattle.std.specs.Prelude.{ℕ, Bool, true, false, cond, ◌&&◌, eqb}
+use Rattle.std.specs.Prelude.{ℕ, Bool, true, false, cond, ◌&&◌, eqb, Err, None, Ok, Result, Some}
 use Rattle.std.specs.Int.Bits.{bit_and, bit_or}
 use Rattle.squares.specs.Sets.{without}
 use Rattle.squares.specs.Squares.{is_square, run, all, contains_of}
@@ -11,8 +11,9 @@ use Rattle.squares.specs.declared.piece.PieceKind.{PieceKind}
 use Rattle.squares.specs.declared.piece.PieceKind.TheVariants.{Man, King}
 use Rattle.squares.specs.Refusals.{refusal}
 use Rattle.positions.specs.declared.position.Position.{Position}
-use Rattle.positions.specs.declared.position.Standing.{Standing}
-use Rattle.positions.specs.declared.position.Standing.TheVariants as standing
+use Rattle.std.specs.declared.option.Option.{Option}
+use Rattle.squares.specs.declared.piece.Piece.{Piece}
+use Rattle.squares.specs.declared.refusal.Refusal.{Refusal}
 
 pub record Board : Type 0 where
   pub white : ℕ
@@ -77,13 +78,13 @@ abbrev pub kind_if : Bool → PieceKind
 kind_if true = King
 kind_if false = Man
 
-abbrev pub standing_of : Color → Bool → Standing
-standing_of c king = standing.Piece (record { color = c; kind = kind_if king })
+abbrev pub standing_of : Color → Bool → Result (Option Piece) Refusal
+standing_of c king = Ok (Some (record { color = c; kind = kind_if king }))
 
 -- what is on square n; refusal 11 where there is no such square
-unfoldable pub piece_at_of : Board → ℕ → Standing
+unfoldable pub piece_at_of : Board → ℕ → Result (Option Piece) Refusal
 piece_at_of b n =
     cond (is_square n)
     (cond (contains_of b.white n) (standing_of White (contains_of b.kings n))
-    (cond (contains_of b.black n) (standing_of Black (contains_of b.kings n)) standing.Nothing))
-    (standing.Refused (refusal 11))
+    (cond (contains_of b.black n) (standing_of Black (contains_of b.kings n)) (Ok None)))
+    (Err (refusal 11))

@@ -4,5 +4,4 @@ pub mod Hash
 pub mod Acceptance
 pub mod Successor
 pub mod Flip
-pub mod Told
 pub mod Computed

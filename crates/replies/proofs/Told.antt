@@ -1,4 +1,5 @@
 -- A text that was written into lent space is the text: positions and moves have room in it.
+use Rattle.std.specs.Prelude.{Err, Ok, Result}
 use Prim.Native.Nat.{ℕ, ◌≤◌}
 use mathlib.Core.Path.{◌≡◌, refl, ap, sym, ◌∙◌, subst}
 use mathlib.Core.List.{List, []}
@@ -19,8 +20,6 @@ use Rattle.positions.proofs.Accepts.{sound_says}
 use Rattle.texts.specs.Lent.{emit_of, emitted}
 use Rattle.texts.specs.Fen.{fen_text, fen_of, fen_lent}
 use Rattle.texts.specs.Hub.{hub_text, hub_of, hub_lent}
-use Rattle.texts.specs.declared.bytes.Wrote.{Wrote}
-use Rattle.texts.specs.declared.bytes.Wrote.TheVariants as wrote
 use Rattle.texts.proofs.FenLength.{fen_short}
 use Rattle.texts.proofs.HubTrip.{hub_length}
 use Rattle.notation.specs.MoveText.{move_text, to_hub_of, to_hub_lent}
@@ -32,32 +31,32 @@ pub record Lent (t o new : List ℕ) (n : ℕ) : Type 0 where
   pub text : take n new ≡ t
   pub within : n ≤ length new
 
-emit_length : (t o : List ℕ) (n : ℕ) → length t ≤ length o → emit_of t o ≡ wrote.Length n → n ≡ length t
+emit_length : (t o : List ℕ) (n : ℕ) → length t ≤ length o → emit_of t o ≡ Ok n → n ≡ length t
 unfolding emit_of
 emit_length t o n h e =
-    let q : wrote.Length (length t) ≡ wrote.Length n = sym (ap (λ (x : Bool). cond x (wrote.Length (length t)) (wrote.Refused SpaceTooShort)) (le-leb (length t) (length o) h)) ∙ e in
+    let q : Ok (length t) ≡ Ok n = sym (ap (λ (x : Bool). cond x (Ok (length t)) (Err SpaceTooShort)) (le-leb (length t) (length o) h)) ∙ e in
     cc
 
 emit_text : (t o : List ℕ) (n : ℕ) → length t ≤ length o → n ≡ length t → take n (emitted t o) ≡ t
 unfolding emitted
 emit_text t o n h e = rw (le-leb (length t) (length o) h, e) (take-append_seam t (drop (length t) o))
 
-emit_refused : (t o : List ℕ) (e : Refusal) → length t ≤ length o → emit_of t o ≡ wrote.Refused e → ⊥
+emit_refused : (t o : List ℕ) (e : Refusal) → length t ≤ length o → emit_of t o ≡ Err e → ⊥
 unfolding emit_of
 emit_refused t o e h q =
-    let r : wrote.Length (length t) ≡ wrote.Refused e = sym (ap (λ (x : Bool). cond x (wrote.Length (length t)) (wrote.Refused SpaceTooShort)) (le-leb (length t) (length o) h)) ∙ q in
+    let r : Ok (length t) ≡ Err e = sym (ap (λ (x : Bool). cond x (Ok (length t)) (Err SpaceTooShort)) (le-leb (length t) (length o) h)) ∙ q in
     let z : ◌≡◌ {A = ℕ} 0 1 = cc in
     omega arith
 
 module _ (t o : List ℕ) where
-  told : (b : Bool) (f : Refusal) (n : ℕ) → (b ≡ true → length t ≤ length o) → cond b (emit_of t o) (wrote.Refused f) ≡ wrote.Length n → Lent (cond b t []) o (cond b (emitted t o) o) n
+  told : (b : Bool) (f : Refusal) (n : ℕ) → (b ≡ true → length t ≤ length o) → cond b (emit_of t o) (Err f) ≡ Ok n → Lent (cond b t []) o (cond b (emitted t o) o) n
   told true f n h e =
       let q = emit_length t o n (h refl) e in
       let w = emit_text t o n (h refl) q in
       record { text = w; within = omega (arith, q, ap length w, length-take n (emitted t o)) }
   told false f n h e = absurd (let z : ◌≡◌ {A = ℕ} 0 1 = cc in omega arith)
 
-  untold : (b : Bool) (f g : Refusal) → (b ≡ true → length t ≤ length o) → cond b (emit_of t o) (wrote.Refused f) ≡ wrote.Refused g → cond b t [] ≡ []
+  untold : (b : Bool) (f g : Refusal) → (b ≡ true → length t ≤ length o) → cond b (emit_of t o) (Err f) ≡ Err g → cond b t [] ≡ []
   untold true f g h e = absurd (emit_refused t o g (h refl) e)
   untold false f g h e = refl
 
@@ -65,11 +64,11 @@ module _ (p : Position) (o : List ℕ) (long : length o ≡ 200) where
   fen_fits : sound p ≡ true → length (fen_text (board_of p)) ≤ length o
   fen_fits s = omega (arith, fen_short (board_of p) (sound_says p s).accepted, long)
 
-  fen_answer_lem : fen_of p o ≡ cond (sound p) (emit_of (fen_text (board_of p)) o) (wrote.Refused BadPosition)
+  fen_answer_lem : fen_of p o ≡ cond (sound p) (emit_of (fen_text (board_of p)) o) (Err BadPosition)
   unfolding fen_of
   fen_answer_lem = go (sound p) refl
     where
-      go : (b : Bool) → sound p ≡ b → cond b (cond (leb (length (fen_text (board_of p))) 200) (emit_of (fen_text (board_of p)) o) (wrote.Refused FenTooLong)) (wrote.Refused BadPosition) ≡ cond b (emit_of (fen_text (board_of p)) o) (wrote.Refused BadPosition)
+      go : (b : Bool) → sound p ≡ b → cond b (cond (leb (length (fen_text (board_of p))) 200) (emit_of (fen_text (board_of p)) o) (Err FenTooLong)) (Err BadPosition) ≡ cond b (emit_of (fen_text (board_of p)) o) (Err BadPosition)
       go true e = rw (le-leb (length (fen_text (board_of p))) 200 (omega (arith, fen_fits e, long)))
       go false e = refl
 
@@ -81,13 +80,13 @@ module _ (p : Position) (o : List ℕ) (long : length o ≡ 200) where
       go true e = rw (le-leb (length (fen_text (board_of p))) 200 (omega (arith, fen_fits e, long)))
       go false e = refl
 
-  pub fen_told : (new : List ℕ) (r : Wrote) (n : ℕ) → r ≡ fen_of p o → new ≡ fen_lent p o → r ≡ wrote.Length n → Lent (fen_word p) o new n
+  pub fen_told : (new : List ℕ) (r : Result ℕ Refusal) (n : ℕ) → r ≡ fen_of p o → new ≡ fen_lent p o → r ≡ Ok n → Lent (fen_word p) o new n
   unfolding fen_word
   fen_told new r n e f q =
       subst (λ (x : List ℕ). Lent (cond (sound p) (fen_text (board_of p)) []) o x n) (sym (f ∙ fen_bytes))
       (told (fen_text (board_of p)) o (sound p) BadPosition n fen_fits (sym fen_answer_lem ∙ sym e ∙ q))
 
-  pub fen_untold : (r : Wrote) (g : Refusal) → r ≡ fen_of p o → r ≡ wrote.Refused g → fen_word p ≡ []
+  pub fen_untold : (r : Result ℕ Refusal) (g : Refusal) → r ≡ fen_of p o → r ≡ Err g → fen_word p ≡ []
   unfolding fen_word
   fen_untold r g e q = untold (fen_text (board_of p)) o (sound p) BadPosition g fen_fits (sym fen_answer_lem ∙ sym e ∙ q)
 
@@ -95,13 +94,13 @@ module _ (p : Position) (o : List ℕ) (long : length o ≡ 51) where
   hub_fits : sound p ≡ true → length (hub_text (board_of p)) ≤ length o
   hub_fits s = omega (arith, hub_length (board_of p), long)
 
-  pub hub_told : (new : List ℕ) (r : Wrote) (n : ℕ) → r ≡ hub_of p o → new ≡ hub_lent p o → r ≡ wrote.Length n → Lent (hub_word p) o new n
+  pub hub_told : (new : List ℕ) (r : Result ℕ Refusal) (n : ℕ) → r ≡ hub_of p o → new ≡ hub_lent p o → r ≡ Ok n → Lent (hub_word p) o new n
   unfolding hub_word hub_of hub_lent
   hub_told new r n e f q =
       subst (λ (x : List ℕ). Lent (cond (sound p) (hub_text (board_of p)) []) o x n) (sym f)
       (told (hub_text (board_of p)) o (sound p) BadPosition n hub_fits (sym e ∙ q))
 
-  pub hub_untold : (r : Wrote) (g : Refusal) → r ≡ hub_of p o → r ≡ wrote.Refused g → hub_word p ≡ []
+  pub hub_untold : (r : Result ℕ Refusal) (g : Refusal) → r ≡ hub_of p o → r ≡ Err g → hub_word p ≡ []
   unfolding hub_word hub_of
   hub_untold r g e q = untold (hub_text (board_of p)) o (sound p) BadPosition g hub_fits (sym e ∙ q)
 
@@ -109,12 +108,12 @@ module _ (m : Move) (o : List ℕ) (long : length o ≡ 200) where
   move_fits : squares_of m ≡ true → length (move_text m) ≤ length o
   move_fits s = omega (arith, move_short m s, long)
 
-  pub move_told : (new : List ℕ) (r : Wrote) (n : ℕ) → r ≡ to_hub_of m o → new ≡ to_hub_lent m o → r ≡ wrote.Length n → Lent (move_word m) o new n
+  pub move_told : (new : List ℕ) (r : Result ℕ Refusal) (n : ℕ) → r ≡ to_hub_of m o → new ≡ to_hub_lent m o → r ≡ Ok n → Lent (move_word m) o new n
   unfolding move_word to_hub_of to_hub_lent
   move_told new r n e f q =
       subst (λ (x : List ℕ). Lent (cond (squares_of m) (move_text m) []) o x n) (sym f)
       (told (move_text m) o (squares_of m) NoSuchSquare n move_fits (sym e ∙ q))
 
-  pub move_untold : (r : Wrote) (g : Refusal) → r ≡ to_hub_of m o → r ≡ wrote.Refused g → move_word m ≡ []
+  pub move_untold : (r : Result ℕ Refusal) (g : Refusal) → r ≡ to_hub_of m o → r ≡ Err g → move_word m ≡ []
   unfolding move_word to_hub_of
   move_untold r g e q = untold (move_text m) o (squares_of m) NoSuchSquare g move_fits (sym e ∙ q)

@@ -1,30 +1,21 @@
 -- What is written of a position, a move, a list of moves or a count.
-use Rattle.std.specs.Prelude.{ℕ, zero, suc, min, List, [], ◌∷◌, ◌++◌, Bool, true, false, cond, get_or}
+use Rattle.std.specs.Prelude.{ℕ, zero, suc, min, List, [], ◌∷◌, ◌++◌, Bool, true, false, cond, get_or, Err, Ok, Result, ℤ}
 use Prim.Native.Char.{code}
 use Rattle.squares.specs.Pieces.{color_char}
-use Rattle.squares.specs.declared.refusal.Answer.{Answer}
-use Rattle.squares.specs.declared.refusal.Answer.TheVariants as answer
 use Rattle.positions.specs.Moves.{squares_of}
 use Rattle.positions.specs.declared.moves.Move.{Move}
 use Rattle.captures.specs.Lists.{blank}
 use Rattle.positions.specs.Boards.{board_of}
 use Rattle.positions.specs.Acceptance.{sound}
 use Rattle.positions.specs.declared.position.Position.{Position}
-use Rattle.positions.specs.declared.position.Placed.{Placed}
-use Rattle.positions.specs.declared.position.Placed.TheVariants as placed
-use Rattle.scores.specs.declared.eval.Scored.{Scored}
-use Rattle.scores.specs.declared.eval.Scored.TheVariants as scored
 use Rattle.movegen.specs.declared.movegen.Listed.{Listed}
 use Rattle.movegen.specs.declared.perft.Divided.{Divided}
-use Rattle.movegen.specs.declared.movegen.Tested.{Tested}
-use Rattle.movegen.specs.declared.movegen.Tested.TheVariants as tested
-use Rattle.movegen.specs.declared.perft.Counted.{Counted}
-use Rattle.movegen.specs.declared.perft.Counted.TheVariants as counted
 use Rattle.texts.specs.Bytes.{bytes}
 use Rattle.texts.specs.Fen.{fen_text}
 use Rattle.texts.specs.Hub.{hub_text}
 use Rattle.notation.specs.MoveText.{move_text}
 use Rattle.wording.specs.Output.{decimal, hex, hash, signed, refusal_text}
+use Rattle.squares.specs.declared.refusal.Refusal.{Refusal}
 
 abbrev pub ok : List ℕ → List ℕ
 ok t = bytes "ok " ++ t
@@ -53,25 +44,25 @@ set_word s = hex s ++ (code " " ∷ [])
 unfoldable pub bits_answer : Position → List ℕ
 bits_answer p = ok (set_word p.white ++ (set_word p.black ++ (set_word p.kings ++ (color_char p.side ∷ (code " " ∷ hash p.hash)))))
 
-abbrev pub placed_answer : Placed → List ℕ
-placed_answer (placed.Position p) = fen_answer p
-placed_answer (placed.Refused e) = refusal_text e
+abbrev pub placed_answer : Result Position Refusal → List ℕ
+placed_answer (Ok p) = fen_answer p
+placed_answer (Err e) = refusal_text e
 
-abbrev pub scored_answer : Scored → List ℕ
-scored_answer (scored.Score z) = ok (signed z)
-scored_answer (scored.Refused e) = refusal_text e
+abbrev pub scored_answer : Result ℤ Refusal → List ℕ
+scored_answer (Ok z) = ok (signed z)
+scored_answer (Err e) = refusal_text e
 
 abbrev pub yes_no : Bool → ℕ
 yes_no true = code "1"
 yes_no false = code "0"
 
-abbrev pub tested_answer : Tested → List ℕ
-tested_answer (tested.Is b) = ok (yes_no b ∷ [])
-tested_answer (tested.Refused e) = refusal_text e
+abbrev pub tested_answer : Result Bool Refusal → List ℕ
+tested_answer (Ok b) = ok (yes_no b ∷ [])
+tested_answer (Err e) = refusal_text e
 
-abbrev pub counted_answer : Counted → List ℕ
-counted_answer (counted.Count n) = ok (decimal n)
-counted_answer (counted.Refused e) = refusal_text e
+abbrev pub counted_answer : Result ℕ Refusal → List ℕ
+counted_answer (Ok n) = ok (decimal n)
+counted_answer (Err e) = refusal_text e
 
 -- ---- moves
 
@@ -90,9 +81,9 @@ counts_text l c zero = []
 counts_text l c (suc n) = counts_text l c n ++ (code " " ∷ (move_word (get_or l n blank) ++ (code "=" ∷ decimal (get_or c n 0))))
 
 -- how many there are, then each
-abbrev pub answering : Answer → List ℕ → List ℕ
-answering answer.Done t = ok t
-answering (answer.Refused e) t = refusal_text e
+abbrev pub answering : Result Unit Refusal → List ℕ → List ℕ
+answering (Ok tt) t = ok t
+answering (Err e) t = refusal_text e
 
 unfoldable pub list_answer : Listed → List ℕ
 list_answer l = answering l.answer (decimal l.list.len ++ moves_text l.list.moves (min l.list.len 256))
@@ -108,6 +99,6 @@ record_word m = decimal m.from ++ (code "," ∷ (decimal m.to ++ (code "," ∷ h
 unfoldable pub move_answer : Move → List ℕ
 move_answer m = ok (move_word m ++ (code " " ∷ record_word m))
 
-abbrev pub after_answer : Placed → List ℕ
-after_answer (placed.Position p) = fen_answer p ++ (code " " ∷ hash p.hash)
-after_answer (placed.Refused e) = refusal_text e
+abbrev pub after_answer : Result Position Refusal → List ℕ
+after_answer (Ok p) = fen_answer p ++ (code " " ∷ hash p.hash)
+after_answer (Err e) = refusal_text e

@@ -1,35 +1,29 @@
 -- What is written of a game. Every game that a request plays began from an accepted position. So refusal 13, and a game
 -- lost to nobody, do not occur; nothing is written for them.
-use Rattle.std.specs.Prelude.{ℕ, List, [], ◌∷◌, ◌++◌}
+use Rattle.std.specs.Prelude.{ℕ, List, [], ◌∷◌, ◌++◌, Err, None, Ok, Result, Some}
 use Prim.Native.Char.{code}
 use Rattle.squares.specs.declared.piece.Color.TheVariants.{White, Black}
-use Rattle.squares.specs.declared.refusal.Answer.{Answer}
-use Rattle.squares.specs.declared.refusal.Answer.TheVariants as answer
-use Rattle.positions.specs.declared.position.Placed.{Placed}
-use Rattle.positions.specs.declared.position.Placed.TheVariants as placed
 use Rattle.movegen.specs.declared.movegen.Listed.{Listed}
-use Rattle.movegen.specs.declared.perft.Counted.{Counted}
-use Rattle.movegen.specs.declared.perft.Counted.TheVariants as counted
 use Rattle.texts.specs.Bytes.{bytes}
 use Rattle.games.specs.Play.{outcome_of, stands_of, repetitions_of, reversible_plies_of, legal_moves_of}
 use Rattle.games.specs.declared.game.Game.{Game}
-use Rattle.games.specs.declared.game.Judged.{Judged}
-use Rattle.games.specs.declared.game.Judged.TheVariants as judged
 use Rattle.games.specs.declared.game.Outcome.{Outcome}
 use Rattle.games.specs.declared.game.Termination.{Termination}
 use Rattle.games.specs.declared.game.Termination.TheVariants.{NoMoves, Repetition, TwentyFiveMoves, SixteenMoves, FiveMoves}
-use Rattle.games.specs.declared.game.Winner.{Winner}
-use Rattle.games.specs.declared.game.Winner.TheVariants as winner
 use Rattle.wording.specs.Output.{decimal, number_word}
 use Rattle.replies.specs.Answers.{fen_word}
+use Rattle.squares.specs.declared.piece.Color.{Color}
+use Rattle.std.specs.declared.option.Option.{Option}
+use Rattle.positions.specs.declared.position.Position.{Position}
+use Rattle.squares.specs.declared.refusal.Refusal.{Refusal}
 
 -- ---- the outcome
-abbrev pub winner_word : Winner → List ℕ
-winner_word (winner.Side White) = bytes "white"
-winner_word (winner.Side Black) = bytes "black"
-winner_word winner.Nobody = []
+abbrev pub winner_word : Option Color → List ℕ
+winner_word (Some White) = bytes "white"
+winner_word (Some Black) = bytes "black"
+winner_word None = []
 
-abbrev pub ending_word : Termination → Winner → List ℕ
+abbrev pub ending_word : Termination → Option Color → List ℕ
 ending_word NoMoves w = winner_word w
 ending_word Repetition w = bytes "draw3"
 ending_word TwentyFiveMoves w = bytes "draw50"
@@ -39,15 +33,15 @@ ending_word FiveMoves w = bytes "draw10"
 abbrev pub outcome_word : Outcome → List ℕ
 outcome_word o = ending_word o.termination o.winner
 
-abbrev pub judged_word : Judged → List ℕ
-judged_word (judged.Outcome o) = outcome_word o
-judged_word judged.Going = bytes "none"
-judged_word (judged.Refused e) = []
+abbrev pub judged_word : Result (Option Outcome) Refusal → List ℕ
+judged_word (Ok (Some o)) = outcome_word o
+judged_word (Ok None) = bytes "none"
+judged_word (Err e) = []
 
 -- ---- counts
-abbrev pub count_word : Counted → List ℕ
-count_word (counted.Count n) = decimal n
-count_word (counted.Refused e) = []
+abbrev pub count_word : Result ℕ Refusal → List ℕ
+count_word (Ok n) = decimal n
+count_word (Err e) = []
 
 -- plies without capture or man move, plies since capture or promotion (up to 32); a mark before each
 unfoldable pub plies_text : ℕ → Game → List ℕ
@@ -59,13 +53,13 @@ state_text mark g =
     mark ∷ (judged_word (outcome_of g) ++ (plies_text mark g ++ (mark ∷ count_word (repetitions_of g))))
 
 -- ---- the game after the last play
-abbrev pub stand_word : Placed → List ℕ
-stand_word (placed.Position p) = fen_word p
-stand_word (placed.Refused e) = []
+abbrev pub stand_word : Result Position Refusal → List ℕ
+stand_word (Ok p) = fen_word p
+stand_word (Err e) = []
 
-abbrev pub length_word : Answer → ℕ → List ℕ
-length_word answer.Done n = decimal n
-length_word (answer.Refused e) n = number_word e
+abbrev pub length_word : Result Unit Refusal → ℕ → List ℕ
+length_word (Ok tt) n = decimal n
+length_word (Err e) n = number_word e
 
 -- how many moves there are, 0 once the game is over; more than 256 are refused with 17
 unfoldable pub moves_word : Listed → List ℕ

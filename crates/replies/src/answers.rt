@@ -5,13 +5,10 @@ ghost use Rattle.texts.specs.Bytes.{bytes};
 ghost use Rattle.replies.specs.Answers.{yes_no, set_word, fen_word, hub_word, bits_answer, scored_answer, tested_answer, counted_answer, fen_answer, hub_answer, hash_answer, placed_answer, move_word, moves_text, counts_text, list_answer, divided_answer, record_word, move_answer, after_answer};
 
 use captures::moves::{MAX_MOVES, MoveList};
-use movegen::movegen::{Listed, Tested};
-use movegen::perft::{Counted, Divided};
+use movegen::movegen::Listed;
+use movegen::perft::Divided;
 use positions::moves::Move;
-use positions::position::{Placed, Position};
-use scores::eval::Scored;
-use squares::refusal::Answer;
-use texts::bytes::Wrote;
+use positions::position::Position;
 use texts::{fen, hub};
 use wording::output;
 
@@ -20,8 +17,8 @@ pub fn put_fen(out: &mut [u8], at: usize, p: Position) -> usize
 {
     let mut space = [0u8; 200];
     match fen::fen(p, &mut space) {
-        Wrote::Length(n) => output::put(out, at, &space[..n]),
-        Wrote::Refused(_) => at,
+        Ok(n) => output::put(out, at, &space[..n]),
+        Err(_) => at,
     }
 }
 
@@ -30,8 +27,8 @@ fn put_hub(out: &mut [u8], at: usize, p: Position) -> usize
 {
     let mut space = [0u8; 51];
     match hub::hub(p, &mut space) {
-        Wrote::Length(n) => output::put(out, at, &space[..n]),
-        Wrote::Refused(_) => at,
+        Ok(n) => output::put(out, at, &space[..n]),
+        Err(_) => at,
     }
 }
 
@@ -84,24 +81,24 @@ pub fn tell_bits(out: &mut [u8], at: usize, p: Position) -> usize
 }
 
 // A position as FEN, or the refusal.
-pub fn tell_placed(out: &mut [u8], at: usize, p: Placed) -> usize
+pub fn tell_placed(out: &mut [u8], at: usize, p: Result<Position, Refusal>) -> usize
     ensures { Adds (placed_answer p) out.old at out.new result }
 {
     match p {
-        Placed::Position(q) => tell_fen(out, at, q),
-        Placed::Refused(e) => output::put_refusal(out, at, e),
+        Ok(q) => tell_fen(out, at, q),
+        Err(e) => output::put_refusal(out, at, e),
     }
 }
 
-pub fn tell_scored(out: &mut [u8], at: usize, s: Scored) -> usize
+pub fn tell_scored(out: &mut [u8], at: usize, s: Result<i32, Refusal>) -> usize
     ensures { Adds (scored_answer s) out.old at out.new result }
 {
     match s {
-        Scored::Score(z) => {
+        Ok(z) => {
             let k = put_ok(out, at);
             output::put_signed(out, k, z)
         }
-        Scored::Refused(e) => output::put_refusal(out, at, e),
+        Err(e) => output::put_refusal(out, at, e),
     }
 }
 
@@ -111,27 +108,27 @@ fn yes_no(yes: bool) -> u8
     if yes { b'1' } else { b'0' }
 }
 
-pub fn tell_tested(out: &mut [u8], at: usize, t: Tested) -> usize
+pub fn tell_tested(out: &mut [u8], at: usize, t: Result<bool, Refusal>) -> usize
     ensures { Adds (tested_answer t) out.old at out.new result }
 {
     match t {
-        Tested::Is(yes) => {
+        Ok(yes) => {
             let k = put_ok(out, at);
             output::put_byte(out, k, yes_no(yes))
         }
-        Tested::Refused(e) => output::put_refusal(out, at, e),
+        Err(e) => output::put_refusal(out, at, e),
     }
 }
 
-pub fn tell_counted(out: &mut [u8], at: usize, c: Counted) -> usize
+pub fn tell_counted(out: &mut [u8], at: usize, c: Result<u64, Refusal>) -> usize
     ensures { Adds (counted_answer c) out.old at out.new result }
 {
     match c {
-        Counted::Count(n) => {
+        Ok(n) => {
             let k = put_ok(out, at);
             output::put_decimal(out, k, n)
         }
-        Counted::Refused(e) => output::put_refusal(out, at, e),
+        Err(e) => output::put_refusal(out, at, e),
     }
 }
 
@@ -141,8 +138,8 @@ pub fn put_move(out: &mut [u8], at: usize, m: Move) -> usize
 {
     let mut space = [0u8; 200];
     match notation::moves::to_hub(m, &mut space) {
-        Wrote::Length(n) => output::put(out, at, &space[..n]),
-        Wrote::Refused(_) => at,
+        Ok(n) => output::put(out, at, &space[..n]),
+        Err(_) => at,
     }
 }
 
@@ -172,12 +169,12 @@ pub fn tell_list(out: &mut [u8], at: usize, l: Listed) -> usize
     let answer = l.answer;
     let list = l.list;
     match answer {
-        Answer::Done => {
+        Ok(()) => {
             let k = put_ok(out, at);
             let n = output::put_decimal(out, k, list.len as u64);
             put_moves(out, n, list)
         }
-        Answer::Refused(e) => output::put_refusal(out, at, e),
+        Err(e) => output::put_refusal(out, at, e),
     }
 }
 
@@ -209,12 +206,12 @@ pub fn tell_divided(out: &mut [u8], at: usize, d: Divided) -> usize
     let list = d.list;
     let counts = d.counts;
     match answer {
-        Answer::Done => {
+        Ok(()) => {
             let k = put_ok(out, at);
             let n = output::put_decimal(out, k, list.len as u64);
             put_counts(out, n, list, counts)
         }
-        Answer::Refused(e) => output::put_refusal(out, at, e),
+        Err(e) => output::put_refusal(out, at, e),
     }
 }
 
@@ -240,15 +237,15 @@ pub fn tell_move(out: &mut [u8], at: usize, m: Move) -> usize
 }
 
 // The FEN of the position after a move, and its hash.
-pub fn tell_after(out: &mut [u8], at: usize, p: Placed) -> usize
+pub fn tell_after(out: &mut [u8], at: usize, p: Result<Position, Refusal>) -> usize
     ensures { Adds (after_answer p) out.old at out.new result }
 {
     match p {
-        Placed::Position(q) => {
+        Ok(q) => {
             let k = tell_fen(out, at, q);
             let blank = output::put_byte(out, k, b' ');
             output::put_hash(out, blank, q.hash)
         }
-        Placed::Refused(e) => output::put_refusal(out, at, e),
+        Err(e) => output::put_refusal(out, at, e),
     }
 }

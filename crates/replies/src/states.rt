@@ -5,23 +5,20 @@ ghost use Rattle.replies.specs.States.{winner_word, outcome_word, judged_word, c
 
 use crate::answers;
 use captures::moves::MAX_MOVES;
-use games::game::{Game, Judged, Outcome, Termination, Winner};
+use games::game::{Game, Outcome, Termination};
 use movegen::movegen::Listed;
-use movegen::perft::Counted;
-use positions::position::Placed;
 use squares::piece::Color;
-use squares::refusal::Answer;
 use wording::output;
 
-fn put_winner(out: &mut [u8], at: usize, w: Winner) -> usize
+fn put_winner(out: &mut [u8], at: usize, w: Option<Color>) -> usize
     ensures { Adds (winner_word w) out.old at out.new result }
 {
     match w {
-        Winner::Side(color) => match color {
+        Some(color) => match color {
             Color::White => output::put(out, at, b"white"),
             Color::Black => output::put(out, at, b"black"),
         },
-        Winner::Nobody => at,
+        None => at,
     }
 }
 
@@ -39,22 +36,22 @@ fn put_outcome(out: &mut [u8], at: usize, o: Outcome) -> usize
     }
 }
 
-pub fn put_judged(out: &mut [u8], at: usize, j: Judged) -> usize
+pub fn put_judged(out: &mut [u8], at: usize, j: Result<Option<Outcome>, Refusal>) -> usize
     ensures { Adds (judged_word j) out.old at out.new result }
 {
     match j {
-        Judged::Outcome(o) => put_outcome(out, at, o),
-        Judged::Going => output::put(out, at, b"none"),
-        Judged::Refused(_) => at,
+        Ok(Some(o)) => put_outcome(out, at, o),
+        Ok(None) => output::put(out, at, b"none"),
+        Err(_) => at,
     }
 }
 
-fn put_count(out: &mut [u8], at: usize, c: Counted) -> usize
+fn put_count(out: &mut [u8], at: usize, c: Result<u64, Refusal>) -> usize
     ensures { Adds (count_word c) out.old at out.new result }
 {
     match c {
-        Counted::Count(n) => output::put_decimal(out, at, n),
-        Counted::Refused(_) => at,
+        Ok(n) => output::put_decimal(out, at, n),
+        Err(_) => at,
     }
 }
 
@@ -79,12 +76,12 @@ pub fn put_state(out: &mut [u8], at: usize, g: Game, mark: u8) -> usize
     put_count(out, k, g.repetitions())
 }
 
-fn put_stand(out: &mut [u8], at: usize, p: Placed) -> usize
+fn put_stand(out: &mut [u8], at: usize, p: Result<Position, Refusal>) -> usize
     ensures { Adds (stand_word p) out.old at out.new result }
 {
     match p {
-        Placed::Position(q) => answers::put_fen(out, at, q),
-        Placed::Refused(_) => at,
+        Ok(q) => answers::put_fen(out, at, q),
+        Err(_) => at,
     }
 }
 
@@ -95,8 +92,8 @@ fn put_listed(out: &mut [u8], at: usize, l: Listed) -> usize
     let answer = l.answer;
     let list = l.list;
     match answer {
-        Answer::Done => output::put_decimal(out, at, list.len as u64),
-        Answer::Refused(e) => output::put_number(out, at, e),
+        Ok(()) => output::put_decimal(out, at, list.len as u64),
+        Err(e) => output::put_number(out, at, e),
     }
 }
 

@@ -1,5 +1,6 @@
 -- What is written of a play grows by three bytes for each piece that it takes, and a piece is taken only once. So the plays of a whole
 -- game need a fixed number of bytes each, and at most three more for each piece on the board at its start.
+use Rattle.std.specs.Prelude.{Err, None, Ok, Result, Some}
 use Prim.Native.Nat.{ℕ, suc, ◌+◌, ◌*◌, ◌≤◌, ◌<◌}
 use mathlib.Core.Path.{◌≡◌, refl, ap, ap₂, sym, ◌∙◌, subst}
 use mathlib.Core.List.{List, [], ◌∷◌, ◌++◌}
@@ -10,8 +11,6 @@ use lib.ListN.{length, take, length-append, length-take}
 use Rattle.squares.specs.Refusals.{number_of}
 use Rattle.squares.specs.Sets.{size}
 use Rattle.squares.specs.declared.piece.Color.TheVariants.{White, Black}
-use Rattle.squares.specs.declared.refusal.Answer.{Answer}
-use Rattle.squares.specs.declared.refusal.Answer.TheVariants as answer
 use Rattle.squares.specs.declared.refusal.Refusal.{Refusal}
 use Rattle.squares.specs.declared.refusal.Refusal.TheVariants.{NoSuchSquare, BadPosition, BadGame, GameOver, NoMoveFits, TooManyMoves, BadMoveText}
 use Rattle.squares.proofs.Sizes.{size_most}
@@ -23,8 +22,6 @@ use Rattle.positions.proofs.Measure.{pieces_on}
 use Rattle.positions.specs.Moves.{squares_of}
 use Rattle.positions.specs.Successor.{successor}
 use Rattle.positions.specs.declared.moves.Move.{Move}
-use Rattle.positions.specs.declared.position.Placed.{Placed}
-use Rattle.positions.specs.declared.position.Placed.TheVariants as placed
 use Rattle.positions.specs.declared.position.Position.{Position}
 use Rattle.positions.proofs.Accepts.{sound_says, says_sound, position_sound}
 use Rattle.positions.proofs.Kept.{successor_accepted}
@@ -33,27 +30,17 @@ use Rattle.rules.specs.Lists.{times}
 use Rattle.rules.specs.Ordered.{legal, listed}
 use Rattle.rules.proofs.Laws.{fair_of_accepted, listed_legal, legal_playable}
 use Rattle.movegen.specs.Lists.{after_of}
-use Rattle.movegen.specs.declared.perft.Counted.{Counted}
-use Rattle.movegen.specs.declared.perft.Counted.TheVariants as counted
 use Rattle.movegen.proofs.Answers.{after_many, after_none, after_one}
 use Rattle.notation.specs.Choice.{fit_of}
 use Rattle.notation.specs.Notation.{read_move_of}
-use Rattle.notation.specs.declared.notation.Found.{Found}
-use Rattle.notation.specs.declared.notation.Found.TheVariants as found
-use Rattle.notation.specs.declared.notation.Heard.{Heard}
-use Rattle.notation.specs.declared.notation.Heard.TheVariants as said
 use Rattle.notation.specs.declared.notation.Said.{Said}
 use Rattle.games.specs.Games.{blank_position, window_of, last_of, valid, stood, same_position, irreversible, material_after, judged_of, ended}
 use Rattle.games.specs.Play.{alone_of, fresh_of, new_of, appended_of, moved_of, refused_play, reached_of, play_of, outcome_of, stands_of, repetitions_of, reversible_plies_of, legal_moves_of}
 use Rattle.games.specs.declared.game.Begun.{Begun}
 use Rattle.games.specs.declared.game.Game.{Game}
-use Rattle.games.specs.declared.game.Judged.{Judged}
-use Rattle.games.specs.declared.game.Judged.TheVariants as judged
 use Rattle.games.specs.declared.game.Played.{Played}
 use Rattle.games.specs.declared.game.Termination.{Termination}
 use Rattle.games.specs.declared.game.Termination.TheVariants.{NoMoves, Repetition, TwentyFiveMoves, SixteenMoves, FiveMoves}
-use Rattle.games.specs.declared.game.Winner.{Winner}
-use Rattle.games.specs.declared.game.Winner.TheVariants as winner
 use Rattle.games.proofs.Stands.{room}
 use Rattle.games.proofs.Valid.{valid_says, material_fits, alone_last, alone_long, alone_valid, more_last, more_long, more_valid}
 use Rattle.gametexts.specs.Texts.{beside, refused_text, play_found, play_said, play_heard, play_str_of}
@@ -66,9 +53,10 @@ use Rattle.replies.specs.States.{winner_word, ending_word, judged_word, count_wo
 use Rattle.requests.specs.Plays.{words_of, record_of, play_text_of, play_move, play_record_of, play_word_of, text_told, record_told, word_told, game_text}
 use Rattle.requests.specs.declared.plays.Given.{Given}
 use Rattle.requests.specs.declared.plays.Given.TheVariants as given
-use Rattle.requests.specs.declared.plays.Recorded.{Recorded}
-use Rattle.requests.specs.declared.plays.Recorded.TheVariants as recorded
 use Rattle.request_laws.proofs.Lengths.{decimal_most, decimal_two, fen_most, move_by}
+use Rattle.squares.specs.declared.piece.Color.{Color}
+use Rattle.std.specs.declared.option.Option.{Option}
+use Rattle.games.specs.declared.game.Outcome.{Outcome}
 
 -- ---- a game that goes on
 pub record Good (g : Game) : Type 0 where
@@ -92,7 +80,7 @@ pub new_good : (p : Position) → Good (new_of p).game
 unfolding new_of fresh_of
 new_good p = go (sound p) refl
   where
-    go : (t : Bool) → sound p ≡ t → Good (cond {A = Begun} t (record { answer = answer.Done; game = alone_of p 0 }) (record { answer = answer.Refused BadPosition; game = alone_of blank_position 0 })).game
+    go : (t : Bool) → sound p ≡ t → Good (cond {A = Begun} t (record { answer = Ok tt; game = alone_of p 0 }) (record { answer = Err BadPosition; game = alone_of blank_position 0 })).game
     go true e = alone_good p 0 e (omega arith)
     go false e = alone_good blank_position 0 blank_sound (omega arith)
 
@@ -129,7 +117,7 @@ record Went (g : Game) (m : Move) (n : Game) : Type 0 where
 
 data Case (g : Game) (m : Move) : Type 0 where
   refused : (e : Refusal) → play_of g m ≡ refused_play g e → Case g m
-  done : (n : Game) → play_of g m ≡ record { answer = answer.Done; game = n } → Went g m n → Case g m
+  done : (n : Game) → play_of g m ≡ record { answer = Ok tt; game = n } → Went g m n → Case g m
 
 module _ (g : Game) (r : Good g) (m : Move) where
   abbrev told : Bool → Bool → Played
@@ -165,26 +153,26 @@ module _ (g : Game) (r : Good g) (m : Move) where
           (play_at true false q f ∙ ap (reached_of g m) (after_one (last_of g) r.sound m q h k)) (went f k)
 
 -- ---- the state of a game
-winner_most : (w : Winner) → length (winner_word w) ≤ 6
-winner_most (winner.Side White) = omega arith
-winner_most (winner.Side Black) = omega arith
-winner_most winner.Nobody = omega arith
+winner_most : (w : Option Color) → length (winner_word w) ≤ 6
+winner_most (Some White) = omega arith
+winner_most (Some Black) = omega arith
+winner_most None = omega arith
 
-ending_most : (t : Termination) (w : Winner) → length (ending_word t w) ≤ 6
+ending_most : (t : Termination) (w : Option Color) → length (ending_word t w) ≤ 6
 ending_most NoMoves w = winner_most w
 ending_most Repetition w = omega arith
 ending_most TwentyFiveMoves w = omega arith
 ending_most SixteenMoves w = omega arith
 ending_most FiveMoves w = omega arith
 
-pub judged_most : (j : Judged) → length (judged_word j) ≤ 6
-judged_most (judged.Outcome o) = ending_most o.termination o.winner
-judged_most judged.Going = omega arith
-judged_most (judged.Refused e) = omega arith
+pub judged_most : (j : Result (Option Outcome) Refusal) → length (judged_word j) ≤ 6
+judged_most (Ok (Some o)) = ending_most o.termination o.winner
+judged_most (Ok None) = omega arith
+judged_most (Err e) = omega arith
 
-count_most : (c : Counted) → length (count_word c) ≤ 20
-count_most (counted.Count n) = decimal_most n
-count_most (counted.Refused e) = omega arith
+count_most : (c : Result ℕ Refusal) → length (count_word c) ≤ 20
+count_most (Ok n) = decimal_most n
+count_most (Err e) = omega arith
 
 state_length : (mark : ℕ) (g : Game)
     → length (state_text mark g) ≡ 4 + length (judged_word (outcome_of g)) + length (count_word (reversible_plies_of g)) + length (decimal g.material) + length (count_word (repetitions_of g))
@@ -251,32 +239,32 @@ module _ (g : Game) (r : Good g) where
   unfolding play_said
   said_case h = go (ended (judged_of g)) (fit_of (last_of g) h)
     where
-      go : (o : Bool) (f : Found) → Case_of g (cond o (refused_text g GameOver) (play_found g f))
+      go : (o : Bool) (f : Result Move Refusal) → Case_of g (cond o (refused_text g GameOver) (play_found g f))
       go true f = leaves GameOver refl
-      go false (found.Move m) = plays m refl
-      go false (found.Refused e) = leaves e refl
+      go false (Ok m) = plays m refl
+      go false (Err e) = leaves e refl
 
   text_case : (w : List ℕ) → Case_of g (play_text_of g w)
   unfolding play_text_of
   text_case w = subst (Case_of g) (sym (str_is (undone w))) (go (read_move_of (undone w)))
     where
-      go : (h : Heard) → Case_of g (play_heard g h)
-      go (said.Said h) = said_case h
-      go (said.Refused e) = leaves e refl
+      go : (h : Result Said Refusal) → Case_of g (play_heard g h)
+      go (Ok h) = said_case h
+      go (Err e) = leaves e refl
 
   record_case : (w : List ℕ) → Case_of g (play_record_of g w)
   unfolding play_record_of
   record_case w = go (record_of w)
     where
-      go : (x : Recorded) → Case_of g (play_move g x)
-      go (recorded.Move m) = plays m refl
-      go recorded.Bad = leaves BadMoveText refl
+      go : (x : Option Move) → Case_of g (play_move g x)
+      go (Some m) = plays m refl
+      go None = leaves BadMoveText refl
 
   text_refused : (e : Refusal) (a : PlayedText) → a ≡ refused_text g e → Word g (text_told a) a.game
   unfolding text_told number_word
   text_refused e a q = rw q (record { good = r; cost = omega (arith, decimal_most (number_of e)) })
 
-  text_done : (m : Move) (n : Game) → Went g m n → (a : PlayedText) → a ≡ record { answer = answer.Done; game = n; mv = m } → Word g (text_told a) a.game
+  text_done : (m : Move) (n : Game) → Went g m n → (a : PlayedText) → a ≡ record { answer = Ok tt; game = n; mv = m } → Word g (text_told a) a.game
   unfolding text_told
   text_done m n v a q =
       rw q
@@ -289,14 +277,14 @@ module _ (g : Game) (r : Good g) where
   unfolding record_told
   record_refused e a q = rw q (record { good = r; cost = omega (arith, decimal_most (number_of e)) })
 
-  record_done : (m : Move) (n : Game) → Went g m n → (a : PlayedText) → a ≡ record { answer = answer.Done; game = n; mv = m } → Word g (record_told a) a.game
+  record_done : (m : Move) (n : Game) → Went g m n → (a : PlayedText) → a ≡ record { answer = Ok tt; game = n; mv = m } → Word g (record_told a) a.game
   unfolding record_told
   record_done m n v a q = rw q (record { good = v.good; cost = omega (arith, decimal_most 0, v.fallen) })
 
   -- what is written of a word, by what became of it
   module _ (told : PlayedText → List ℕ)
       (refused-cost : (e : Refusal) (a : PlayedText) → a ≡ refused_text g e → Word g (told a) a.game)
-      (done-cost : (m : Move) (n : Game) → Went g m n → (a : PlayedText) → a ≡ record { answer = answer.Done; game = n; mv = m } → Word g (told a) a.game) where
+      (done-cost : (m : Move) (n : Game) → Went g m n → (a : PlayedText) → a ≡ record { answer = Ok tt; game = n; mv = m } → Word g (told a) a.game) where
     by_case : (a : PlayedText) → Case_of g a → Word g (told a) a.game
     by_case a (plays m p) = go (play_case g r m)
       where
@@ -310,14 +298,14 @@ module _ (g : Game) (r : Good g) where
   word_cost given.Record w = by_case record_told record_refused record_done (play_record_of g w) (record_case w)
 
 -- ---- all words, then the end
-stand_most : (p : Placed) → length (stand_word p) ≤ 196
-stand_most (placed.Position p) = fen_most p
-stand_most (placed.Refused e) = omega arith
+stand_most : (p : Result Position Refusal) → length (stand_word p) ≤ 196
+stand_most (Ok p) = fen_most p
+stand_most (Err e) = omega arith
 
-length_most : (a : Answer) (n : ℕ) → length (length_word a n) ≤ 21
+length_most : (a : Result Unit Refusal) (n : ℕ) → length (length_word a n) ≤ 21
 unfolding number_word
-length_most answer.Done n = omega (arith, decimal_most n)
-length_most (answer.Refused e) n = omega (arith, decimal_most (number_of e))
+length_most (Ok tt) n = omega (arith, decimal_most n)
+length_most (Err e) n = omega (arith, decimal_most (number_of e))
 
 end_most : (g : Game) → length (end_text g) ≤ 291
 unfolding end_text moves_word

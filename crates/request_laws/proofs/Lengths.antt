@@ -1,4 +1,5 @@
 -- How long the texts are that answers consist of.
+use Rattle.std.specs.Prelude.{Err, Ok, Result}
 use Prim.Native.Nat.{ℕ, zero, suc, ◌+◌, ◌*◌, ◌/◌, ◌%◌, ◌≤◌, ◌<◌, min}
 use mathlib.Core.Path.{◌≡◌, refl, ◌∙◌}
 use mathlib.Core.List.{List, [], ◌∷◌, ◌++◌, map}
@@ -13,8 +14,6 @@ use Rattle.io.specs.Digits as io
 use Rattle.squares.specs.Refusals.{number_of, square_of}
 use Rattle.squares.specs.Sets.{members, size}
 use Rattle.squares.specs.Squares.{square_at_bit}
-use Rattle.squares.specs.declared.refusal.Answer.{Answer}
-use Rattle.squares.specs.declared.refusal.Answer.TheVariants as answer
 use Rattle.squares.specs.declared.refusal.Refusal.{Refusal}
 use Rattle.squares.proofs.Lengths.{members_length}
 use Rattle.captures.specs.Lists.{blank}
@@ -165,9 +164,9 @@ counts_most l c (suc n) =
       decimal_most (get_or c n 0),
     )
 
-answering_most : (a : Answer) (t : List ℕ) → length (answering a t) ≤ 45 + length t
-answering_most answer.Done t = omega arith
-answering_most (answer.Refused e) t = omega (arith, refusal_most e)
+answering_most : (a : Result Unit Refusal) (t : List ℕ) → length (answering a t) ≤ 45 + length t
+answering_most (Ok tt) t = omega arith
+answering_most (Err e) t = omega (arith, refusal_most e)
 
 pub list_most : (l : Listed) → length (list_answer l) ≤ 45380
 unfolding list_answer

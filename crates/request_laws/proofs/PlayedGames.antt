@@ -1,5 +1,6 @@
 -- What `record` answers is a run of new game, plays and outcome as in demand 3: its numbers are the answers, its end is about the game
 -- after the list. What `play` answers ends with such a run too: each text plays a move record or leaves the game.
+use Rattle.std.specs.Prelude.{Err, Ok, Result, Some}
 use Prim.Native.Nat.{ℕ}
 use mathlib.Core.Path.{◌≡◌, refl, ap, sym, ◌∙◌}
 use mathlib.Core.List.{List, [], ◌∷◌, ◌++◌, append_assoc}
@@ -16,10 +17,6 @@ use Rattle.games.specs.declared.game.Game.{Game}
 use Rattle.games.proofs.Laws.{demand3}
 use Rattle.notation.specs.Choice.{fit_of}
 use Rattle.notation.specs.Notation.{read_move_of}
-use Rattle.notation.specs.declared.notation.Found.{Found}
-use Rattle.notation.specs.declared.notation.Found.TheVariants as found
-use Rattle.notation.specs.declared.notation.Heard.{Heard}
-use Rattle.notation.specs.declared.notation.Heard.TheVariants as said
 use Rattle.notation.specs.declared.notation.Said.{Said}
 use Rattle.gametexts.specs.Texts.{beside, refused_text, play_found, play_said, play_heard, play_str_of}
 use Rattle.gametexts.specs.declared.game.PlayedText.{PlayedText}
@@ -28,12 +25,12 @@ use Rattle.wording.specs.Output.{decimal}
 use Rattle.requests.specs.Plays.{record_of, play_text_of, play_record_of, text_told, record_told, game_text}
 use Rattle.replies.specs.States.{end_text}
 use Rattle.requests.specs.declared.plays.Given.TheVariants as given
-use Rattle.requests.specs.declared.plays.Recorded.TheVariants as recorded
+use Rattle.squares.specs.declared.refusal.Refusal.{Refusal}
 
 -- the words are the records of these moves
 pub data Records : List (List ℕ) → List Move → Type 0 where
   none : Records [] []
-  more : {w : List ℕ} {ws : List (List ℕ)} {m : Move} {ms : List Move} → record_of w ≡ recorded.Move m → Records ws ms → Records (w ∷ ws) (m ∷ ms)
+  more : {w : List ℕ} {ws : List (List ℕ)} {m : Move} {ms : List Move} → record_of w ≡ Some m → Records ws ms → Records (w ∷ ws) (m ∷ ms)
 
 -- numbers, a space before each
 unfoldable pub numbers_text : List ℕ → List ℕ
@@ -62,9 +59,9 @@ pub data Plays (g : Game) (a : PlayedText) : Type 0 where
   moves : (m : Move) → a ≡ beside m (play_of g m) → Plays g a
   leaves : a.game ≡ g → Plays g a
 
-found_plays : (g : Game) (f : Found) → Plays g (play_found g f)
-found_plays g (found.Move m) = moves m refl
-found_plays g (found.Refused e) = leaves refl
+found_plays : (g : Game) (f : Result Move Refusal) → Plays g (play_found g f)
+found_plays g (Ok m) = moves m refl
+found_plays g (Err e) = leaves refl
 
 said_plays : (g : Game) (h : Said) → Plays g (play_said g h)
 unfolding play_said
@@ -74,9 +71,9 @@ said_plays g h = go (ended (judged_of g))
     go true = leaves refl
     go false = found_plays g (fit_of (last_of g) h)
 
-heard_plays : (g : Game) (h : Heard) → Plays g (play_heard g h)
-heard_plays g (said.Said h) = said_plays g h
-heard_plays g (said.Refused e) = leaves refl
+heard_plays : (g : Game) (h : Result Said Refusal) → Plays g (play_heard g h)
+heard_plays g (Ok h) = said_plays g h
+heard_plays g (Err e) = leaves refl
 
 text_plays : (g : Game) (t : List ℕ) → Plays g (play_str_of g t)
 unfolding play_str_of

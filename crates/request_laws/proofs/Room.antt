@@ -1,4 +1,5 @@
 -- No answer, with its line feed, is longer than the room that is kept for one: 23 bytes for each byte that a line may have.
+use Rattle.std.specs.Prelude.{Err, None, Ok, Result, Some, ℤ}
 use Prim.Native.Nat.{ℕ, suc, ◌+◌, ◌≤◌}
 use mathlib.Core.Path.{◌≡◌, refl, ap}
 use mathlib.Core.Bool.{Bool, true, false, cond}
@@ -10,34 +11,18 @@ use borrow.Author.Tests.{ltb-false}
 use Rattle.squares.specs.Pieces.{color_char}
 use Rattle.squares.specs.Squares.{bit_of, row_of, of_square}
 use Rattle.squares.specs.declared.piece.Color.{Color}
-use Rattle.squares.specs.declared.piece.Sided.{Sided}
-use Rattle.squares.specs.declared.piece.Sided.TheVariants as sided
-use Rattle.squares.specs.declared.square.Numbered.{Numbered}
-use Rattle.squares.specs.declared.square.Numbered.TheVariants as numbered
 use Rattle.positions.specs.Acceptance.{from_parts_of}
 use Rattle.positions.specs.Flip.{flipped_of}
 use Rattle.positions.specs.declared.moves.Move.{Move}
-use Rattle.positions.specs.declared.position.Placed.{Placed}
-use Rattle.positions.specs.declared.position.Placed.TheVariants as placed
 use Rattle.positions.specs.declared.position.Position.{Position}
 use Rattle.scores.specs.Score.{default, evaluate_of}
 use Rattle.scores.specs.declared.eval.Classical.{Classical}
-use Rattle.scores.specs.declared.eval.Scored.{Scored}
-use Rattle.scores.specs.declared.eval.Scored.TheVariants as scored
 use Rattle.movegen.specs.Counts.{perft_of, divide_of}
 use Rattle.movegen.specs.Lists.{legal_moves_of, has_captures_of, has_quiet_moves_of, after_of}
-use Rattle.movegen.specs.declared.movegen.Tested.{Tested}
-use Rattle.movegen.specs.declared.movegen.Tested.TheVariants as tested
-use Rattle.movegen.specs.declared.perft.Counted.{Counted}
-use Rattle.movegen.specs.declared.perft.Counted.TheVariants as counted
 use Rattle.games.specs.Play.{new_of, outcome_of}
 use Rattle.texts.specs.Bytes.{is, index_of}
 use Rattle.texts.proofs.Cuts.{after_is}
 use Rattle.wording.specs.Numbers.{unsigned_of, set_of}
-use Rattle.wording.specs.declared.numbers.Parsed.{Parsed}
-use Rattle.wording.specs.declared.numbers.Parsed.TheVariants as parsed
-use Rattle.notation.specs.declared.notation.Found.{Found}
-use Rattle.notation.specs.declared.notation.Found.TheVariants as found
 use Rattle.wording.specs.Escapes.{plain, is_plain}
 use Rattle.wording.specs.Output.{decimal, hex, hash, bad}
 use Rattle.wording.specs.Words.{first_word, after_word, word_at, blanks_in}
@@ -49,8 +34,6 @@ use Rattle.requests.specs.Plays.{words_of, all_records, game_answer, play_reques
 use Rattle.requests.specs.Reading.{position_in, move_in, square_in}
 use Rattle.requests.specs.Requests.{whole_position, first_position, request_of, request_answer, longest, answer_room, answer_of}
 use Rattle.replies.specs.States.{judged_word}
-use Rattle.requests.specs.declared.asked.Weights.{Weights}
-use Rattle.requests.specs.declared.asked.Weights.TheVariants as weights
 use Rattle.requests.specs.declared.plays.Given.{Given}
 use Rattle.requests.specs.declared.plays.Given.TheVariants as given
 use Rattle.requests.specs.declared.reading.Form.TheVariants as form
@@ -58,6 +41,8 @@ use Rattle.requests.specs.declared.requests.Request.{Request}
 use Rattle.requests.specs.declared.requests.Request.TheVariants as request
 use Rattle.request_laws.proofs.Lengths.{decimal_most, hex_most, hash_long, signed_most, refusal_most, bad_most, fen_most, hub_most, move_most, list_most, divided_most}
 use Rattle.request_laws.proofs.Falling.{new_good, judged_most, game_cost, pieces_most, words_most}
+use Rattle.std.specs.declared.option.Option.{Option}
+use Rattle.squares.specs.declared.refusal.Refusal.{Refusal}
 
 -- ---- what is written of a position: never more than a list of moves with their counts
 bits_most : (p : Position) → length (bits_answer p) ≤ 45380
@@ -92,25 +77,25 @@ hash_answer_lem : (p : Position) → length (hash_answer p) ≤ 45380
 unfolding hash_answer
 hash_answer_lem p = omega (arith, hash_long p.hash)
 
-placed_most : (q : Placed) → length (placed_answer q) ≤ 45380
-placed_most (placed.Position p) = omega (arith, fen_answer_lem p)
-placed_most (placed.Refused e) = omega (arith, refusal_most e)
+placed_most : (q : Result Position Refusal) → length (placed_answer q) ≤ 45380
+placed_most (Ok p) = omega (arith, fen_answer_lem p)
+placed_most (Err e) = omega (arith, refusal_most e)
 
-scored_most : (s : Scored) → length (scored_answer s) ≤ 45380
-scored_most (scored.Score z) = omega (arith, signed_most z)
-scored_most (scored.Refused e) = omega (arith, refusal_most e)
+scored_most : (s : Result ℤ Refusal) → length (scored_answer s) ≤ 45380
+scored_most (Ok z) = omega (arith, signed_most z)
+scored_most (Err e) = omega (arith, refusal_most e)
 
-tested_most : (t : Tested) → length (tested_answer t) ≤ 45380
-tested_most (tested.Is b) = omega arith
-tested_most (tested.Refused e) = omega (arith, refusal_most e)
+tested_most : (t : Result Bool Refusal) → length (tested_answer t) ≤ 45380
+tested_most (Ok b) = omega arith
+tested_most (Err e) = omega (arith, refusal_most e)
 
-counted_most : (c : Counted) → length (counted_answer c) ≤ 45380
-counted_most (counted.Count n) = omega (arith, decimal_most n)
-counted_most (counted.Refused e) = omega (arith, refusal_most e)
+counted_most : (c : Result ℕ Refusal) → length (counted_answer c) ≤ 45380
+counted_most (Ok n) = omega (arith, decimal_most n)
+counted_most (Err e) = omega (arith, refusal_most e)
 
-after_most : (q : Placed) → length (after_answer q) ≤ 45380
-after_most (placed.Position p) = omega (arith, length-append (fen_answer p) (32 ∷ hash p.hash), fen_answer_lem p, hash_long p.hash)
-after_most (placed.Refused e) = omega (arith, refusal_most e)
+after_most : (q : Result Position Refusal) → length (after_answer q) ≤ 45380
+after_most (Ok p) = omega (arith, length-append (fen_answer p) (32 ∷ hash p.hash), fen_answer_lem p, hash_long p.hash)
+after_most (Err e) = omega (arith, refusal_most e)
 
 move_answer_lem : (m : Move) → length (move_answer m) ≤ 45380
 unfolding move_answer record_word
@@ -130,73 +115,73 @@ move_answer_lem m =
     )
 
 -- ---- what goes on with what was read
-on_placed_lem : (x : Placed) (k : Position → List ℕ) (z : ℕ) → 45 ≤ z → ((p : Position) → length (k p) ≤ z) → length (on_placed x k) ≤ z
-on_placed_lem (placed.Position p) k z g h = h p
-on_placed_lem (placed.Refused e) k z g h = omega (arith, refusal_most e)
+on_placed_lem : (x : Result Position Refusal) (k : Position → List ℕ) (z : ℕ) → 45 ≤ z → ((p : Position) → length (k p) ≤ z) → length (on_placed x k) ≤ z
+on_placed_lem (Ok p) k z g h = h p
+on_placed_lem (Err e) k z g h = omega (arith, refusal_most e)
 
-on_found_lem : (x : Found) (k : Move → List ℕ) → ((m : Move) → length (k m) ≤ 45380) → length (on_found x k) ≤ 45380
-on_found_lem (found.Move m) k h = h m
-on_found_lem (found.Refused e) k h = omega (arith, refusal_most e)
+on_found_lem : (x : Result Move Refusal) (k : Move → List ℕ) → ((m : Move) → length (k m) ≤ 45380) → length (on_found x k) ≤ 45380
+on_found_lem (Ok m) k h = h m
+on_found_lem (Err e) k h = omega (arith, refusal_most e)
 
-on_parsed_lem : (x : Parsed) (k : ℕ → List ℕ) → ((n : ℕ) → length (k n) ≤ 45380) → length (on_parsed x k) ≤ 45380
-on_parsed_lem (parsed.Value n) k h = h n
-on_parsed_lem parsed.Bad k h = omega (arith, bad_most flaw.Number)
+on_parsed_lem : (x : Option ℕ) (k : ℕ → List ℕ) → ((n : ℕ) → length (k n) ≤ 45380) → length (on_parsed x k) ≤ 45380
+on_parsed_lem (Some n) k h = h n
+on_parsed_lem None k h = omega (arith, bad_most flaw.Number)
 
-on_sided_lem : (x : Sided) (k : Color → List ℕ) → ((c : Color) → length (k c) ≤ 45380) → length (on_sided x k) ≤ 45380
-on_sided_lem (sided.Side c) k h = h c
-on_sided_lem (sided.Refused e) k h = omega (arith, bad_most flaw.Side)
+on_sided_lem : (x : Result Color Refusal) (k : Color → List ℕ) → ((c : Color) → length (k c) ≤ 45380) → length (on_sided x k) ≤ 45380
+on_sided_lem (Ok c) k h = h c
+on_sided_lem (Err e) k h = omega (arith, bad_most flaw.Side)
 
 cond_most : (t : Bool) (x : List ℕ) (f : Flaw) (z : ℕ) → 19 ≤ z → length x ≤ z → length (cond t x (bad f)) ≤ z
 cond_most true x f z g h = h
 cond_most false x f z g h = omega (arith, bad_most f)
 
 -- ---- the requests about a position, short ones
-about : (x : Placed) (k : Position → List ℕ) → ((p : Position) → length (k p) ≤ 45380) → length (on_placed x k) ≤ 45380
+about : (x : Result Position Refusal) (k : Position → List ℕ) → ((p : Position) → length (k p) ≤ 45380) → length (on_placed x k) ≤ 45380
 about x k h = on_placed_lem x k 45380 (omega arith) h
 
-moves_most : (x : Placed) (n : ℕ) → length (moves_request x n) ≤ 45380
+moves_most : (x : Result Position Refusal) (n : ℕ) → length (moves_request x n) ≤ 45380
 moves_most x n = about x (λ q. list_answer (legal_moves_of q n)) (λ q. list_most (legal_moves_of q n))
 
 atmost_most : (arg : List ℕ) → length (atmost_request arg) ≤ 45380
 unfolding atmost_request
 atmost_most arg = on_parsed_lem (unsigned_of (first_word arg)) _ (λ n. moves_most (position_in form.Either (after_word arg)) n)
 
-parse_most : (x : Placed) (t : List ℕ) → length (parse_request x t) ≤ 45380
+parse_most : (x : Result Position Refusal) (t : List ℕ) → length (parse_request x t) ≤ 45380
 parse_most x t = about x (λ q. on_found (move_in q t) move_answer) (λ q. on_found_lem (move_in q t) move_answer move_answer_lem)
 
-after_request_lem : (x : Placed) (t : List ℕ) → length (after_request x t) ≤ 45380
+after_request_lem : (x : Result Position Refusal) (t : List ℕ) → length (after_request x t) ≤ 45380
 after_request_lem x t =
     about x (λ q. on_found (move_in q t) (λ m. after_answer (after_of q m))) (λ q. on_found_lem (move_in q t) (λ m. after_answer (after_of q m)) (λ m. after_most (after_of q m)))
 
-perft_most : (x : Placed) (t : List ℕ) → length (perft_request x t) ≤ 45380
+perft_most : (x : Result Position Refusal) (t : List ℕ) → length (perft_request x t) ≤ 45380
 perft_most x t =
     about x (λ q. on_parsed (unsigned_of t) (λ n. counted_answer (perft_of q n))) (λ q. on_parsed_lem (unsigned_of t) (λ n. counted_answer (perft_of q n)) (λ n. counted_most (perft_of q n)))
 
-divide_most : (x : Placed) (t : List ℕ) → length (divide_request x t) ≤ 45380
+divide_most : (x : Result Position Refusal) (t : List ℕ) → length (divide_request x t) ≤ 45380
 divide_most x t =
     about x (λ q. on_parsed (unsigned_of t) (λ n. divided_answer (divide_of q n))) (λ q. on_parsed_lem (unsigned_of t) (λ n. divided_answer (divide_of q n)) (λ n. divided_most (divide_of q n)))
 
-eval_most : (x : Placed) (w : Classical) → length (eval_request x w) ≤ 45380
+eval_most : (x : Result Position Refusal) (w : Classical) → length (eval_request x w) ≤ 45380
 eval_most x w = about x (λ q. scored_answer (evaluate_of w q)) (λ q. scored_most (evaluate_of w q))
 
 evalw_most : (arg : List ℕ) → length (evalw_request arg) ≤ 45380
 unfolding evalw_request
 evalw_most arg = cond_most (eqb (blanks_in arg) 5) _ flaw.Words 45380 (omega arith) (go (weights_of arg))
   where
-    go : (x : Weights) → length (on_weights x (λ w. eval_request (position_in form.Either (first_word arg)) w)) ≤ 45380
-    go (weights.Classical w) = eval_most (position_in form.Either (first_word arg)) w
-    go weights.Bad = omega (arith, bad_most flaw.Number)
+    go : (x : Option Classical) → length (on_weights x (λ w. eval_request (position_in form.Either (first_word arg)) w)) ≤ 45380
+    go (Some w) = eval_most (position_in form.Either (first_word arg)) w
+    go None = omega (arith, bad_most flaw.Number)
 
-outcome_most : (x : Placed) → length (outcome_request x) ≤ 45380
+outcome_most : (x : Result Position Refusal) → length (outcome_request x) ≤ 45380
 outcome_most x = about x (λ q. ok (judged_word (outcome_of (new_of q).game))) (λ q. omega (arith, judged_most (outcome_of (new_of q).game)))
 
 -- ---- squares and sets
-number_most : (x : Numbered) → length (numbered_word x) ≤ 20
-number_most (numbered.Number n) = decimal_most n
-number_most (numbered.Refused e) = omega arith
+number_most : (x : Result ℕ Refusal) → length (numbered_word x) ≤ 20
+number_most (Ok n) = decimal_most n
+number_most (Err e) = omega arith
 
-square_most : (x : Numbered) → length (square_request x) ≤ 45380
-square_most (numbered.Number n) =
+square_most : (x : Result ℕ Refusal) → length (square_request x) ≤ 45380
+square_most (Ok n) =
     let b = numbered_word (of_square n (bit_of n)) in
     let r = numbered_word (of_square n (row_of (bit_of n))) in
     omega (
@@ -207,7 +192,7 @@ square_most (numbered.Number n) =
       number_most (of_square n (bit_of n)),
       number_most (of_square n (row_of (bit_of n))),
     )
-square_most (numbered.Refused e) = omega (arith, refusal_most e)
+square_most (Err e) = omega (arith, refusal_most e)
 
 sets_most : (arg : List ℕ) → length (sets_answer arg) ≤ 45380
 unfolding sets_answer
@@ -224,10 +209,10 @@ game_most : (h : Given) (p : Position) (s : List ℕ) → length s ≤ longest �
 unfolding game_answer
 game_most h p s l = omega (arith, game_cost h (new_of p).game (new_good p) (words_of s), pieces_most (new_of p).game, words_most s)
 
-play_most : (x : Placed) (s : List ℕ) → length s ≤ longest → length (play_request x s) ≤ 1442469
+play_most : (x : Result Position Refusal) (s : List ℕ) → length s ≤ longest → length (play_request x s) ≤ 1442469
 play_most x s l = on_placed_lem x (λ q. game_answer given.Text q s) 1442469 (omega arith) (λ q. game_most given.Text q s l)
 
-record_most : (x : Placed) (s : List ℕ) → length s ≤ longest → length (record_request x s) ≤ 1442469
+record_most : (x : Result Position Refusal) (s : List ℕ) → length s ≤ longest → length (record_request x s) ≤ 1442469
 record_most x s l =
     on_placed_lem x (λ q. cond (all_records (words_of s)) (game_answer given.Record q s) (bad flaw.Number)) 1442469 (omega arith)
     (λ q. cond_most (all_records (words_of s)) (game_answer given.Record q s) flaw.Number 1442469 (omega arith) (game_most given.Record q s l))

@@ -1,4 +1,5 @@
 -- The words of a line one after another; records and texts; the game after a word.
+use Rattle.std.specs.Prelude.{None, Some}
 use Prim.Native.Nat.{ℕ, ◌-◌, ◌≤◌, ◌<◌}
 use mathlib.Core.Path.{◌≡◌, refl, ap, sym, ◌∙◌}
 use mathlib.Core.List.{List, [], ◌∷◌, ◌++◌}
@@ -20,11 +21,9 @@ use Rattle.gametexts.specs.declared.game.PlayedText.{PlayedText}
 use Rattle.wording.specs.Escapes.{undone, Undid}
 use Rattle.wording.specs.Numbers.{unsigned_of, set_of}
 use Rattle.wording.specs.Words.{first_word, after_word}
-use Rattle.wording.specs.declared.numbers.Parsed.TheVariants as parsed
 use Rattle.requests.specs.Plays.{words_of, record_of, is_record_of, all_records, play_text_of, play_word_of, word_told, game_text, game_answer}
 use Rattle.replies.specs.States.{end_text}
 use Rattle.requests.specs.declared.plays.Given.{Given}
-use Rattle.requests.specs.declared.plays.Recorded.TheVariants as recorded
 use Rattle.requests.proofs.Readings.{cut, cut_part}
 use Rattle.requests.proofs.Suffixes as suffixes
 
@@ -106,19 +105,19 @@ game_whole h p s b e = rw e
 
 -- ---- records
 module _ (s : List ℕ) where
-  pub record_first : unsigned_of (up_to 44 s) ≡ parsed.Bad → recorded.Bad ≡ record_of s
+  pub record_first : unsigned_of (up_to 44 s) ≡ None → None ≡ record_of s
   unfolding record_of
   record_first a = rw a
 
-  pub record_second : (f : ℕ) → unsigned_of (up_to 44 s) ≡ parsed.Value f → unsigned_of (up_to 44 (after_first 44 s)) ≡ parsed.Bad → recorded.Bad ≡ record_of s
+  pub record_second : (f : ℕ) → unsigned_of (up_to 44 s) ≡ Some f → unsigned_of (up_to 44 (after_first 44 s)) ≡ None → None ≡ record_of s
   unfolding record_of
   record_second f a b = rw (a, b)
 
-  pub record_third : (f t : ℕ) → unsigned_of (up_to 44 s) ≡ parsed.Value f → unsigned_of (up_to 44 (after_first 44 s)) ≡ parsed.Value t → set_of (after_first 44 (after_first 44 s)) ≡ parsed.Bad → recorded.Bad ≡ record_of s
+  pub record_third : (f t : ℕ) → unsigned_of (up_to 44 s) ≡ Some f → unsigned_of (up_to 44 (after_first 44 s)) ≡ Some t → set_of (after_first 44 (after_first 44 s)) ≡ None → None ≡ record_of s
   unfolding record_of
   record_third f t a b d = rw (a, b, d)
 
-  pub record_whole : (f t c : ℕ) → unsigned_of (up_to 44 s) ≡ parsed.Value f → unsigned_of (up_to 44 (after_first 44 s)) ≡ parsed.Value t → set_of (after_first 44 (after_first 44 s)) ≡ parsed.Value c → recorded.Move (move f t c) ≡ record_of s
+  pub record_whole : (f t c : ℕ) → unsigned_of (up_to 44 s) ≡ Some f → unsigned_of (up_to 44 (after_first 44 s)) ≡ Some t → set_of (after_first 44 (after_first 44 s)) ≡ Some c → Some (move f t c) ≡ record_of s
   unfolding record_of
   record_whole f t c a b d = rw (a, b, d)
 

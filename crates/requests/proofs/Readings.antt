@@ -1,4 +1,5 @@
 -- A text of a request is read from its first 4,097 bytes: a longer one is refused with 1 whether it is cut or not.
+use Rattle.std.specs.Prelude.{Err, Result}
 use Prim.Native.Nat.{ℕ, ◌≤◌, ◌<◌}
 use mathlib.Core.Path.{◌≡◌, refl, ap, sym, ◌∙◌}
 use mathlib.Core.List.{List}
@@ -9,26 +10,22 @@ use lib.Seq.{take_all}
 use lib.Dec.{leb, eqb}
 use borrow.Author.Tests.{lt-leb, leb-true, leb-false}
 use Rattle.squares.specs.declared.refusal.Refusal.TheVariants.{TextTooLong, BadPosition}
-use Rattle.squares.specs.declared.square.Numbered.{Numbered}
-use Rattle.squares.specs.declared.square.Numbered.TheVariants as numbered
 use Rattle.positions.specs.Acceptance.{sound}
 use Rattle.positions.specs.declared.position.Position.{Position}
-use Rattle.positions.specs.declared.position.Placed.{Placed}
-use Rattle.positions.specs.declared.position.Placed.TheVariants as placed
 use Rattle.texts.specs.Bytes.{readable, from_str_of, is, index_of}
 use Rattle.texts.proofs.Pieces.{part_of}
 use Rattle.texts.specs.Fen.{from_fen_of}
 use Rattle.texts.specs.Hub.{from_hub_of}
 use Rattle.notation.specs.Notation.{read_move_of}
 use Rattle.notation.specs.Choice.{parse_move_of}
-use Rattle.notation.specs.declared.notation.Found.{Found}
-use Rattle.notation.specs.declared.notation.Found.TheVariants as found
 use Rattle.wording.specs.Escapes.{Undid}
 use Rattle.texts.specs.Bytes.{longest_text}
 use Rattle.wording.specs.Escapes.{undone}
 use Rattle.requests.specs.Reading.{either_of, read_of, position_in, move_in, square_in}
 use Rattle.requests.specs.declared.reading.Form.{Form}
 use Rattle.requests.specs.declared.reading.Form.TheVariants as form
+use Rattle.positions.specs.declared.moves.Move.{Move}
+use Rattle.squares.specs.declared.refusal.Refusal.{Refusal}
 
 -- ---- a text of more than 4,096 bytes, cut at 4,097
 too_long : (s : List ℕ) → 4096 < length s → readable longest_text s ≡ false
@@ -44,19 +41,19 @@ cut f a g t = go (leb (length t) 4097) refl
         let l = leb-false (length t) 4097 e in
         g (take 4097 t) (too_long (take 4097 t) (omega (arith, length-take 4097 t, l))) ∙ sym (g t (too_long t (omega (arith, l))))
 
-fen_refused : (s : List ℕ) → readable longest_text s ≡ false → from_fen_of s ≡ placed.Refused TextTooLong
+fen_refused : (s : List ℕ) → readable longest_text s ≡ false → from_fen_of s ≡ Err TextTooLong
 unfolding from_fen_of
 fen_refused s e = rw e
 
-hub_refused : (s : List ℕ) → readable longest_text s ≡ false → from_hub_of s ≡ placed.Refused TextTooLong
+hub_refused : (s : List ℕ) → readable longest_text s ≡ false → from_hub_of s ≡ Err TextTooLong
 unfolding from_hub_of
 hub_refused s e = rw e
 
-either_refused : (s : List ℕ) → readable longest_text s ≡ false → either_of s ≡ placed.Refused TextTooLong
+either_refused : (s : List ℕ) → readable longest_text s ≡ false → either_of s ≡ Err TextTooLong
 unfolding either_of
 either_refused s e = rw (fen_refused s e, hub_refused s e) (go (eqb (length s) 51 && eqb (index_of (is 58) s) 51))
   where
-    go : (b : Bool) → cond b (placed.Refused TextTooLong) (placed.Refused TextTooLong) ≡ placed.Refused TextTooLong
+    go : (b : Bool) → cond b (Err TextTooLong) (Err TextTooLong) ≡ Err TextTooLong
     go true = refl
     go false = refl
 
@@ -65,11 +62,11 @@ read_cut form.Fen t = cut from_fen_of _ fen_refused t
 read_cut form.Hub t = cut from_hub_of _ hub_refused t
 read_cut form.Either t = cut either_of _ either_refused t
 
-square_refused : (s : List ℕ) → readable longest_text s ≡ false → from_str_of s ≡ numbered.Refused TextTooLong
+square_refused : (s : List ℕ) → readable longest_text s ≡ false → from_str_of s ≡ Err TextTooLong
 unfolding from_str_of
 square_refused s e = rw e
 
-move_refused : (p : Position) (s : List ℕ) → readable longest_text s ≡ false → parse_move_of p s ≡ cond (sound p) (found.Refused TextTooLong) (found.Refused BadPosition)
+move_refused : (p : Position) (s : List ℕ) → readable longest_text s ≡ false → parse_move_of p s ≡ cond (sound p) (Err TextTooLong) (Err BadPosition)
 unfolding parse_move_of read_move_of
 move_refused p s e = rw e
 
@@ -82,14 +79,14 @@ module _ (s o out : List ℕ) (n : ℕ) (long : length o ≡ 4097) (u : Undid s 
   pub fits : n ≤ length out
   fits = omega (arith, u.answer, ap length cut_part, length-take n out, length-take 4097 (undone s), long)
 
-  pub position_read : (f : Form) (a : Placed) → a ≡ read_of f (take n out) → a ≡ position_in f s
+  pub position_read : (f : Form) (a : Result Position Refusal) → a ≡ read_of f (take n out) → a ≡ position_in f s
   unfolding position_in
   position_read f a e = e ∙ ap (read_of f) cut_part ∙ read_cut f (undone s)
 
-  pub move_read : (p : Position) (a : Found) → a ≡ parse_move_of p (take n out) → a ≡ move_in p s
+  pub move_read : (p : Position) (a : Result Move Refusal) → a ≡ parse_move_of p (take n out) → a ≡ move_in p s
   unfolding move_in
   move_read p a e = e ∙ ap (parse_move_of p) cut_part ∙ cut (parse_move_of p) _ (move_refused p) (undone s)
 
-  pub square_read : (a : Numbered) → a ≡ from_str_of (take n out) → a ≡ square_in s
+  pub square_read : (a : Result ℕ Refusal) → a ≡ from_str_of (take n out) → a ≡ square_in s
   unfolding square_in
   square_read a e = e ∙ ap from_str_of cut_part ∙ cut from_str_of _ square_refused (undone s)

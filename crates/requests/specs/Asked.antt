@@ -1,101 +1,89 @@
 -- The requests about a position or a square. The position comes as what was read of its text: a refusal is the answer.
-use Rattle.std.specs.Prelude.{ℕ, List, [], ◌∷◌, ◌++◌, cond, eqb, ℤ}
+use Rattle.std.specs.Prelude.{ℕ, List, [], ◌∷◌, ◌++◌, cond, eqb, ℤ, Err, None, Ok, Result, Some}
 use Prim.Native.Char.{code}
 use Rattle.squares.specs.Squares.{bit_of, row_of, of_square}
 use Rattle.squares.specs.Pieces.{color_from_char_of}
 use Rattle.squares.specs.Refusals.{refusal}
 use Rattle.squares.specs.declared.piece.Color.{Color}
-use Rattle.squares.specs.declared.piece.Sided.{Sided}
-use Rattle.squares.specs.declared.piece.Sided.TheVariants as sided
-use Rattle.squares.specs.declared.square.Numbered.{Numbered}
-use Rattle.squares.specs.declared.square.Numbered.TheVariants as numbered
 use Rattle.positions.specs.Acceptance.{from_parts_of}
 use Rattle.positions.specs.Flip.{flipped_of}
 use Rattle.positions.specs.declared.moves.Move.{Move}
-use Rattle.positions.specs.declared.position.Placed.{Placed}
-use Rattle.positions.specs.declared.position.Placed.TheVariants as placed
 use Rattle.positions.specs.declared.position.Position.{Position}
 use Rattle.scores.specs.Score.{evaluate_of}
 use Rattle.scores.specs.declared.eval.Classical.{Classical}
 use Rattle.movegen.specs.Lists.{legal_moves_of, has_captures_of, has_quiet_moves_of, after_of}
 use Rattle.movegen.specs.Counts.{perft_of, divide_of}
-use Rattle.notation.specs.declared.notation.Found.{Found}
-use Rattle.notation.specs.declared.notation.Found.TheVariants as found
 use Rattle.wording.specs.Output.{decimal, refusal_text, bad}
 use Rattle.wording.specs.Words.{first_word, after_word, word_at, blanks_in}
 use Rattle.wording.specs.Numbers.{unsigned_of, set_of, signed_of}
-use Rattle.wording.specs.declared.numbers.Parsed.{Parsed}
-use Rattle.wording.specs.declared.numbers.Parsed.TheVariants as parsed
-use Rattle.wording.specs.declared.numbers.Signed.{Signed}
-use Rattle.wording.specs.declared.numbers.Signed.TheVariants as signed
 use Rattle.wording.specs.declared.output.Flaw.TheVariants as flaw
 use Rattle.requests.specs.Reading.{position_in, move_in}
 use Rattle.replies.specs.Answers.{ok, hub_answer, bits_answer, hash_answer, placed_answer, scored_answer, tested_answer, counted_answer, list_answer, divided_answer, move_answer, after_answer}
-use Rattle.requests.specs.declared.asked.Weights.{Weights}
-use Rattle.requests.specs.declared.asked.Weights.TheVariants as weights
 use Rattle.requests.specs.declared.reading.Form.TheVariants as form
+use Rattle.std.specs.declared.option.Option.{Option}
+use Rattle.squares.specs.declared.refusal.Refusal.{Refusal}
 
 -- ---- what was read, or why it cannot be
-abbrev pub on_placed : Placed → (Position → List ℕ) → List ℕ
-on_placed (placed.Position p) k = k p
-on_placed (placed.Refused e) k = refusal_text e
+abbrev pub on_placed : Result Position Refusal → (Position → List ℕ) → List ℕ
+on_placed (Ok p) k = k p
+on_placed (Err e) k = refusal_text e
 
-abbrev pub on_found : Found → (Move → List ℕ) → List ℕ
-on_found (found.Move m) k = k m
-on_found (found.Refused e) k = refusal_text e
+abbrev pub on_found : Result Move Refusal → (Move → List ℕ) → List ℕ
+on_found (Ok m) k = k m
+on_found (Err e) k = refusal_text e
 
-abbrev pub on_parsed : Parsed → (ℕ → List ℕ) → List ℕ
-on_parsed (parsed.Value n) k = k n
-on_parsed parsed.Bad k = bad flaw.Number
+abbrev pub on_parsed : Option ℕ → (ℕ → List ℕ) → List ℕ
+on_parsed (Some n) k = k n
+on_parsed None k = bad flaw.Number
 
-abbrev pub on_sided : Sided → (Color → List ℕ) → List ℕ
-on_sided (sided.Side c) k = k c
-on_sided (sided.Refused e) k = bad flaw.Side
+abbrev pub on_sided : Result Color Refusal → (Color → List ℕ) → List ℕ
+on_sided (Ok c) k = k c
+on_sided (Err e) k = bad flaw.Side
 
 -- ---- of a position alone
-abbrev pub fen_request : Placed → List ℕ
+abbrev pub fen_request : Result Position Refusal → List ℕ
 fen_request p = placed_answer p
 
-abbrev pub hub_request : Placed → List ℕ
+abbrev pub hub_request : Result Position Refusal → List ℕ
 hub_request p = on_placed p hub_answer
 
-abbrev pub bits_request : Placed → List ℕ
+abbrev pub bits_request : Result Position Refusal → List ℕ
 bits_request p = on_placed p bits_answer
 
-abbrev pub hash_request : Placed → List ℕ
+abbrev pub hash_request : Result Position Refusal → List ℕ
 hash_request p = on_placed p hash_answer
 
-abbrev pub flip_request : Placed → List ℕ
+abbrev pub flip_request : Result Position Refusal → List ℕ
 flip_request p = on_placed p (λ q. placed_answer (flipped_of q))
 
-abbrev pub caps_request : Placed → List ℕ
+abbrev pub caps_request : Result Position Refusal → List ℕ
 caps_request p = on_placed p (λ q. tested_answer (has_captures_of q))
 
-abbrev pub quiet_request : Placed → List ℕ
+abbrev pub quiet_request : Result Position Refusal → List ℕ
 quiet_request p = on_placed p (λ q. tested_answer (has_quiet_moves_of q))
 
 -- the legal moves, if there are no more than the limit
-abbrev pub moves_request : Placed → ℕ → List ℕ
+abbrev pub moves_request : Result Position Refusal → ℕ → List ℕ
 moves_request p limit = on_placed p (λ q. list_answer (legal_moves_of q limit))
 
 -- the score with these weights
-abbrev pub eval_request : Placed → Classical → List ℕ
+abbrev pub eval_request : Result Position Refusal → Classical → List ℕ
 eval_request p w = on_placed p (λ q. scored_answer (evaluate_of w q))
 
 -- ---- of a position and the rest of the line
 
 -- a move's text
-abbrev pub parse_request : Placed → List ℕ → List ℕ
+abbrev pub parse_request : Result Position Refusal → List ℕ → List ℕ
 parse_request p text = on_placed p (λ q. on_found (move_in q text) move_answer)
 
-abbrev pub after_request : Placed → List ℕ → List ℕ
+abbrev pub after_request : Result Position Refusal → List ℕ → List ℕ
 after_request p text = on_placed p (λ q. on_found (move_in q text) (λ m. after_answer (after_of q m)))
 
 -- a depth
-abbrev pub perft_request : Placed → List ℕ → List ℕ
+abbrev pub perft_request : Result Position Refusal → List ℕ → List ℕ
 perft_request p depth = on_placed p (λ q. on_parsed (unsigned_of depth) (λ n. counted_answer (perft_of q n)))
 
-abbrev pub divide_request : Placed → List ℕ → List ℕ
+abbrev pub divide_request : Result Position Refusal → List ℕ → List ℕ
 divide_request p depth = on_placed p (λ q. on_parsed (unsigned_of depth) (λ n. divided_answer (divide_of q n)))
 
 -- atmost: a limit, which is read first, then the position
@@ -103,19 +91,19 @@ unfoldable pub atmost_request : List ℕ → List ℕ
 atmost_request arg = on_parsed (unsigned_of (first_word arg)) (λ n. moves_request (position_in form.Either (after_word arg)) n)
 
 -- evalw: the position and five weights, which are read first
-abbrev pub on_signed : Signed → (ℤ → Weights) → Weights
-on_signed (signed.Value z) k = k z
-on_signed signed.Bad k = weights.Bad
+abbrev pub on_signed : Option ℤ → (ℤ → Option Classical) → Option Classical
+on_signed (Some z) k = k z
+on_signed None k = None
 
-unfoldable pub weights_of : List ℕ → Weights
+unfoldable pub weights_of : List ℕ → Option Classical
 weights_of arg =
     on_signed (signed_of (word_at 1 arg)) (λ m. on_signed (signed_of (word_at 2 arg)) (λ k. on_signed (signed_of (word_at 3 arg)) (λ a.
     on_signed (signed_of (word_at 4 arg)) (λ c. on_signed (signed_of (word_at 5 arg)) (λ g.
-    weights.Classical (record { man = m; king = k; advance = a; center = c; guard = g }))))))
+    Some (record { man = m; king = k; advance = a; center = c; guard = g }))))))
 
-abbrev pub on_weights : Weights → (Classical → List ℕ) → List ℕ
-on_weights (weights.Classical w) k = k w
-on_weights weights.Bad k = bad flaw.Number
+abbrev pub on_weights : Option Classical → (Classical → List ℕ) → List ℕ
+on_weights (Some w) k = k w
+on_weights None k = bad flaw.Number
 
 unfoldable pub evalw_request : List ℕ → List ℕ
 evalw_request arg =
@@ -124,20 +112,20 @@ evalw_request arg =
 -- ---- of a square, and of sets
 
 -- number, bit, row
-abbrev pub numbered_word : Numbered → List ℕ
-numbered_word (numbered.Number n) = decimal n
-numbered_word (numbered.Refused e) = []
+abbrev pub numbered_word : Result ℕ Refusal → List ℕ
+numbered_word (Ok n) = decimal n
+numbered_word (Err e) = []
 
-abbrev pub square_request : Numbered → List ℕ
-square_request (numbered.Number n) =
+abbrev pub square_request : Result ℕ Refusal → List ℕ
+square_request (Ok n) =
     ok (decimal n ++ (code " " ∷ (numbered_word (of_square n (bit_of n)) ++ (code " " ∷ numbered_word (of_square n (row_of (bit_of n)))))))
-square_request (numbered.Refused e) = refusal_text e
+square_request (Err e) = refusal_text e
 
 -- a side is W or B alone
-unfoldable pub side_of : List ℕ → Sided
-side_of [] = sided.Refused (refusal 2)
+unfoldable pub side_of : List ℕ → Result Color Refusal
+side_of [] = Err (refusal 2)
 side_of (c ∷ []) = color_from_char_of c
-side_of (c ∷ (d ∷ s)) = sided.Refused (refusal 2)
+side_of (c ∷ (d ∷ s)) = Err (refusal 2)
 
 unfoldable pub sets_answer : List ℕ → List ℕ
 sets_answer arg =

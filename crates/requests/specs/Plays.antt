@@ -1,11 +1,8 @@
 -- The requests about games: play and record, which play every word in order on a new game, and outcome.
-use Rattle.std.specs.Prelude.{ℕ, List, [], ◌∷◌, ◌++◌, Bool, true, false, cond, ◌&&◌}
+use Rattle.std.specs.Prelude.{ℕ, List, [], ◌∷◌, ◌++◌, Bool, true, false, cond, ◌&&◌, Err, None, Ok, Result, Some}
 use Prim.Native.Char.{code}
 use Rattle.squares.specs.Refusals.{refusal, answer_number_of}
-use Rattle.squares.specs.declared.refusal.Answer.{Answer}
-use Rattle.squares.specs.declared.refusal.Answer.TheVariants as answer
 use Rattle.positions.specs.Moves.{move}
-use Rattle.positions.specs.declared.position.Placed.{Placed}
 use Rattle.positions.specs.declared.position.Position.{Position}
 use Rattle.texts.specs.Bytes.{bytes, parts_at, up_to, after_first}
 use Rattle.games.specs.Play.{new_of, play_of, outcome_of}
@@ -15,16 +12,15 @@ use Rattle.gametexts.specs.declared.game.PlayedText.{PlayedText}
 use Rattle.wording.specs.Output.{decimal, number_word, bad}
 use Rattle.wording.specs.Numbers.{unsigned_of, set_of}
 use Rattle.wording.specs.Escapes.{undone}
-use Rattle.wording.specs.declared.numbers.Parsed.{Parsed}
-use Rattle.wording.specs.declared.numbers.Parsed.TheVariants as parsed
 use Rattle.wording.specs.declared.output.Flaw.TheVariants as flaw
 use Rattle.replies.specs.Answers.{ok, move_word}
 use Rattle.requests.specs.Asked.{on_placed}
 use Rattle.replies.specs.States.{judged_word, state_text, end_text}
 use Rattle.requests.specs.declared.plays.Given.{Given}
 use Rattle.requests.specs.declared.plays.Given.TheVariants as given
-use Rattle.requests.specs.declared.plays.Recorded.{Recorded}
-use Rattle.requests.specs.declared.plays.Recorded.TheVariants as recorded
+use Rattle.positions.specs.declared.moves.Move.{Move}
+use Rattle.std.specs.declared.option.Option.{Option}
+use Rattle.squares.specs.declared.refusal.Refusal.{Refusal}
 
 -- ---- the words
 
@@ -32,20 +28,20 @@ use Rattle.requests.specs.declared.plays.Recorded.TheVariants as recorded
 abbrev pub words_of : List ℕ → List (List ℕ)
 words_of s = parts_at (code " ") s
 
-abbrev pub on_number : Parsed → (ℕ → Recorded) → Recorded
-on_number (parsed.Value n) k = k n
-on_number parsed.Bad k = recorded.Bad
+abbrev pub on_number : Option ℕ → (ℕ → Option Move) → Option Move
+on_number (Some n) k = k n
+on_number None k = None
 
 -- a record: first square, last square and set, between commas
-unfoldable pub record_of : List ℕ → Recorded
+unfoldable pub record_of : List ℕ → Option Move
 record_of s =
     on_number (unsigned_of (up_to (code ",") s)) (λ f.
     on_number (unsigned_of (up_to (code ",") (after_first (code ",") s))) (λ t.
-    on_number (set_of (after_first (code ",") (after_first (code ",") s))) (λ c. recorded.Move (move f t c))))
+    on_number (set_of (after_first (code ",") (after_first (code ",") s))) (λ c. Some (move f t c))))
 
-abbrev pub is_move : Recorded → Bool
-is_move (recorded.Move m) = true
-is_move recorded.Bad = false
+abbrev pub is_move : Option Move → Bool
+is_move (Some m) = true
+is_move None = false
 
 unfoldable pub is_record_of : List ℕ → Bool
 is_record_of s = is_move (record_of s)
@@ -59,9 +55,9 @@ unfoldable pub play_text_of : Game → List ℕ → PlayedText
 play_text_of g w = play_str_of g (undone w)
 
 -- a word that is no record is not played; a line with such a word is a bad request
-abbrev pub play_move : Game → Recorded → PlayedText
-play_move g (recorded.Move m) = beside m (play_of g m)
-play_move g recorded.Bad = refused_text g (refusal 9)
+abbrev pub play_move : Game → Option Move → PlayedText
+play_move g (Some m) = beside m (play_of g m)
+play_move g None = refused_text g (refusal 9)
 
 unfoldable pub play_record_of : Game → List ℕ → PlayedText
 play_record_of g w = play_move g (record_of w)
@@ -73,9 +69,9 @@ play_word_of given.Record g w = play_record_of g w
 -- ---- what is written of it
 
 -- of a text: the move and the game after it, or the refusal
-abbrev pub text_answer : Answer → List ℕ → List ℕ
-text_answer answer.Done t = t
-text_answer (answer.Refused e) t = number_word e
+abbrev pub text_answer : Result Unit Refusal → List ℕ → List ℕ
+text_answer (Ok tt) t = t
+text_answer (Err e) t = number_word e
 
 unfoldable pub text_told : PlayedText → List ℕ
 text_told r = code " " ∷ text_answer r.answer (move_word r.mv ++ state_text (code "/") r.game)
@@ -98,13 +94,13 @@ unfoldable pub game_answer : Given → Position → List ℕ → List ℕ
 game_answer h p s = bytes "ok" ++ game_text h (new_of p).game (words_of s)
 
 -- ---- the requests
-abbrev pub play_request : Placed → List ℕ → List ℕ
+abbrev pub play_request : Result Position Refusal → List ℕ → List ℕ
 play_request p texts = on_placed p (λ q. game_answer given.Text q texts)
 
 -- every record must be readable before one is played
-abbrev pub record_request : Placed → List ℕ → List ℕ
+abbrev pub record_request : Result Position Refusal → List ℕ → List ℕ
 record_request p records = on_placed p (λ q. cond (all_records (words_of records)) (game_answer given.Record q records) (bad flaw.Number))
 
 -- the outcome of a new game
-abbrev pub outcome_request : Placed → List ℕ
+abbrev pub outcome_request : Result Position Refusal → List ℕ
 outcome_request p = on_placed p (λ q. ok (judged_word (outcome_of (new_of q).game)))

@@ -1,8 +1,7 @@
 -- A request line and its answer (docs/PROTOCOL.md).
-use Rattle.std.specs.Prelude.{ℕ, ◌*◌, List, [], ◌∷◌, ◌++◌, map, cond, length, get_or, ltb}
+use Rattle.std.specs.Prelude.{ℕ, ◌*◌, List, [], ◌∷◌, ◌++◌, map, cond, length, get_or, ltb, Result}
 use Prim.Native.Char.{code}
 use Prim.Native.String.{String}
-use Rattle.positions.specs.declared.position.Placed.{Placed}
 use Rattle.scores.specs.Score.{default}
 use Rattle.texts.specs.Bytes.{bytes}
 use Rattle.wording.specs.Escapes.{plain, is_plain}
@@ -15,6 +14,8 @@ use Rattle.requests.specs.Plays.{play_request, outcome_request, record_request}
 use Rattle.requests.specs.declared.reading.Form.TheVariants as form
 use Rattle.requests.specs.declared.requests.Request.{Request}
 use Rattle.requests.specs.declared.requests.Request.TheVariants as request
+use Rattle.positions.specs.declared.position.Position.{Position}
+use Rattle.squares.specs.declared.refusal.Refusal.{Refusal}
 
 -- ---- the table
 pub record Row : Type 0 where
@@ -82,10 +83,10 @@ request_of name = named name requests
 -- ---- the answers
 
 -- the position that the whole argument means, or its first word alone
-unfoldable pub whole_position : List ℕ → Placed
+unfoldable pub whole_position : List ℕ → Result Position Refusal
 whole_position arg = position_in form.Either arg
 
-unfoldable pub first_position : List ℕ → Placed
+unfoldable pub first_position : List ℕ → Result Position Refusal
 first_position arg = position_in form.Either (first_word arg)
 
 -- what each request answers to its argument, which is what follows its name

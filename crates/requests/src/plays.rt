@@ -11,11 +11,10 @@ ghost use Rattle.requests.specs.Plays.{record_of, is_record_of, all_records, wor
 use games::game::Game;
 use gametexts::game::PlayedText;
 use positions::moves::Move;
-use positions::position::{Placed, Position};
+use positions::position::Position;
 use replies::{answers, states};
-use squares::refusal::{Answer, Refusal};
+use squares::refusal::Refusal;
 use texts::bytes;
-use wording::numbers::Parsed;
 use wording::output::Flaw;
 use wording::{escapes, numbers, output, words};
 
@@ -26,28 +25,21 @@ pub enum Given {
     Record,
 }
 
-// The move of a record, or `Bad` where a part of it is not a number.
-#[derive(Clone, Copy)]
-pub enum Recorded {
-    Move(Move),
-    Bad,
-}
-
 // The numbers may be any of 32 bits: which of them are squares is the game's to say.
-fn read_record(word: &[u8]) -> Recorded
+fn read_record(word: &[u8]) -> Option<Move>
     ensures { result ≡ record_of word.now }
 {
     let rest = bytes::after_first(word, b',');
-    let Parsed::Value(from) = numbers::unsigned(bytes::up_to(word, b',')) else {
-        return Recorded::Bad;
+    let Some(from) = numbers::unsigned(bytes::up_to(word, b',')) else {
+        return None;
     };
-    let Parsed::Value(to) = numbers::unsigned(bytes::up_to(rest, b',')) else {
-        return Recorded::Bad;
+    let Some(to) = numbers::unsigned(bytes::up_to(rest, b',')) else {
+        return None;
     };
-    let Parsed::Value(captured) = numbers::set(bytes::after_first(rest, b',')) else {
-        return Recorded::Bad;
+    let Some(captured) = numbers::set(bytes::after_first(rest, b',')) else {
+        return None;
     };
-    Recorded::Move(Move {
+    Some(Move {
         captured: captured,
         from: from as u32,
         to: to as u32,
@@ -58,8 +50,8 @@ fn is_record(word: &[u8]) -> bool
     ensures { result ≡ is_record_of word.now }
 {
     match read_record(word) {
-        Recorded::Move(_) => true,
-        Recorded::Bad => false,
+        Some(_) => true,
+        None => false,
     }
 }
 
@@ -91,8 +83,8 @@ fn play_record(g: Game, word: &[u8]) -> PlayedText
     ensures { result ≡ play_record_of g word.now }
 {
     match read_record(word) {
-        Recorded::Move(m) => gametexts::game::beside(m, g.play(m)),
-        Recorded::Bad => gametexts::game::refused_text(g, Refusal::BadMoveText),
+        Some(m) => gametexts::game::beside(m, g.play(m)),
+        None => gametexts::game::refused_text(g, Refusal::BadMoveText),
     }
 }
 
@@ -114,11 +106,11 @@ fn tell_text(out: &mut [u8], at: usize, r: PlayedText) -> usize
     let mv = r.mv;
     let k = output::put_byte(out, at, b' ');
     match answer {
-        Answer::Done => {
+        Ok(()) => {
             let m = answers::put_move(out, k, mv);
             states::put_state(out, m, after, b'/')
         }
-        Answer::Refused(e) => output::put_number(out, k, e),
+        Err(e) => output::put_number(out, k, e),
     }
 }
 
@@ -168,41 +160,46 @@ fn play_game(given: Given, p: Position, s: &[u8], out: &mut [u8], at: usize) -> 
     play_words(given, game, s, out, k)
 }
 
-pub(crate) fn play(p: Placed, texts: &[u8], out: &mut [u8], at: usize) -> usize
+pub(crate) fn play(p: Result<Position, Refusal>, texts: &[u8], out: &mut [u8], at: usize) -> usize
     ensures { Adds (play_request p texts.now) out.old at out.new result }
 {
     match p {
-        Placed::Position(q) => play_game(Given::Text, q, texts, out, at),
-        Placed::Refused(e) => output::put_refusal(out, at, e),
+        Ok(q) => play_game(Given::Text, q, texts, out, at),
+        Err(e) => output::put_refusal(out, at, e),
     }
 }
 
 // Every record must be readable before one is played.
-pub(crate) fn record(p: Placed, records: &[u8], out: &mut [u8], at: usize) -> usize
+pub(crate) fn record(
+    p: Result<Position, Refusal>,
+    records: &[u8],
+    out: &mut [u8],
+    at: usize,
+) -> usize
     ensures { Adds (record_request p records.now) out.old at out.new result }
 {
     match p {
-        Placed::Position(q) => {
+        Ok(q) => {
             if all_records(records) {
                 return play_game(Given::Record, q, records, out, at);
             }
             output::put_bad(out, at, Flaw::Number)
         }
-        Placed::Refused(e) => output::put_refusal(out, at, e),
+        Err(e) => output::put_refusal(out, at, e),
     }
 }
 
 // The outcome of a new game.
-pub(crate) fn outcome(p: Placed, out: &mut [u8], at: usize) -> usize
+pub(crate) fn outcome(p: Result<Position, Refusal>, out: &mut [u8], at: usize) -> usize
     ensures { Adds (outcome_request p) out.old at out.new result }
 {
     match p {
-        Placed::Position(q) => {
+        Ok(q) => {
             let begun = Game::from_position(q);
             let game = begun.game;
             let k = answers::put_ok(out, at);
             states::put_judged(out, k, game.outcome())
         }
-        Placed::Refused(e) => output::put_refusal(out, at, e),
+        Err(e) => output::put_refusal(out, at, e),
     }
 }

@@ -4,9 +4,7 @@
 ghost use Rattle.std.specs.Prelude.{◌≡◌};
 ghost use Rattle.requests.specs.Reading.{either_of, read_of, position_in, move_in, square_in};
 
-use notation::notation::Found;
-use positions::position::{Placed, Position};
-use squares::square::Numbered;
+use positions::position::Position;
 use texts::{bytes, fen, hub};
 use wording::escapes;
 
@@ -19,7 +17,7 @@ pub enum Form {
 }
 
 // 51 bytes without a colon are Hub. Everything else is FEN.
-fn either(text: &[u8]) -> Placed
+fn either(text: &[u8]) -> Result<Position, Refusal>
     ensures { result ≡ either_of text.now }
 {
     if text.len() != 51 {
@@ -31,7 +29,7 @@ fn either(text: &[u8]) -> Placed
     hub::from_hub(text)
 }
 
-fn read(form: Form, text: &[u8]) -> Placed
+fn read(form: Form, text: &[u8]) -> Result<Position, Refusal>
     ensures { result ≡ read_of form text.now }
 {
     match form {
@@ -42,7 +40,7 @@ fn read(form: Form, text: &[u8]) -> Placed
 }
 
 // The position that a word means.
-pub(crate) fn position(form: Form, word: &[u8]) -> Placed
+pub(crate) fn position(form: Form, word: &[u8]) -> Result<Position, Refusal>
     ensures { result ≡ position_in form word.now }
 {
     let mut space = [0u8; 4097];
@@ -51,7 +49,7 @@ pub(crate) fn position(form: Form, word: &[u8]) -> Placed
 }
 
 // The listed move that a word means on a position.
-pub(crate) fn listed_move(p: Position, word: &[u8]) -> Found
+pub(crate) fn listed_move(p: Position, word: &[u8]) -> Result<Move, Refusal>
     ensures { result ≡ move_in p word.now }
 {
     let mut space = [0u8; 4097];
@@ -60,7 +58,7 @@ pub(crate) fn listed_move(p: Position, word: &[u8]) -> Found
 }
 
 // The square that a word means.
-pub(crate) fn square(word: &[u8]) -> Numbered
+pub(crate) fn square(word: &[u8]) -> Result<u32, Refusal>
     ensures { result ≡ square_in word.now }
 {
     let mut space = [0u8; 4097];

@@ -6,7 +6,6 @@ ghost use Rattle.requests.specs.Requests.{rows, help_text, request_at, request_o
 use crate::reading::Form;
 use crate::{asked, plays, reading};
 use captures::moves::MAX_MOVES;
-use positions::position::Placed;
 use scores::eval::Classical;
 use texts::bytes;
 use wording::output::Flaw;
@@ -122,13 +121,13 @@ fn request_of(name: &[u8]) -> Request
 }
 
 // The position that the whole argument means, or its first word alone.
-fn whole(arg: &[u8]) -> Placed
+fn whole(arg: &[u8]) -> Result<Position, Refusal>
     ensures { result ≡ whole_position arg.now }
 {
     reading::position(Form::Either, arg)
 }
 
-fn first(arg: &[u8]) -> Placed
+fn first(arg: &[u8]) -> Result<Position, Refusal>
     ensures { result ≡ first_position arg.now }
 {
     reading::position(Form::Either, words::first(arg))

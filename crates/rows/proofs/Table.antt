@@ -1,5 +1,6 @@
 -- The boards P1 to P12 (docs/RULES.md, "Twelve boards"), each from the bytes of its text on: what the definitions in
 -- the contracts of the entries answer.
+use Rattle.std.specs.Prelude.{Err, None, Ok, Result, ℤ}
 use Prim.Native.Nat.{ℕ, ◌+◌}
 use Prim.Native.String.{String}
 use mathlib.Core.Path.{◌≡◌, refl}
@@ -11,23 +12,16 @@ use Rattle.squares.specs.Squares.{single}
 use Rattle.squares.specs.declared.piece.Color.TheVariants.{White, Black}
 use Rattle.squares.specs.declared.refusal.Refusal.{Refusal}
 use Rattle.squares.specs.Refusals.{refusal}
-use Rattle.squares.specs.declared.refusal.Answer.TheVariants as answer
 use Rattle.positions.specs.Boards.{Board, board}
 use Rattle.positions.specs.Hash.{position_of, initial_of}
 use Rattle.positions.specs.Moves.{move}
 use Rattle.scores.specs.Score.{default, evaluate_of}
-use Rattle.scores.specs.declared.eval.Scored.{Scored}
-use Rattle.scores.specs.declared.eval.Scored.TheVariants as scored
 use Rattle.positions.specs.declared.moves.Move.{Move}
-use Rattle.positions.specs.declared.position.Placed.{Placed}
-use Rattle.positions.specs.declared.position.Placed.TheVariants as placed
 use Rattle.positions.specs.declared.position.Position.{Position}
 use Rattle.captures.specs.Lists.{list_of}
 use Rattle.movegen.specs.Counts.{perft_of}
 use Rattle.movegen.specs.Lists.{refused_list, legal_moves_of, after_of}
 use Rattle.movegen.specs.declared.movegen.Listed.{Listed}
-use Rattle.movegen.specs.declared.perft.Counted.{Counted}
-use Rattle.movegen.specs.declared.perft.Counted.TheVariants.{Count}
 use Rattle.scores.specs.Computed as scores
 use Rattle.texts.specs.Bytes.{bytes}
 use Rattle.texts.specs.Fen.{from_fen_of}
@@ -36,49 +30,47 @@ use Rattle.games.specs.Games.{blank_position, won}
 use Rattle.games.specs.Play.{not_begun, new_of, outcome_of}
 use Rattle.games.specs.declared.game.Begun.{Begun}
 use Rattle.games.specs.declared.game.Game.{Game}
-use Rattle.games.specs.declared.game.Judged.{Judged}
-use Rattle.games.specs.declared.game.Judged.TheVariants.{Going}
 use Rattle.gametexts.specs.Texts.{game_from_fen_of}
 use Rattle.notation.specs.Choice.{parse_move_of}
 use Rattle.notation.specs.Computed as notation
-use Rattle.notation.specs.declared.notation.Found.{Found}
-use Rattle.notation.specs.declared.notation.Found.TheVariants as found
+use Rattle.std.specs.declared.option.Option.{Option}
+use Rattle.games.specs.declared.game.Outcome.{Outcome}
 
 -- what is asked of a text, and the answer
 pub data Row : Type 0 where
   -- the position that it reads as
-  reads : String → Placed → Row
+  reads : String → Result Position Refusal → Row
   -- the refusal's number and square
   refused : String → ℕ → ℕ → Row
   -- the list of its moves, with this limit
   moves : String → ℕ → Listed → Row
   -- the depth count at this depth
-  paths : String → ℕ → Counted → Row
+  paths : String → ℕ → Result ℕ Refusal → Row
   -- what a move text means on it
-  means : String → String → Found → Row
+  means : String → String → Result Move Refusal → Row
   -- the position after a move
-  after : String → Move → Placed → Row
+  after : String → Move → Result Position Refusal → Row
   -- the score with the default weights
-  score : String → Scored → Row
+  score : String → Result ℤ Refusal → Row
   -- the game that it begins, without refusal, has this outcome
-  ends : String → Judged → Row
+  ends : String → Result (Option Outcome) Refusal → Row
 
 -- the number and the square of a refusal; 0 and 0 where there is none
-abbrev told : Placed → ℕ × ℕ
-told (placed.Position p) = (0, 0)
-told (placed.Refused e) = (number_of e, square_of e)
+abbrev told : Result Position Refusal → ℕ × ℕ
+told (Ok p) = (0, 0)
+told (Err e) = (number_of e, square_of e)
 
 -- the text reads as a position, and P holds of it
-abbrev of : Placed → (Position → Type 0) → Type 0
-of (placed.Position p) P = P p
-of (placed.Refused e) P = ⊥
+abbrev of : Result Position Refusal → (Position → Type 0) → Type 0
+of (Ok p) P = P p
+of (Err e) P = ⊥
 
 -- the game is begun without refusal and has this outcome. Both are said, since a refused new game has an outcome too:
 -- it is the game of the empty board
-abbrev begins : Begun → Judged → Type 0
-begins b a = (b.answer ≡ answer.Done) × (outcome_of b.game ≡ a)
+abbrev begins : Begun → Result (Option Outcome) Refusal → Type 0
+begins b a = (b.answer ≡ Ok tt) × (outcome_of b.game ≡ a)
 
-abbrev read : String → Placed
+abbrev read : String → Result Position Refusal
 read t = from_fen_of (bytes t)
 
 abbrev pub Holds : Row → Type 0
@@ -96,11 +88,11 @@ All [] = Unit
 All (r ∷ rs) = Holds r × All rs
 
 -- ---- the answers
-abbrev at : Board → Placed
-at b = placed.Position (position_of b)
+abbrev at : Board → Result Position Refusal
+at b = Ok (position_of b)
 
 abbrev these : List Move → Listed
-these l = record { answer = answer.Done; list = list_of l }
+these l = record { answer = Ok tt; list = list_of l }
 
 -- a move that takes the pieces on these squares
 abbrev set : List ℕ → ℕ
@@ -115,10 +107,10 @@ goes from to = move from to 0
 
 abbrev pub p1 : List Row
 p1 =
-    reads "W:W31-50:B1-20" (placed.Position initial_of)
+    reads "W:W31-50:B1-20" (Ok initial_of)
     ∷ moves "W:W31-50:B1-20" 256 (these (goes 31 26 ∷ goes 32 27 ∷ goes 33 28 ∷ goes 34 29 ∷ goes 35 30 ∷ goes 31 27 ∷ goes 32 28 ∷ goes 33 29 ∷ goes 34 30 ∷ []))
-    ∷ paths "W:W31-50:B1-20" 2 (Count 81)
-    ∷ ends "W:W31-50:B1-20" Going ∷ []
+    ∷ paths "W:W31-50:B1-20" 2 (Ok 81)
+    ∷ ends "W:W31-50:B1-20" (Ok None) ∷ []
 
 abbrev pub p2_p5 : List Row
 p2_p5 =
@@ -145,11 +137,11 @@ abbrev pub p10_p11 : List Row
 p10_p11 =
     moves "W:WK46:B37" 256 (these (takes 46 32 (37 ∷ []) ∷ takes 46 28 (37 ∷ []) ∷ takes 46 23 (37 ∷ []) ∷ takes 46 19 (37 ∷ []) ∷ takes 46 14 (37 ∷ []) ∷ takes 46 10 (37 ∷ []) ∷ takes 46 5 (37 ∷ []) ∷ []))
     ∷ moves "W:WK46:B12,22,27,37" 256 (these (takes 46 8 (12 ∷ 27 ∷ 37 ∷ []) ∷ takes 46 3 (12 ∷ 27 ∷ 37 ∷ []) ∷ takes 46 8 (12 ∷ 22 ∷ 37 ∷ []) ∷ takes 46 3 (12 ∷ 22 ∷ 37 ∷ []) ∷ []))
-    ∷ means "W:WK46:B12,22,27,37" "46x8" (found.Refused (refusal 16))
-    ∷ means "W:WK46:B12,22,27,37" "46x8x12x27x37" (found.Move (takes 46 8 (12 ∷ 27 ∷ 37 ∷ []))) ∷ []
+    ∷ means "W:WK46:B12,22,27,37" "46x8" (Err (refusal 16))
+    ∷ means "W:WK46:B12,22,27,37" "46x8x12x27x37" (Ok (takes 46 8 (12 ∷ 27 ∷ 37 ∷ []))) ∷ []
 
 abbrev pub p12 : List Row
-p12 = score "W:WK28,K32,33:BK1" (scored.Score (pos 50)) ∷ []
+p12 = score "W:WK28,K32,33:BK1" (Ok (pos 50)) ∷ []
 
 -- the table
 pub table : All p1 × All p2_p5 × All p6_p9 × All p10_p11 × All p12

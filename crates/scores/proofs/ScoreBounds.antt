@@ -1,5 +1,6 @@
 -- With the default weights the score of an accepted board lies from -15,000 to 15,000: a side has at most 50 pieces, none
 -- worth more than a king. So it lies within 15,100.
+use Rattle.std.specs.Prelude.{Err, Ok}
 use mathlib.Core.Path.{◌≡◌, refl}
 use Prim.Native.Nat.{ℕ, zero, suc, ◌+◌, ◌-◌, ◌*◌, ◌≤◌, zero-le}
 use native.Mathlib.Nat.{le_trans}
@@ -22,7 +23,6 @@ use Rattle.positions.specs.Boards.{Board, board_of, men_of, kings_of}
 use Rattle.positions.specs.Acceptance.{Accepted, sound}
 use Rattle.scores.specs.Score.{advanced, center, guard, guarding, material_of, placement_of, worth, drawish, damped, white_score, signed, score, default, within, weights_fit, evaluate_of, default_limit, limited}
 use Rattle.positions.specs.declared.position.Position.{Position}
-use Rattle.scores.specs.declared.eval.Scored.TheVariants as scored
 use Rattle.positions.proofs.Accepts.{sound_says}
 use Rattle.positions.proofs.OnSquares.{wide, men_squares, men_kings}
 use Rattle.scores.proofs.Integers.{abs_neg, abs_eighth, le_within}
@@ -101,7 +101,7 @@ unfolding evaluate_of
 evaluate_limited p = go (sound p) refl (weights_fit default)
   where
     go : (t : Bool) → sound p ≡ t → (f : Bool)
-        → limited (cond t (cond f (scored.Score (score default (board_of p))) (scored.Refused BeyondLimit)) (scored.Refused BadPosition)) ≡ true
+        → limited (cond t (cond f (Ok (score default (board_of p))) (Err BeyondLimit)) (Err BadPosition)) ≡ true
     go true e true = score_bound (board_of p) (sound_says p e).accepted
     go true e false = refl
     go false e f = refl

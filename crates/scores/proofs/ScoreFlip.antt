@@ -1,4 +1,5 @@
 -- The board turned round, with the colours exchanged, has the same score for its side to move, for every weights.
+use Rattle.std.specs.Prelude.{Err, Ok}
 use mathlib.Core.Path.{◌≡◌, refl, sym, ap, ap₂, ◌∙◌}
 use Prim.Native.Nat.{ℕ, zero, suc, ◌-◌, ◌/◌, ◌<◌, ◌^◌, zero-le}
 use native.Mathlib.Nat.{lt_of_le_of_lt, sub-le, zero-lt-suc}
@@ -29,7 +30,6 @@ use Rattle.scores.specs.Score.{advanced, center, guard, guarding, material_of, p
 use Rattle.scores.specs.Computed.{computed}
 use Rattle.positions.specs.declared.position.Position.{Position}
 use Rattle.scores.specs.declared.eval.Classical.{Classical}
-use Rattle.scores.specs.declared.eval.Scored.TheVariants as scored
 use Rattle.positions.proofs.Rotation.{Squares, has_rotated, rotated_lt, rotated_twice, size_rotated, sum_rotated}
 use Rattle.positions.proofs.Accepts.{says_sound}
 use Rattle.positions.proofs.Flips.{flipped_sound}
@@ -205,5 +205,5 @@ module _ (b : Board) (a : Accepted b) where
 pub evaluate_flipped : (w : Classical) (p : Position) → Sound p → evaluate_of w (position_of (flip (board_of p))) ≡ evaluate_of w p
 unfolding evaluate_of
 evaluate_flipped w p s =
-    ap₂ (λ (t : Bool) (z : ℤ). cond t (cond (weights_fit w) (scored.Score z) (scored.Refused BeyondLimit)) (scored.Refused BadPosition))
+    ap₂ (λ (t : Bool) (z : ℤ). cond t (cond (weights_fit w) (Ok z) (Err BeyondLimit)) (Err BadPosition))
     (says_sound (position_of (flip (board_of p))) (flipped_sound p s) ∙ sym (says_sound p s)) (score_flip (board_of p) s.accepted w)

@@ -1,4 +1,5 @@
 -- White's score and the score for the side to move, from the code's sums.
+use Rattle.std.specs.Prelude.{Err, Ok}
 use mathlib.Core.Path.{◌≡◌, sym, ap, ap₂, ◌∙◌}
 use mathlib.Core.Bool.{Bool, true, false, cond}
 use lib.Dec.{lit<}
@@ -10,7 +11,6 @@ use Rattle.positions.specs.Acceptance.{sound}
 use Rattle.scores.specs.Score.{worth, damped, white_score, signed, score, weights_fit, evaluate_of, Bounded}
 use Rattle.positions.specs.declared.position.Position.{Position}
 use Rattle.scores.specs.declared.eval.Classical.{Classical}
-use Rattle.scores.specs.declared.eval.Scored.TheVariants as scored
 use Rattle.squares.specs.declared.refusal.Refusal.TheVariants.{BeyondLimit, BadPosition}
 use Rattle.scores.proofs.Integers.{held, read, less_of, neg_of, renamed}
 use Rattle.scores.proofs.ScoreBounds.{damped_le}
@@ -33,18 +33,18 @@ module _ (w : Classical) (b : Board) (x : ℤ) (h : Bounded 576000000 (white_sco
 
 -- the three answers, by the code's two tests
 module _ (w : Classical) (p : Position) (s : Bool) (es : s ≡ sound p) where
-  pub refused_12 : s ≡ false → scored.Refused BadPosition ≡ evaluate_of w p
+  pub refused_12 : s ≡ false → Err BadPosition ≡ evaluate_of w p
   unfolding evaluate_of
-  refused_12 h = ap (λ (t : Bool). cond t (cond (weights_fit w) (scored.Score (score w (board_of p))) (scored.Refused BeyondLimit)) (scored.Refused BadPosition)) (sym h ∙ es)
+  refused_12 h = ap (λ (t : Bool). cond t (cond (weights_fit w) (Ok (score w (board_of p))) (Err BeyondLimit)) (Err BadPosition)) (sym h ∙ es)
 
   module _ (f : Bool) (ef : f ≡ weights_fit w) (h : s ≡ true) where
-    pub refused_10 : f ≡ false → scored.Refused BeyondLimit ≡ evaluate_of w p
+    pub refused_10 : f ≡ false → Err BeyondLimit ≡ evaluate_of w p
     unfolding evaluate_of
     refused_10 k =
-        ap₂ (λ (t u : Bool). cond t (cond u (scored.Score (score w (board_of p))) (scored.Refused BeyondLimit)) (scored.Refused BadPosition)) (sym h ∙ es) (sym k ∙ ef)
+        ap₂ (λ (t u : Bool). cond t (cond u (Ok (score w (board_of p))) (Err BeyondLimit)) (Err BadPosition)) (sym h ∙ es) (sym k ∙ ef)
 
-    pub scored_of : (z : ℤ) → f ≡ true → z ≡ score w (board_of p) → scored.Score z ≡ evaluate_of w p
+    pub scored_of : (z : ℤ) → f ≡ true → z ≡ score w (board_of p) → Ok z ≡ evaluate_of w p
     unfolding evaluate_of
     scored_of z k e =
-        ap scored.Score e
-        ∙ ap₂ (λ (t u : Bool). cond t (cond u (scored.Score (score w (board_of p))) (scored.Refused BeyondLimit)) (scored.Refused BadPosition)) (sym h ∙ es) (sym k ∙ ef)
+        ap Ok e
+        ∙ ap₂ (λ (t u : Bool). cond t (cond u (Ok (score w (board_of p))) (Err BeyondLimit)) (Err BadPosition)) (sym h ∙ es) (sym k ∙ ef)

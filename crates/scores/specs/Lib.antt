@@ -1,3 +1,2 @@
 pub mod Score
-pub mod Told
 pub mod Computed

@@ -1,6 +1,6 @@
 -- The score (docs/RULES.md, "Score"): what White's pieces are worth less what Black's are worth, divided by 8 where the
 -- side ahead has few pieces against a king, and given for the side to move. At the end, what `evaluate` answers.
-use Rattle.std.specs.Prelude.{◌≡◌, ℕ, ◌+◌, ◌-◌, ◌≤◌, Bool, true, not, cond, ◌&&◌, ◌||◌, eqb, leb, ℤ, pos, ◌+ℤ◌, ◌-ℤ◌, ◌*ℤ◌, neg_ℤ, nat_abs}
+use Rattle.std.specs.Prelude.{◌≡◌, ℕ, ◌+◌, ◌-◌, ◌≤◌, Bool, true, not, cond, ◌&&◌, ◌||◌, eqb, leb, ℤ, pos, ◌+ℤ◌, ◌-ℤ◌, ◌*ℤ◌, neg_ℤ, nat_abs, Err, Ok, Result}
 use Rattle.std.specs.Int.Bits.{bit_and}
 use Rattle.std.specs.Int.Signed.{lt_z, quot_z}
 use Rattle.squares.specs.Sets.{size}
@@ -14,8 +14,7 @@ use Rattle.positions.specs.Boards.{Board, board_of, colored, men_of, kings_of}
 use Rattle.positions.specs.Acceptance.{sound}
 use Rattle.positions.specs.declared.position.Position.{Position}
 use Rattle.scores.specs.declared.eval.Classical.{Classical}
-use Rattle.scores.specs.declared.eval.Scored.{Scored}
-use Rattle.scores.specs.declared.eval.Scored.TheVariants as scored
+use Rattle.squares.specs.declared.refusal.Refusal.{Refusal}
 
 -- the rows that a man on row r has advanced: White's men go from row 9 up to row 0, Black's from row 0 down to row 9
 unfoldable pub ahead_of : Color → ℕ → ℕ
@@ -94,19 +93,19 @@ weights_fit w =
     && (within 10000 w.advance && (within 10000 w.center && within 10000 w.guard)))
 
 -- the score; refusal 12 for the position, then 10 for the weights
-unfoldable pub evaluate_of : Classical → Position → Scored
+unfoldable pub evaluate_of : Classical → Position → Result ℤ Refusal
 evaluate_of w p =
     cond (sound p)
-    (cond (weights_fit w) (scored.Score (score w (board_of p))) (scored.Refused (refusal 10)))
-    (scored.Refused (refusal 12))
+    (cond (weights_fit w) (Ok (score w (board_of p))) (Err (refusal 10)))
+    (Err (refusal 12))
 
 -- with the default weights every score is from -15,100 to 15,100
 abbrev pub default_limit : ℕ
 default_limit = 15100
 
-abbrev pub limited : Scored → Bool
-limited (scored.Score s) = within default_limit s
-limited (scored.Refused e) = true
+abbrev pub limited : Result ℤ Refusal → Bool
+limited (Ok s) = within default_limit s
+limited (Err e) = true
 
 -- what the contract of a part of the sum says: r is z, and is from -n to n
 pub record Bounded (n : ℕ) (z r : ℤ) : Type 0 where

@@ -1,8 +1,7 @@
 -- Laws on the refusals' numbers and squares. Only `split` looks at them one by one; no other crate does.
+use Rattle.std.specs.Prelude.{Err, Ok, Result}
 use Rattle.std.proofs.Common.{◌≡◌, ℕ, zero, suc, ◌<◌, ◌≤◌, true, eqb, ltb, refl, arith, ltb-true, eqb-true}
 use Rattle.squares.specs.Refusals.{number_of, square_of, answer_number_of, refusal_at, refusal}
-use Rattle.squares.specs.declared.refusal.Answer.{Answer}
-use Rattle.squares.specs.declared.refusal.Answer.TheVariants.{Done, Refused}
 use Rattle.squares.specs.declared.refusal.Refusal.{Refusal}
 use Rattle.squares.specs.declared.refusal.Refusal.TheVariants.{TextTooLong, NoSide, NoColor, BadSquare, BadHubByte, NotFifty, Overlap, ManOnPromotionRow, BadMoveText, BeyondLimit, NoSuchSquare, BadPosition, BadGame, GameOver, NoMoveFits, SeveralFit, TooManyMoves, FenTooLong, SpaceTooShort}
 use Rattle.squares.proofs.Below.{below, below_at}
@@ -36,12 +35,12 @@ refusal_of e = (split e).0
 pub number_fits : (e : Refusal) → number_of e < 256
 number_fits e = omega (arith, ltb-true (number_of e) 20 (split e).1)
 
-pub answer_fits : (a : Answer) → answer_number_of a < 256
-answer_fits Done = omega arith
-answer_fits (Refused e) = number_fits e
+pub answer_fits : (a : Result Unit Refusal) → answer_number_of a < 256
+answer_fits (Ok tt) = omega arith
+answer_fits (Err e) = number_fits e
 
 -- a refusal is not done
-pub not_done : {A : Type 0} (e : Refusal) → ◌≡◌ {A = Answer} (Refused e) Done → A
+pub not_done : {A : Type 0} (e : Refusal) → ◌≡◌ {A = Result Unit Refusal} (Err e) (Ok tt) → A
 not_done e h = let z : ◌≡◌ {A = ℕ} 0 1 = cc in absurd (omega arith)
 
 -- the refusal with a number from 1 to 19 has that number

@@ -1,9 +1,7 @@
 -- The number and the square that each refusal is reported with (docs/RULES.md, "Refusals").
-use Rattle.std.specs.Prelude.{ℕ, cond, ◌==◌}
+use Rattle.std.specs.Prelude.{ℕ, cond, ◌==◌, Err, Ok, Result}
 use Rattle.squares.specs.declared.refusal.Refusal.{Refusal}
 use Rattle.squares.specs.declared.refusal.Refusal.TheVariants.{TextTooLong, NoSide, NoColor, BadSquare, BadHubByte, NotFifty, Overlap, ManOnPromotionRow, BadMoveText, BeyondLimit, NoSuchSquare, BadPosition, BadGame, GameOver, NoMoveFits, SeveralFit, TooManyMoves, FenTooLong, SpaceTooShort}
-use Rattle.squares.specs.declared.refusal.Answer.{Answer}
-use Rattle.squares.specs.declared.refusal.Answer.TheVariants.{Done, Refused}
 
 abbrev pub number_of : Refusal → ℕ
 number_of TextTooLong = 1
@@ -49,9 +47,9 @@ square_of FenTooLong = 0
 square_of SpaceTooShort = 0
 
 -- the number of an answer: 0 where nothing was refused
-abbrev pub answer_number_of : Answer → ℕ
-answer_number_of Done = 0
-answer_number_of (Refused e) = number_of e
+abbrev pub answer_number_of : Result Unit Refusal → ℕ
+answer_number_of (Ok tt) = 0
+answer_number_of (Err e) = number_of e
 
 -- the refusal with number n; only 7 and 8 keep the square
 abbrev pub refusal_at : ℕ → ℕ → Refusal

@@ -1,14 +1,11 @@
 -- The 50 squares: their numbers, bits, rows and files, and sets of them (docs/RULES.md, "The board").
 -- A drawing of the numbers and bits is at the top of src/bitboard.rt.
-use Rattle.std.specs.Prelude.{ℕ, zero, suc, ◌+◌, ◌-◌, ◌*◌, ◌/◌, ◌%◌, ◌^◌, Bool, cond, not, ◌&&◌, ◌==◌, bit_and, nat_le, nat_lt}
+use Rattle.std.specs.Prelude.{ℕ, zero, suc, ◌+◌, ◌-◌, ◌*◌, ◌/◌, ◌%◌, ◌^◌, Bool, cond, not, ◌&&◌, ◌==◌, bit_and, nat_le, nat_lt, Err, Ok, Result}
 use Rattle.squares.specs.Sets.{has, without, lowest}
-use Rattle.squares.specs.declared.bitboard.Gathered.{Gathered}
-use Rattle.squares.specs.declared.bitboard.Gathered.TheVariants as gathered
-use Rattle.squares.specs.declared.square.Numbered.{Numbered}
-use Rattle.squares.specs.declared.square.Numbered.TheVariants as numbered
 use Rattle.squares.specs.declared.piece.Color.{Color}
 use Rattle.squares.specs.declared.piece.Color.TheVariants.{White, Black}
 use Rattle.squares.specs.Refusals.{refusal}
+use Rattle.squares.specs.declared.refusal.Refusal.{Refusal}
 
 -- whether n is the number of a square
 unfoldable pub is_square : ℕ → Bool
@@ -49,8 +46,8 @@ unfoldable pub file_of : ℕ → ℕ
 file_of i = 2 * ((square_at_bit i - 1) % 5) + (1 - row_of i % 2)
 
 -- x where n is a square, else refusal 11
-unfoldable pub of_square : ℕ → ℕ → Numbered
-of_square n x = cond (is_square n) (numbered.Number x) (numbered.Refused (refusal 11))
+unfoldable pub of_square : ℕ → ℕ → Result ℕ Refusal
+of_square n x = cond (is_square n) (Ok x) (Err (refusal 11))
 
 -- the set of square n alone; empty where n is no square
 unfoldable pub single : ℕ → ℕ
@@ -73,5 +70,5 @@ unfoldable pub squares_only : ℕ → Bool
 squares_only s = without s all == 0
 
 -- the set of these bits; refusal 11 where one of them is no square
-unfoldable pub from_bits_of : ℕ → Gathered
-from_bits_of s = cond (squares_only s) (gathered.Set s) (gathered.Refused (refusal 11))
+unfoldable pub from_bits_of : ℕ → Result ℕ Refusal
+from_bits_of s = cond (squares_only s) (Ok s) (Err (refusal 11))

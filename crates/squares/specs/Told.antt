@@ -2,21 +2,11 @@
 -- number 0, square 0 and its value; a refusal has its number, its square and no value. Each answer type of the code has
 -- one definition that gives these for each of its cases, here or in the Told.antt of its crate. With them the laws in
 -- proofs/Orders.antt say what each entry answers: its refusals in their order, then its result.
-use Rattle.std.specs.Prelude.{ℕ, Bool, cond, List, [], ◌∷◌}
+use Rattle.std.specs.Prelude.{ℕ, Bool, cond, List, [], ◌∷◌, Err, Ok, Result}
 use Rattle.squares.specs.Refusals.{number_of, square_of}
-use Rattle.squares.specs.declared.bitboard.Gathered.{Gathered}
-use Rattle.squares.specs.declared.bitboard.Gathered.TheVariants as gathered
 use Rattle.squares.specs.declared.piece.Color.{Color}
-use Rattle.squares.specs.declared.piece.Known.{Known}
-use Rattle.squares.specs.declared.piece.Known.TheVariants as known
 use Rattle.squares.specs.declared.piece.Piece.{Piece}
-use Rattle.squares.specs.declared.piece.Sided.{Sided}
-use Rattle.squares.specs.declared.piece.Sided.TheVariants as sided
-use Rattle.squares.specs.declared.refusal.Answer.{Answer}
-use Rattle.squares.specs.declared.refusal.Answer.TheVariants as answer
 use Rattle.squares.specs.declared.refusal.Refusal.{Refusal}
-use Rattle.squares.specs.declared.square.Numbered.{Numbered}
-use Rattle.squares.specs.declared.square.Numbered.TheVariants as numbered
 
 pub record Told (A : Type 0) : Type 0 where
   pub number : ℕ
@@ -30,27 +20,11 @@ abbrev pub turned_back : {A : Type 0} → Refusal → Told A
 turned_back e = record { number = number_of e; square = square_of e; value = [] }
 
 -- a list or a game x with the answer that comes with it
-abbrev pub beside : {A : Type 0} → Answer → A → Told A
-beside answer.Done x = result x
-beside (answer.Refused e) x = turned_back e
+abbrev pub beside : {A : Type 0} → Result Unit Refusal → A → Told A
+beside (Ok tt) x = result x
+beside (Err e) x = turned_back e
 
 -- ---- the answer types of this crate
-
-abbrev pub numbered_told : Numbered → Told ℕ
-numbered_told (numbered.Number n) = result n
-numbered_told (numbered.Refused e) = turned_back e
-
-abbrev pub gathered_told : Gathered → Told ℕ
-gathered_told (gathered.Set s) = result s
-gathered_told (gathered.Refused e) = turned_back e
-
-abbrev pub sided_told : Sided → Told Color
-sided_told (sided.Side c) = result c
-sided_told (sided.Refused e) = turned_back e
-
-abbrev pub known_told : Known → Told Piece
-known_told (known.Piece p) = result p
-known_told (known.Refused e) = turned_back e
 
 -- ---- an order of refusals
 

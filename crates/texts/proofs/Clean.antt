@@ -1,4 +1,5 @@
 -- What holds of each square's text, by one computed test over 1 to 50: it reads back, and no byte of it means anything to a reader.
+use Rattle.std.specs.Prelude.{Err, Ok, Result}
 use Prim.Native.Nat.{ℕ}
 use mathlib.Core.Path.{◌≡◌, refl, ap}
 use mathlib.Core.List.{List, [], ◌∷◌, map}
@@ -7,8 +8,6 @@ use native.Mathlib.Omega.{arith}
 use lib.Dec.{eqb, leb}
 use borrow.Author.Tests.{eqb-true, not-true}
 use Rattle.squares.specs.Squares.{is_square, contains_of}
-use Rattle.squares.specs.declared.square.Numbered.{Numbered}
-use Rattle.squares.specs.declared.square.Numbered.TheVariants as numbered
 use Rattle.squares.proofs.Bools.{imp, imp_elim, and_left, and_right}
 use Rattle.squares.proofs.Below.{below, below_at}
 use Rattle.squares.proofs.Numbers.{square_range}
@@ -16,6 +15,7 @@ use Rattle.texts.specs.Bytes.{ascii, blank, is, up_to, after_or_all, starts_with
 use Rattle.texts.specs.Fen.{end_of, item_text}
 use Rattle.texts.specs.Computed.{computed}
 use Rattle.texts.proofs.ListLaws.{each, each_map, each_imp, lacks, lacks_imp, lacks_cons}
+use Rattle.squares.specs.declared.refusal.Refusal.{Refusal}
 
 unfoldable pub high : ℕ → Bool
 high b = not (leb b 127)
@@ -58,19 +58,19 @@ reader above b h = or_r (blank b) _ (or_r (is 34 b) _ (or_r (is 46 b) _ (or_r (i
 pub lacks_of : {p : ℕ → Bool} → Reader p → (s : List ℕ) → lacks special s ≡ true → lacks p s ≡ true
 lacks_of {p} r s h = lacks_imp p special (reader r) s h
 
-reads : ℕ → Numbered → Bool
-reads n (numbered.Number m) = eqb m n
-reads n (numbered.Refused e) = false
+reads : ℕ → Result ℕ Refusal → Bool
+reads n (Ok m) = eqb m n
+reads n (Err e) = false
 
-reads_is : (n : ℕ) (p : Numbered) → reads n p ≡ true → p ≡ numbered.Number n
+reads_is : (n : ℕ) (p : Result ℕ Refusal) → reads n p ≡ true → p ≡ Ok n
 unfolding reads
-reads_is n (numbered.Number m) h = ap numbered.Number (eqb-true m n h)
-reads_is n (numbered.Refused e) h = absurd (false≢true h)
+reads_is n (Ok m) h = ap Ok (eqb-true m n h)
+reads_is n (Err e) h = absurd (false≢true h)
 
 pub record Digits (n : ℕ) : Type 0 where
-  pub up_to_lem : end_of (up_to 45 (digits n)) ≡ numbered.Number n
-  pub after_it : end_of (after_or_all 45 (digits n)) ≡ numbered.Number n
-  pub read : read_square (digits n) ≡ numbered.Number n
+  pub up_to_lem : end_of (up_to 45 (digits n)) ≡ Ok n
+  pub after_it : end_of (after_or_all 45 (digits n)) ≡ Ok n
+  pub read : read_square (digits n) ≡ Ok n
   pub no_king : starts_with 75 (digits n) ≡ false
   pub clean : lacks special (digits n) ≡ true
 

@@ -1,5 +1,6 @@
 -- Reading a written board gives the board: side and lists come apart at the colons, items at the commas, and the
 -- members of each set, put one by one, give the set.
+use Rattle.std.specs.Prelude.{Err, Ok}
 use Prim.Native.Nat.{ℕ, ◌+◌, ◌-◌, ◌^◌}
 use mathlib.Core.Path.{◌≡◌, refl, sym, ap, ap₂, ◌∙◌}
 use mathlib.Core.List.{List, [], ◌∷◌, map}
@@ -11,7 +12,6 @@ use Rattle.squares.specs.Squares.{bit_of, on_board, square_at_bit, contains_of, 
 use Rattle.squares.specs.Pieces.{color_char}
 use Rattle.squares.specs.declared.piece.Color.{Color}
 use Rattle.squares.specs.declared.piece.Color.TheVariants.{White, Black}
-use Rattle.squares.specs.declared.square.Numbered.TheVariants as numbered
 use Rattle.squares.specs.declared.refusal.Refusal.TheVariants.{BadSquare}
 use Rattle.squares.proofs.Bools.{and_left, and_right, and_both}
 use Rattle.squares.proofs.Numbers.{bit_square, bit_back}
@@ -21,7 +21,6 @@ use Rattle.texts.specs.Bytes.{blank, is, trim_start, keep_end, trim_end, trim, s
 use Rattle.texts.specs.Parts.{added, with_squares, begun}
 use Rattle.texts.specs.Fen.{item_text, list_text, fen_text, fen_color_of, end_of, range_of, item_of, read_each, items_of, field_of, fields_of, side_of, fen_fields, body, fen_parts}
 use Rattle.texts.specs.declared.parts.Parts.{Parts}
-use Rattle.texts.specs.declared.parts.Reading.TheVariants as reading
 use Rattle.texts.proofs.ListLaws.{each, each_map, each_imp, lacks, lacks_cons, lacks_joined, trim_lacks, trim_end_lacks, split_joined}
 use Rattle.texts.proofs.Marks.{marks, always, put_members, mark_kings, each_members}
 use Rattle.texts.proofs.Clean.{special, Reader, blanks, quote, dot, comma, colon, Digits, digits_law, item_clean, lacks_of}
@@ -36,22 +35,22 @@ unfolding starts_with strip
 no_strip c [] h = refl
 no_strip c (b ∷ s) h = rw h
 
-item_some : (c : Color) (p : Parts) (s : List ℕ) (n : ℕ) → starts_with 75 s ≡ false → end_of (up_to 45 s) ≡ numbered.Number n → end_of (after_or_all 45 s) ≡ numbered.Number n
-    → item_of c p s ≡ reading.Parts (with_squares c false (run n (n + 1 - n)) p)
+item_some : (c : Color) (p : Parts) (s : List ℕ) (n : ℕ) → starts_with 75 s ≡ false → end_of (up_to 45 s) ≡ Ok n → end_of (after_or_all 45 s) ≡ Ok n
+    → item_of c p s ≡ Ok (with_squares c false (run n (n + 1 - n)) p)
 unfolding item_of range_of end_of up_to trim trim_start trim_end read_square strip number
-item_some c p [] n h e q = let z : numbered.Refused BadSquare ≡ numbered.Number n = e in let y : ◌≡◌ {A = ℕ} 0 1 = cc in absurd (omega arith)
+item_some c p [] n h e q = let z : Err BadSquare ≡ Ok n = e in let y : ◌≡◌ {A = ℕ} 0 1 = cc in absurd (omega arith)
 item_some c p (x ∷ s) n h e q = rw (h, no_strip 75 (x ∷ s) h, e, q)
 
-item_king : (c : Color) (p : Parts) (n : ℕ) → Digits n → item_of c p (75 ∷ digits n) ≡ reading.Parts (with_squares c true (run n (n + 1 - n)) p)
+item_king : (c : Color) (p : Parts) (n : ℕ) → Digits n → item_of c p (75 ∷ digits n) ≡ Ok (with_squares c true (run n (n + 1 - n)) p)
 unfolding item_of starts_with strip range_of
 item_king c p n d = rw (d.up_to_lem, d.after_it)
 
 item_law : (c : Color) (p : Parts) (kings n : ℕ) → Digits n
-    → item_of c p (item_text kings n) ≡ reading.Parts (with_squares c (contains_of kings n) (run n (n + 1 - n)) p)
+    → item_of c p (item_text kings n) ≡ Ok (with_squares c (contains_of kings n) (run n (n + 1 - n)) p)
 unfolding item_text
 item_law c p kings n d = go (contains_of kings n)
   where
-    go : (t : Bool) → item_of c p (cond t (75 ∷ digits n) (digits n)) ≡ reading.Parts (with_squares c t (run n (n + 1 - n)) p)
+    go : (t : Bool) → item_of c p (cond t (75 ∷ digits n) (digits n)) ≡ Ok (with_squares c t (run n (n + 1 - n)) p)
     go true = item_king c p n d
     go false = item_some c p (digits n) n d.no_king d.up_to_lem d.after_it
 
@@ -97,15 +96,15 @@ texts kings l = map (item_text kings) (map square_at_bit l)
 bit_clean : (kings i : ℕ) → on_board i ≡ true → lacks special (item_text kings (square_at_bit i)) ≡ true
 bit_clean kings i h = item_clean kings (square_at_bit i) (digits_law (square_at_bit i) (bit_square i h))
 
-items_law : (c : Color) (kings : ℕ) (l : List ℕ) (p : Parts) → each on_board l ≡ true → items_of c p (texts kings l) ≡ reading.Parts (marked c kings l p)
+items_law : (c : Color) (kings : ℕ) (l : List ℕ) (p : Parts) → each on_board l ≡ true → items_of c p (texts kings l) ≡ Ok (marked c kings l p)
 unfolding read_each each texts
-items_law c kings [] p h = ap reading.Parts (sym (marked_none c kings p))
+items_law c kings [] p h = ap Ok (sym (marked_none c kings p))
 items_law c kings (i ∷ l) p h =
     let o = and_left (on_board i) _ h in
     let n = square_at_bit i in
-    let e : item_of c p (trim blank (item_text kings n)) ≡ reading.Parts (with_squares c (contains_of kings n) (run n (n + 1 - n)) p)
+    let e : item_of c p (trim blank (item_text kings n)) ≡ Ok (with_squares c (contains_of kings n) (run n (n + 1 - n)) p)
     = ap (item_of c p) (trim_lacks blank (item_text kings n) (lacks_of blanks _ (bit_clean kings i o))) ∙ item_law c p kings n (digits_law n (bit_square i o)) in
-    rw e (items_law c kings l _ (and_right (on_board i) _ h) ∙ ap reading.Parts (marked_step c kings i l p o))
+    rw e (items_law c kings l _ (and_right (on_board i) _ h) ∙ ap Ok (marked_step c kings i l p o))
 
 items_lack : {q : ℕ → Bool} → Reader q → (kings : ℕ) (l : List ℕ) → each on_board l ≡ true → each (lacks q) (texts kings l) ≡ true
 unfolding texts
@@ -118,9 +117,9 @@ unfolding is
 is_comma = refl
 
 list_law : (c : Color) (kings : ℕ) (l : List ℕ) (p : Parts) → each on_board l ≡ true
-    → items_of c p (split_on (is 44) (joined 44 (texts kings l))) ≡ reading.Parts (marked c kings l p)
+    → items_of c p (split_on (is 44) (joined 44 (texts kings l))) ≡ Ok (marked c kings l p)
 unfolding read_each split_on joined item_of trim trim_start trim_end texts
-list_law c kings [] p h = ap reading.Parts (sym (marked_none c kings p))
+list_law c kings [] p h = ap Ok (sym (marked_none c kings p))
 list_law c kings (i ∷ l) p h =
     ap (items_of c p) (split_joined (is 44) 44 is_comma (item_text kings (square_at_bit i)) (texts kings l) (items_lack comma kings (i ∷ l) h)) ∙ items_law c kings (i ∷ l) p h
 
@@ -181,16 +180,16 @@ module _ (b : Board) (a : Accepted b) where
   unfolding blank
   black_trim = trim_lacks blank _ (black_lacks blanks refl refl)
 
-  white_field : (p : Parts) → field_of p (87 ∷ list_text b.kings b.white) ≡ reading.Parts (marked White b.kings (members b.white) p)
+  white_field : (p : Parts) → field_of p (87 ∷ list_text b.kings b.white) ≡ Ok (marked White b.kings (members b.white) p)
   unfolding field_of fen_color_of list_text texts
   white_field p = list_law White b.kings (members b.white) p white_in
 
-  black_field : (p : Parts) → field_of p (66 ∷ list_text b.kings b.black) ≡ reading.Parts (marked Black b.kings (members b.black) p)
+  black_field : (p : Parts) → field_of p (66 ∷ list_text b.kings b.black) ≡ Ok (marked Black b.kings (members b.black) p)
   unfolding field_of fen_color_of list_text texts
   black_field p = list_law Black b.kings (members b.black) p black_in
 
   both_fields : (p : Parts) → fields_of p ((87 ∷ list_text b.kings b.white) ∷ (66 ∷ list_text b.kings b.black) ∷ [])
-      ≡ reading.Parts (marked Black b.kings (members b.black) (marked White b.kings (members b.white) p))
+      ≡ Ok (marked Black b.kings (members b.black) (marked White b.kings (members b.white) p))
   unfolding read_each
   both_fields p = rw (white_trim, white_field p, black_trim, black_field)
 
@@ -206,8 +205,8 @@ module _ (b : Board) (a : Accepted b) where
   sided_is Black fs = refl
 
   -- reading what was written
-  pub fen_back : fen_parts (fen_text b) ≡ reading.Parts (parts_of b)
+  pub fen_back : fen_parts (fen_text b) ≡ Ok (parts_of b)
   unfolding fen_parts field_texts
   fen_back =
       ap (λ (t : List ℕ). fen_fields (split_on (is 58) t)) body_is ∙ ap fen_fields split_is ∙ sided_is b.side _
-      ∙ both_fields (begun b.side) ∙ ap reading.Parts board_back
+      ∙ both_fields (begun b.side) ∙ ap Ok board_back

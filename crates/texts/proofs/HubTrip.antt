@@ -1,4 +1,5 @@
 -- Reading a Hub text gives the board: each letter puts its square's piece, and the 50 squares are the whole board.
+use Rattle.std.specs.Prelude.{Ok}
 use Prim.Native.Nat.{ℕ, zero, suc, ◌+◌, ◌^◌, ◌<◌, ◌≤◌}
 use mathlib.Core.Path.{◌≡◌, refl, sym, ap, ap₂, ◌∙◌}
 use mathlib.Core.List.{List, ◌∷◌, map}
@@ -23,7 +24,6 @@ use Rattle.texts.specs.Bytes.{ascii}
 use Rattle.texts.specs.Parts.{added, with_squares, begun}
 use Rattle.texts.specs.Hub.{squares_from, standing_char, hub_char, hub_text, hub_byte_of, hub_from, hub_parts}
 use Rattle.texts.specs.declared.parts.Parts.{Parts}
-use Rattle.texts.specs.declared.parts.Reading.TheVariants as reading
 use Rattle.texts.specs.Lent.{Adds}
 use Rattle.texts.proofs.Pieces.{Starts, starts}
 use Rattle.texts.proofs.ListLaws.{each}
@@ -63,7 +63,7 @@ letter_is : (b : Board) (n : ℕ) → is_square n ≡ true → hub_char b n ≡ 
 unfolding hub_char piece_at_of contains_of letter
 letter_is b n h = rw h (go (has b.white (bit_of n)) (has b.black (bit_of n)) (has b.kings (bit_of n)))
   where
-    go : (w x k : Bool) → standing_char (cond w (Rattle.positions.specs.Boards.standing_of White k) (cond x (Rattle.positions.specs.Boards.standing_of Black k) Rattle.positions.specs.declared.position.Standing.TheVariants.Nothing))
+    go : (w x k : Bool) → standing_char (cond w (Rattle.positions.specs.Boards.standing_of White k) (cond x (Rattle.positions.specs.Boards.standing_of Black k) (Ok None)))
         ≡ cond w (cond k 87 119) (cond x (cond k 66 98) 101)
     go true x true = refl
     go true x false = refl
@@ -71,7 +71,7 @@ letter_is b n h = rw h (go (has b.white (bit_of n)) (has b.black (bit_of n)) (ha
     go false true false = refl
     go false false k = refl
 
-by_letter : (w x k : Bool) (n : ℕ) (p : Parts) → hub_byte_of n (letter w x k) p ≡ reading.Parts (stepped w x k (single n) p)
+by_letter : (w x k : Bool) (n : ℕ) (p : Parts) → hub_byte_of n (letter w x k) p ≡ Ok (stepped w x k (single n) p)
 unfolding hub_byte_of piece_from_char_of with_squares added stepped letter
 by_letter true x true n p = refl
 by_letter true x false n p = refl
@@ -80,10 +80,10 @@ by_letter false true false n p = refl
 by_letter false false k n p = refl
 
 one_letter : (b : Board) (n : ℕ) (p : Parts) → is_square n ≡ true
-    → hub_byte_of n (hub_char b n) p ≡ reading.Parts (stepped (has b.white (bit_of n)) (has b.black (bit_of n)) (has b.kings (bit_of n)) (2 ^ bit_of n) p)
+    → hub_byte_of n (hub_char b n) p ≡ Ok (stepped (has b.white (bit_of n)) (has b.black (bit_of n)) (has b.kings (bit_of n)) (2 ^ bit_of n) p)
 one_letter b n p h =
     ap (λ (x : ℕ). hub_byte_of n x p) (letter_is b n h) ∙ by_letter (has b.white (bit_of n)) (has b.black (bit_of n)) (has b.kings (bit_of n)) n p
-    ∙ ap (λ (s : ℕ). reading.Parts (stepped (has b.white (bit_of n)) (has b.black (bit_of n)) (has b.kings (bit_of n)) s p)) (single_is n h)
+    ∙ ap (λ (s : ℕ). Ok (stepped (has b.white (bit_of n)) (has b.black (bit_of n)) (has b.kings (bit_of n)) s p)) (single_is n h)
 
 -- every letter is ASCII
 letter_low : (w x k : Bool) → leb (letter w x k) 127 ≡ true
@@ -110,7 +110,7 @@ pub hub_ascii : (b : Board) → ascii (hub_text b) ≡ true
 unfolding ascii hub_text
 hub_ascii b = and_both (leb (color_char b.side) 127) _ (side_low b.side) (chars_ascii b 50 1 (omega arith) (omega arith))
 
-hub_from_lem : (k n : ℕ) (b : Board) (p : Parts) → 1 ≤ n → n + k ≤ 51 → hub_from k n p (map (hub_char b) (squares_from k n)) ≡ reading.Parts (hubbed b (map bit_of (squares_from k n)) p)
+hub_from_lem : (k n : ℕ) (b : Board) (p : Parts) → 1 ≤ n → n + k ≤ 51 → hub_from k n p (map (hub_char b) (squares_from k n)) ≡ Ok (hubbed b (map bit_of (squares_from k n)) p)
 unfolding hub_from squares_from hubbed marks stepped is_white is_black is_marked
 hub_from_lem zero n b p l h = refl
 hub_from_lem (suc k) n b p l h = rw (one_letter b n p (range_square n l (omega arith))) (hub_from_lem k (n + 1) b _ (omega arith) (omega arith))
@@ -178,6 +178,6 @@ module _ (b : Board) (a : Accepted b) where
   hub_side Black s = refl
 
   -- reading what was written
-  pub hub_back : hub_parts (hub_text b) ≡ reading.Parts (parts_of b)
+  pub hub_back : hub_parts (hub_text b) ≡ Ok (parts_of b)
   unfolding hub_text square_bits
-  hub_back = hub_side b.side _ ∙ hub_from_lem 50 1 b (begun b.side) (omega arith) (omega arith) ∙ ap reading.Parts squares_back
+  hub_back = hub_side b.side _ ∙ hub_from_lem 50 1 b (begun b.side) (omega arith) (omega arith) ∙ ap Ok squares_back

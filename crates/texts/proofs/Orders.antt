@@ -7,7 +7,7 @@ use mathlib.Core.List.{List, [], ◌∷◌}
 use Prim.Native.Nat.{ℕ}
 use lib.Dec.{leb}
 use lib.ListN.{length}
-use Rattle.squares.specs.Told.{numbered_told, result, when, in_order}
+use Rattle.squares.specs.Told.{told, result, when, in_order}
 use Rattle.squares.proofs.Orders.{refused_unless, none_left}
 use Rattle.positions.specs.Acceptance.{sound}
 use Rattle.positions.specs.Boards.{board_of}
@@ -16,28 +16,27 @@ use Rattle.texts.specs.Bytes.{longest_text, readable, read_square, from_str_of}
 use Rattle.texts.specs.Fen.{fen_text, fen_of}
 use Rattle.texts.specs.Hub.{hub_text, hub_of}
 use Rattle.texts.specs.Lent.{emit_of}
-use Rattle.texts.specs.Told.{wrote_told}
 
 pub fen_told : (p : Position) (out : List ℕ)
-    → wrote_told (fen_of p out)
+    → told (fen_of p out)
     ≡ in_order
     (when 12 (not (sound p)) ∷ when 18 (not (leb (length (fen_text (board_of p))) 200)) ∷ when 19 (not (leb (length (fen_text (board_of p))) (length out))) ∷ [])
     (result (length (fen_text (board_of p))))
 unfolding fen_of emit_of
 fen_told p out =
-    refused_unless wrote_told 12 0 (sound p) _ _ _ _ refl
-    (refused_unless wrote_told 18 0 (leb (length (fen_text (board_of p))) 200) _ _ _ _ refl
-    (refused_unless wrote_told 19 0 (leb (length (fen_text (board_of p))) (length out)) _ _ _ _ refl (none_left _)))
+    refused_unless told 12 0 (sound p) _ _ _ _ refl
+    (refused_unless told 18 0 (leb (length (fen_text (board_of p))) 200) _ _ _ _ refl
+    (refused_unless told 19 0 (leb (length (fen_text (board_of p))) (length out)) _ _ _ _ refl (none_left _)))
 
 pub hub_told : (p : Position) (out : List ℕ)
-    → wrote_told (hub_of p out)
+    → told (hub_of p out)
     ≡ in_order (when 12 (not (sound p)) ∷ when 19 (not (leb (length (hub_text (board_of p))) (length out))) ∷ []) (result (length (hub_text (board_of p))))
 unfolding hub_of emit_of
 hub_told p out =
-    refused_unless wrote_told 12 0 (sound p) _ _ _ _ refl
-    (refused_unless wrote_told 19 0 (leb (length (hub_text (board_of p))) (length out)) _ _ _ _ refl (none_left _))
+    refused_unless told 12 0 (sound p) _ _ _ _ refl
+    (refused_unless told 19 0 (leb (length (hub_text (board_of p))) (length out)) _ _ _ _ refl (none_left _))
 
 -- 1, then 4 or the square
-pub from_str_told : (s : List ℕ) → numbered_told (from_str_of s) ≡ in_order (when 1 (not (readable longest_text s)) ∷ []) (numbered_told (read_square s))
+pub from_str_told : (s : List ℕ) → told (from_str_of s) ≡ in_order (when 1 (not (readable longest_text s)) ∷ []) (told (read_square s))
 unfolding from_str_of
-from_str_told s = refused_unless numbered_told 1 0 (readable longest_text s) _ _ _ _ refl (none_left _)
+from_str_told s = refused_unless told 1 0 (readable longest_text s) _ _ _ _ refl (none_left _)

@@ -1,4 +1,5 @@
 -- Reading a square's digits, place by place, and what comes of it: a square, or 4.
+use Rattle.std.specs.Prelude.{Err, Ok, Result}
 use Prim.Native.Nat.{ℕ, ◌+◌, ◌-◌, ◌*◌, ◌≤◌, ◌<◌}
 use mathlib.Core.Path.{◌≡◌, refl, ◌∙◌}
 use mathlib.Core.List.{List, [], ◌∷◌}
@@ -9,15 +10,14 @@ use lib.Dec.{leb}
 use borrow.Author.Tests.{le-leb, lt-leb}
 use Rattle.squares.specs.Squares.{is_square}
 use Rattle.squares.proofs.Numbers.{square_range, range_square}
-use Rattle.squares.specs.declared.square.Numbered.{Numbered}
-use Rattle.squares.specs.declared.square.Numbered.TheVariants as numbered
 use Rattle.squares.specs.declared.refusal.Refusal.TheVariants.{BadSquare}
 use Rattle.texts.specs.Bytes.{in_range, digits_from, number, strip, read_square}
 use Rattle.texts.specs.Parts.{OnSquare}
 use Rattle.texts.proofs.Cuts.{drop_next}
+use Rattle.squares.specs.declared.refusal.Refusal.{Refusal}
 
-abbrev bad : Numbered
-bad = numbered.Refused BadSquare
+abbrev bad : Result ℕ Refusal
+bad = Err BadSquare
 
 same : (t : Bool) → cond t bad bad ≡ bad
 same true = refl
@@ -31,7 +31,7 @@ pub range_low : (v : ℕ) → v ≡ 0 → in_range v ≡ bad
 unfolding in_range is_square
 range_low v e = rw e
 
-pub range_in : (v : ℕ) → (v ≡ 0 → ⊥) → v ≤ 50 → in_range v ≡ numbered.Number v
+pub range_in : (v : ℕ) → (v ≡ 0 → ⊥) → v ≤ 50 → in_range v ≡ Ok v
 unfolding in_range
 range_in v z h = rw (range_square v (omega arith) h)
 
@@ -71,11 +71,11 @@ number_some [] e = absurd (e refl)
 number_some (b ∷ s) e = refl
 
 -- what is read is a square
-on_range : (v : ℕ) (t : Bool) → is_square v ≡ t → OnSquare (cond t (numbered.Number v) bad)
+on_range : (v : ℕ) (t : Bool) → is_square v ≡ t → OnSquare (cond t (Ok v) bad)
 on_range v true p = ((square_range v p).0, (square_range v p).1)
 on_range v false p = tt
 
-on_cond : (t : Bool) (p q : Numbered) → OnSquare p → OnSquare q → OnSquare (cond t p q)
+on_cond : (t : Bool) (p q : Result ℕ Refusal) → OnSquare p → OnSquare q → OnSquare (cond t p q)
 on_cond true p q a b = a
 on_cond false p q a b = b
 

@@ -1,11 +1,10 @@
 -- Texts as lists of bytes: trimming, splitting, joining, and the text of a square (docs/RULES.md, "Square texts").
-use Rattle.std.specs.Prelude.{ℕ, suc, ◌+◌, ◌-◌, ◌*◌, ◌/◌, ◌%◌, List, [], ◌∷◌, ◌++◌, Bool, true, false, cond, ◌&&◌, ◌||◌, length, drop, ltb, leb, eqb}
+use Rattle.std.specs.Prelude.{ℕ, suc, ◌+◌, ◌-◌, ◌*◌, ◌/◌, ◌%◌, List, [], ◌∷◌, ◌++◌, Bool, true, false, cond, ◌&&◌, ◌||◌, length, drop, ltb, leb, eqb, Err, Ok, Result}
 use Prim.Native.Char.{code}
 use Prim.Native.String.{String, [] as []ˢ, ◌∷◌ as ◌∷ˢ◌}
 use Rattle.squares.specs.Squares.{is_square}
-use Rattle.squares.specs.declared.square.Numbered.{Numbered}
-use Rattle.squares.specs.declared.square.Numbered.TheVariants as numbered
 use Rattle.squares.specs.Refusals.{refusal}
+use Rattle.squares.specs.declared.refusal.Refusal.{Refusal}
 
 -- the bytes of an ASCII text
 abbrev pub bytes : String → List ℕ
@@ -105,27 +104,27 @@ strip c [] = []
 strip c (b ∷ s) = cond (eqb b c) s (b ∷ s)
 
 -- ---- the number of a square
-unfoldable pub in_range : ℕ → Numbered
-in_range v = cond (is_square v) (numbered.Number v) (numbered.Refused (refusal 4))
+unfoldable pub in_range : ℕ → Result ℕ Refusal
+in_range v = cond (is_square v) (Ok v) (Err (refusal 4))
 
 -- the number v followed by digits
-unfoldable pub digits_from : ℕ → List ℕ → Numbered
+unfoldable pub digits_from : ℕ → List ℕ → Result ℕ Refusal
 digits_from v [] = in_range v
 digits_from v (b ∷ s) =
-    cond (leb (code "0") b && leb b (code "9")) (digits_from (v * 10 + (b - code "0")) s) (numbered.Refused (refusal 4))
+    cond (leb (code "0") b && leb b (code "9")) (digits_from (v * 10 + (b - code "0")) s) (Err (refusal 4))
 
 -- one digit or more; leading zeros are allowed
-unfoldable pub number : List ℕ → Numbered
-number [] = numbered.Refused (refusal 4)
+unfoldable pub number : List ℕ → Result ℕ Refusal
+number [] = Err (refusal 4)
 number (b ∷ s) = digits_from 0 (b ∷ s)
 
 -- a square's text: an optional +, then digits; the value is 1 to 50
-unfoldable pub read_square : List ℕ → Numbered
+unfoldable pub read_square : List ℕ → Result ℕ Refusal
 read_square s = number (strip (code "+") s)
 
 -- the same as an entry; refusals: 1, 4
-unfoldable pub from_str_of : List ℕ → Numbered
-from_str_of s = cond (readable longest_text s) (read_square s) (numbered.Refused (refusal 1))
+unfoldable pub from_str_of : List ℕ → Result ℕ Refusal
+from_str_of s = cond (readable longest_text s) (read_square s) (Err (refusal 1))
 
 -- a number below 100 in decimal
 unfoldable pub digits : ℕ → List ℕ

@@ -1,30 +1,20 @@
 -- FEN (docs/RULES.md, "FEN"): the text of a board, and the position of a text.
-use Rattle.std.specs.Prelude.{ℕ, ◌+◌, ◌-◌, List, [], ◌∷◌, map, Bool, cond, ◌&&◌, ◌||◌, leb, eqb, length}
+use Rattle.std.specs.Prelude.{ℕ, ◌+◌, ◌-◌, List, [], ◌∷◌, map, Bool, cond, ◌&&◌, ◌||◌, leb, eqb, length, Err, Ok, Result}
 use Prim.Native.Char.{code}
 use Rattle.squares.specs.Sets.{members}
 use Rattle.squares.specs.Squares.{run, square_at_bit, contains_of}
 use Rattle.squares.specs.Pieces.{color_char}
 use Rattle.squares.specs.declared.piece.Color.{Color}
 use Rattle.squares.specs.declared.piece.Color.TheVariants.{White, Black}
-use Rattle.squares.specs.declared.piece.Sided.{Sided}
-use Rattle.squares.specs.declared.piece.Sided.TheVariants as sided
-use Rattle.squares.specs.declared.square.Numbered.{Numbered}
-use Rattle.squares.specs.declared.square.Numbered.TheVariants as numbered
 use Rattle.squares.specs.declared.refusal.Refusal.{Refusal}
 use Rattle.squares.specs.Refusals.{refusal}
 use Rattle.positions.specs.Boards.{Board, board_of}
 use Rattle.positions.specs.Acceptance.{sound}
 use Rattle.positions.specs.declared.position.Position.{Position}
-use Rattle.positions.specs.declared.position.Placed.{Placed}
-use Rattle.positions.specs.declared.position.Placed.TheVariants as placed
 use Rattle.texts.specs.Bytes.{longest_text, readable, blank, is, trim_start, trim_end, trim, split_on, joined, up_to, after_or_all, starts_with, strip, read_square, digits}
 use Rattle.texts.specs.Parts.{with_squares, begun, and_then, placing}
 use Rattle.texts.specs.Lent.{emit_of, emitted}
 use Rattle.texts.specs.declared.parts.Parts.{Parts}
-use Rattle.texts.specs.declared.parts.Reading.{Reading}
-use Rattle.texts.specs.declared.parts.Reading.TheVariants as reading
-use Rattle.texts.specs.declared.bytes.Wrote.{Wrote}
-use Rattle.texts.specs.declared.bytes.Wrote.TheVariants as wrote
 
 -- ---- writing
 
@@ -54,12 +44,12 @@ unfoldable pub field_text : ℕ → ℕ → ℕ → List ℕ
 field_text letter kings s = code ":" ∷ letter ∷ list_text kings s
 
 -- the answer; refusals: 12, then 18 above 200 bytes, then 19
-unfoldable pub fen_of : Position → List ℕ → Wrote
+unfoldable pub fen_of : Position → List ℕ → Result ℕ Refusal
 fen_of p out =
     let t = fen_text (board_of p) in
     cond (sound p)
-    (cond (leb (length t) 200) (emit_of t out) (wrote.Refused (refusal 18)))
-    (wrote.Refused (refusal 12))
+    (cond (leb (length t) 200) (emit_of t out) (Err (refusal 18)))
+    (Err (refusal 12))
 
 -- the lent bytes afterwards
 unfoldable pub fen_lent : Position → List ℕ → List ℕ
@@ -77,69 +67,69 @@ abbrev pub at_colon : ℕ → Bool
 at_colon = is (code ":")
 
 -- the colour of a letter: W, w, B or b
-unfoldable pub fen_color_of : ℕ → Sided
+unfoldable pub fen_color_of : ℕ → Result Color Refusal
 fen_color_of c =
-    cond (eqb c (code "W") || eqb c (code "w")) (sided.Side White)
-    (cond (eqb c (code "B") || eqb c (code "b")) (sided.Side Black) (sided.Refused (refusal 2)))
+    cond (eqb c (code "W") || eqb c (code "w")) (Ok White)
+    (cond (eqb c (code "B") || eqb c (code "b")) (Ok Black) (Err (refusal 2)))
 
 -- k goes on with the colour; where there is none, the refusal is e
-abbrev pub on_color : Refusal → Sided → (Color → Reading) → Reading
-on_color e (sided.Side c) k = k c
-on_color e (sided.Refused f) k = reading.Refused e
+abbrev pub on_color : Refusal → Result Color Refusal → (Color → Result Parts Refusal) → Result Parts Refusal
+on_color e (Ok c) k = k c
+on_color e (Err f) k = Err e
 
 -- one end of a range, or an item that is no range: it is trimmed, and leading Ks are dropped
-unfoldable pub end_of : List ℕ → Numbered
+unfoldable pub end_of : List ℕ → Result ℕ Refusal
 end_of s = read_square (trim_start (is (code "K")) (trim blank s))
 
 -- the squares from lo to hi are added; none where lo is above hi
-abbrev pub ends_of : Color → Bool → Parts → Numbered → Numbered → Reading
-ends_of c king p (numbered.Number lo) (numbered.Number hi) = reading.Parts (with_squares c king (run lo (hi + 1 - lo)) p)
-ends_of c king p (numbered.Number lo) (numbered.Refused e) = reading.Refused e
-ends_of c king p (numbered.Refused e) q = reading.Refused e
+abbrev pub ends_of : Color → Bool → Parts → Result ℕ Refusal → Result ℕ Refusal → Result Parts Refusal
+ends_of c king p (Ok lo) (Ok hi) = Ok (with_squares c king (run lo (hi + 1 - lo)) p)
+ends_of c king p (Ok lo) (Err e) = Err e
+ends_of c king p (Err e) q = Err e
 
 -- an item whose leading K was taken off: a range, cut at its first -, or one square
-unfoldable pub range_of : Color → Bool → Parts → List ℕ → Reading
+unfoldable pub range_of : Color → Bool → Parts → List ℕ → Result Parts Refusal
 range_of c king p s = ends_of c king p (end_of (up_to (code "-") s)) (end_of (after_or_all (code "-") s))
 
 -- a trimmed item; an empty one is skipped, and a leading K makes kings
-unfoldable pub item_of : Color → Parts → List ℕ → Reading
-item_of c p [] = reading.Parts p
+unfoldable pub item_of : Color → Parts → List ℕ → Result Parts Refusal
+item_of c p [] = Ok p
 item_of c p (x ∷ s) = range_of c (starts_with (code "K") (x ∷ s)) p (strip (code "K") (x ∷ s))
 
 -- each part is trimmed and given to `read`, in order: the first refusal, or all that was read
-unfoldable pub read_each : (Parts → List ℕ → Reading) → Parts → List (List ℕ) → Reading
-read_each read p [] = reading.Parts p
+unfoldable pub read_each : (Parts → List ℕ → Result Parts Refusal) → Parts → List (List ℕ) → Result Parts Refusal
+read_each read p [] = Ok p
 read_each read p (f ∷ fs) = and_then (read p (trim blank f)) (λ q. read_each read q fs)
 
-abbrev pub items_of : Color → Parts → List (List ℕ) → Reading
+abbrev pub items_of : Color → Parts → List (List ℕ) → Result Parts Refusal
 items_of c = read_each (item_of c)
 
 -- a trimmed field: its colour, then its items, split at commas
-unfoldable pub field_of : Parts → List ℕ → Reading
-field_of p [] = reading.Refused (refusal 3)
+unfoldable pub field_of : Parts → List ℕ → Result Parts Refusal
+field_of p [] = Err (refusal 3)
 field_of p (x ∷ s) = on_color (refusal 3) (fen_color_of x) (λ c. items_of c p (split_on at_comma s))
 
-abbrev pub fields_of : Parts → List (List ℕ) → Reading
+abbrev pub fields_of : Parts → List (List ℕ) → Result Parts Refusal
 fields_of = read_each field_of
 
 -- the side to move: the trimmed first field is one letter
-unfoldable pub side_of : List ℕ → Sided
-side_of [] = sided.Refused (refusal 2)
+unfoldable pub side_of : List ℕ → Result Color Refusal
+side_of [] = Err (refusal 2)
 side_of (x ∷ []) = fen_color_of x
-side_of (x ∷ (y ∷ s)) = sided.Refused (refusal 2)
+side_of (x ∷ (y ∷ s)) = Err (refusal 2)
 
 -- the side, then the fields after it
-unfoldable pub fen_fields : List (List ℕ) → Reading
-fen_fields [] = reading.Refused (refusal 2)
+unfoldable pub fen_fields : List (List ℕ) → Result Parts Refusal
+fen_fields [] = Err (refusal 2)
 fen_fields (f ∷ fs) = on_color (refusal 2) (side_of (trim blank f)) (λ c. fields_of (begun c) fs)
 
 -- the text without blanks at both ends, then without quotes at both ends, then without dots at the end
 unfoldable pub body : List ℕ → List ℕ
 body s = trim_end (is (code ".")) (trim (is (code "\"")) (trim blank s))
 
-unfoldable pub fen_parts : List ℕ → Reading
+unfoldable pub fen_parts : List ℕ → Result Parts Refusal
 fen_parts s = fen_fields (split_on at_colon (body s))
 
 -- the position of a text; refusals: 1, then 2 to 4 in reading order, then 7, 8
-unfoldable pub from_fen_of : List ℕ → Placed
-from_fen_of s = cond (readable longest_text s) (placing (fen_parts s)) (placed.Refused (refusal 1))
+unfoldable pub from_fen_of : List ℕ → Result Position Refusal
+from_fen_of s = cond (readable longest_text s) (placing (fen_parts s)) (Err (refusal 1))

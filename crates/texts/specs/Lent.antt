@@ -1,13 +1,12 @@
 -- Writing into lent space (docs/RULES.md, "Limits and lent space"): the bytes after a written text stay as they were;
 -- where the text is refused, all of them do.
-use Rattle.std.specs.Prelude.{ℕ, ◌<◌, min, ◌≡◌, List, ◌++◌, cond, length, take, drop, leb}
+use Rattle.std.specs.Prelude.{ℕ, ◌<◌, min, ◌≡◌, List, ◌++◌, cond, length, take, drop, leb, Err, Ok, Result}
 use Rattle.squares.specs.Refusals.{refusal}
-use Rattle.texts.specs.declared.bytes.Wrote.{Wrote}
-use Rattle.texts.specs.declared.bytes.Wrote.TheVariants as wrote
+use Rattle.squares.specs.declared.refusal.Refusal.{Refusal}
 
 -- the answer for the text t and the lent bytes out: the length, or the refusal 19
-unfoldable pub emit_of : List ℕ → List ℕ → Wrote
-emit_of t out = cond (leb (length t) (length out)) (wrote.Length (length t)) (wrote.Refused (refusal 19))
+unfoldable pub emit_of : List ℕ → List ℕ → Result ℕ Refusal
+emit_of t out = cond (leb (length t) (length out)) (Ok (length t)) (Err (refusal 19))
 
 -- the lent bytes afterwards
 unfoldable pub emitted : List ℕ → List ℕ → List ℕ

@@ -3,5 +3,4 @@ pub mod Parts
 pub mod Lent
 pub mod Fen
 pub mod Hub
-pub mod Told
 pub mod Computed

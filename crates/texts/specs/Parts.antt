@@ -1,16 +1,12 @@
 -- The board that is read from a text, before it is accepted: its sets and its side, or the first refusal.
-use Rattle.std.specs.Prelude.{ℕ, ◌≤◌, Bool, cond}
+use Rattle.std.specs.Prelude.{ℕ, ◌≤◌, Bool, cond, Err, Ok, Result}
 use Rattle.std.specs.Int.Bits.{bit_or}
 use Rattle.squares.specs.declared.piece.Color.{Color}
 use Rattle.squares.specs.declared.piece.Color.TheVariants.{White, Black}
-use Rattle.squares.specs.declared.square.Numbered.{Numbered}
-use Rattle.squares.specs.declared.square.Numbered.TheVariants as numbered
 use Rattle.positions.specs.Acceptance.{from_parts_of}
-use Rattle.positions.specs.declared.position.Placed.{Placed}
-use Rattle.positions.specs.declared.position.Placed.TheVariants as placed
 use Rattle.texts.specs.declared.parts.Parts.{Parts}
-use Rattle.texts.specs.declared.parts.Reading.{Reading}
-use Rattle.texts.specs.declared.parts.Reading.TheVariants as reading
+use Rattle.positions.specs.declared.position.Position.{Position}
+use Rattle.squares.specs.declared.refusal.Refusal.{Refusal}
 
 -- a, with the squares of s added where `on` holds
 unfoldable pub added : Bool → ℕ → ℕ → ℕ
@@ -28,16 +24,16 @@ unfoldable pub begun : Color → Parts
 begun c = record { white = 0; black = 0; kings = 0; side = c }
 
 -- a refusal ends the reading
-abbrev pub and_then : Reading → (Parts → Reading) → Reading
-and_then (reading.Parts p) k = k p
-and_then (reading.Refused e) k = reading.Refused e
+abbrev pub and_then : Result Parts Refusal → (Parts → Result Parts Refusal) → Result Parts Refusal
+and_then (Ok p) k = k p
+and_then (Err e) k = Err e
 
 -- the position of the board that was read; refusals: the one met in reading, else 7, 8
-abbrev pub placing : Reading → Placed
-placing (reading.Parts p) = from_parts_of p.white p.black p.kings p.side
-placing (reading.Refused e) = placed.Refused e
+abbrev pub placing : Result Parts Refusal → Result Position Refusal
+placing (Ok p) = from_parts_of p.white p.black p.kings p.side
+placing (Err e) = Err e
 
 -- a number that was read is that of a square
-abbrev pub OnSquare : Numbered → Type 0
-OnSquare (numbered.Number n) = (1 ≤ n) × (n ≤ 50)
-OnSquare (numbered.Refused e) = Unit
+abbrev pub OnSquare : Result ℕ Refusal → Type 0
+OnSquare (Ok n) = (1 ≤ n) × (n ≤ 50)
+OnSquare (Err e) = Unit

@@ -4,7 +4,6 @@
 #![tactic(auto)]
 
 use squares::piece::{Color, PieceKind};
-use squares::square::Numbered;
 use squares::{square, zobrist};
 use std::io;
 
@@ -32,10 +31,10 @@ fn keys(rt: &impl Print, color: Color, kind: PieceKind) -> io::Result<()> {
 }
 
 // A number, or `!` and the refusal's number.
-fn show(rt: &impl Print, n: Numbered) -> io::Result<()> {
+fn show(rt: &impl Print, n: Result<u32, Refusal>) -> io::Result<()> {
     match n {
-        Numbered::Number(x) => print!(rt; "{x}"),
-        Numbered::Refused(e) => print!(rt; "!{}", e.number()),
+        Ok(x) => print!(rt; "{x}"),
+        Err(e) => print!(rt; "!{}", e.number()),
     }
 }
 

@@ -1,4 +1,5 @@
 -- A number as it is given: what the code's tests say of it. More digits than the limit has are no number, so a line may be cut.
+use Rattle.std.specs.Prelude.{None}
 use Prim.Native.Nat.{ℕ, zero, suc, ◌+◌, ◌*◌, ◌^◌, ◌≤◌, ◌<◌}
 use mathlib.Core.Path.{◌≡◌, refl, sym, ap, ◌∙◌, subst}
 use mathlib.Core.Bool.{Bool, true, false, cond, ◌&&◌}
@@ -11,12 +12,11 @@ use lib.Seq.{take_all}
 use borrow.Author.Tests.{eqb-false, eq-eqb, ne_eqb, ltb-true, ltb-false, leb-true, leb-false}
 use Rattle.squares.proofs.Bools.{and_left, and_right}
 use Rattle.wording.specs.Numbers.{digit_of, value_from, number_in, needless, given_of}
-use Rattle.wording.specs.declared.numbers.Parsed.{Parsed}
-use Rattle.wording.specs.declared.numbers.Parsed.TheVariants as parsed
 use Rattle.wording.proofs.Values.{below_digits, decimal_digit, below_capitals, capital_digit, below_letters, letter_digit, above_letters}
+use Rattle.std.specs.declared.option.Option.{Option}
 
 -- ---- the code's tests
-pub given_zero : (limit : ℕ) (s : List ℕ) → 1 < length s → get_or s 0 0 ≡ 48 → given_of limit s ≡ parsed.Bad
+pub given_zero : (limit : ℕ) (s : List ℕ) → 1 < length s → get_or s 0 0 ≡ 48 → given_of limit s ≡ None
 unfolding given_of needless
 given_zero limit [] h e = absurd (omega arith)
 given_zero limit (b ∷ []) h e = absurd (omega arith)
@@ -50,8 +50,8 @@ digit_is b h = go (ltb b 48) refl (leb b 57) refl (ltb b 65) refl (leb b 70) ref
 
 -- ---- too many digits for the limit
 module _ (limit : ℕ) where
-  abbrev picked : ℕ → ℕ → List ℕ → Bool → Parsed
-  picked v b s t = cond t (value_from 10 limit (v * 10 + digit_of b) s) parsed.Bad
+  abbrev picked : ℕ → ℕ → List ℕ → Bool → Option ℕ
+  picked v b s t = cond t (value_from 10 limit (v * 10 + digit_of b) s) None
 
   grown : (v d p : ℕ) → limit < v * (p * 10) → limit < (v * 10 + d) * p
   grown v d p h =
@@ -59,12 +59,12 @@ module _ (limit : ℕ) where
       let l : v * 10 * p ≤ (v * 10 + d) * p = mul-le-mul_right p (omega arith) in
       omega (arith, e, l)
 
-  long_bad : (k v : ℕ) (s : List ℕ) → suc k ≤ length s → limit < v * 10 ^ suc k → value_from 10 limit v s ≡ parsed.Bad
+  long_bad : (k v : ℕ) (s : List ℕ) → suc k ≤ length s → limit < v * 10 ^ suc k → value_from 10 limit v s ≡ None
   unfolding value_from
   long_bad k v [] h l = absurd (omega arith)
   long_bad zero v (b ∷ s) h l = go (ltb (digit_of b) 10 && leb (v * 10 + digit_of b) limit) refl
     where
-      go : (t : Bool) → (ltb (digit_of b) 10 && leb (v * 10 + digit_of b) limit) ≡ t → picked v b s t ≡ parsed.Bad
+      go : (t : Bool) → (ltb (digit_of b) 10 && leb (v * 10 + digit_of b) limit) ≡ t → picked v b s t ≡ None
       go false e = refl
       go true e =
           let q : 10 ^ 1 ≡ 10 = refl in
@@ -73,17 +73,17 @@ module _ (limit : ℕ) where
       go (ltb (digit_of b) 10 && leb (v * 10 + digit_of b) limit)
       (long_bad k (v * 10 + digit_of b) s (omega arith) (grown v (digit_of b) (10 ^ suc k) (subst (λ (x : ℕ). limit < v * x) (pow-suc 10 (suc k)) l)))
     where
-      go : (t : Bool) → value_from 10 limit (v * 10 + digit_of b) s ≡ parsed.Bad → picked v b s t ≡ parsed.Bad
+      go : (t : Bool) → value_from 10 limit (v * 10 + digit_of b) s ≡ None → picked v b s t ≡ None
       go false ih = refl
       go true ih = ih
 
-  pub given_long : (k : ℕ) (s : List ℕ) → suc (suc k) ≤ length s → limit < 10 ^ suc k → given_of limit s ≡ parsed.Bad
+  pub given_long : (k : ℕ) (s : List ℕ) → suc (suc k) ≤ length s → limit < 10 ^ suc k → given_of limit s ≡ None
   unfolding given_of needless number_in value_from
   given_long k [] h l = absurd (omega arith)
   given_long k (b ∷ []) h l = absurd (omega arith)
   given_long k (b ∷ (c ∷ s)) h l = go (eqb b 48) refl (ltb (digit_of b) 10 && leb (0 * 10 + digit_of b) limit) refl
     where
-      go : (t : Bool) → eqb b 48 ≡ t → (u : Bool) → (ltb (digit_of b) 10 && leb (0 * 10 + digit_of b) limit) ≡ u → cond t parsed.Bad (picked 0 b (c ∷ s) u) ≡ parsed.Bad
+      go : (t : Bool) → eqb b 48 ≡ t → (u : Bool) → (ltb (digit_of b) 10 && leb (0 * 10 + digit_of b) limit) ≡ u → cond t None (picked 0 b (c ∷ s) u) ≡ None
       go true e u f = refl
       go false e false f = refl
       go false e true f =

@@ -1,4 +1,5 @@
 -- Digits and numbers, place by place.
+use Rattle.std.specs.Prelude.{None, Some}
 use Prim.Native.Nat.{ℕ, ◌+◌, ◌-◌, ◌*◌, ◌/◌, ◌≤◌, ◌<◌}
 use mathlib.Core.Path.{◌≡◌, refl, ap, sym, ◌∙◌, subst}
 use mathlib.Core.List.{List, [], ◌∷◌}
@@ -11,11 +12,9 @@ use lib.IntN.{pos, neg_ℤ}
 use borrow.Author.Tests.{le-leb, lt-leb, lt-ltb, le-ltb, eq-eqb, ne_eqb, leb-true}
 use Rattle.squares.proofs.Bools.{and_right}
 use Rattle.texts.specs.Bytes.{strip}
-use Rattle.wording.specs.declared.numbers.Signed.TheVariants as signed
 use Rattle.texts.proofs.Cuts.{drop_next}
 use Rattle.wording.specs.Numbers.{AtMost, digit_of, value_from, number_in, without_prefix, positive_of, negative_of, signed_of}
-use Rattle.wording.specs.declared.numbers.Parsed.{Parsed}
-use Rattle.wording.specs.declared.numbers.Parsed.TheVariants as parsed
+use Rattle.std.specs.declared.option.Option.{Option}
 
 -- ---- digits
 module _ (b : ℕ) where
@@ -48,7 +47,7 @@ module _ (b : ℕ) where
   above_letters h = rw (le-leb 48 b (omega arith), lt-leb b 57 (omega arith), le-leb 65 b (omega arith), lt-leb b 70 (omega arith), le-leb 97 b (omega arith), lt-leb b 102 h)
 
 -- ---- numbers
-pub number_none : (base limit : ℕ) (s : List ℕ) → length s ≡ 0 → number_in base limit s ≡ parsed.Bad
+pub number_none : (base limit : ℕ) (s : List ℕ) → length s ≡ 0 → number_in base limit s ≡ None
 unfolding number_in
 number_none base limit [] e = refl
 number_none base limit (b ∷ s) e = absurd (omega arith)
@@ -58,16 +57,16 @@ unfolding number_in
 number_some base limit [] e = absurd (e refl)
 number_some base limit (b ∷ s) e = refl
 
-both : (t : Bool) (p : Parsed) → cond (t && false) p parsed.Bad ≡ parsed.Bad
+both : (t : Bool) (p : Option ℕ) → cond (t && false) p None ≡ None
 both true p = refl
 both false p = refl
 
 module _ (base limit v : ℕ) (s : List ℕ) (i d : ℕ) (h : i < length s) (e : d ≡ digit_of (get_or s i 0)) where
-  pub no_digit : base ≤ d → value_from base limit v (drop i s) ≡ parsed.Bad
+  pub no_digit : base ≤ d → value_from base limit v (drop i s) ≡ None
   unfolding value_from
   no_digit k = rw (drop_next s i h, ← e, le-ltb d base k)
 
-  pub past_limit : limit < v * base + d → value_from base limit v (drop i s) ≡ parsed.Bad
+  pub past_limit : limit < v * base + d → value_from base limit v (drop i s) ≡ None
   unfolding value_from
   past_limit k = rw (drop_next s i h, ← e, lt-leb (v * base + d) limit k) (both (ltb d base) _)
 
@@ -75,12 +74,12 @@ module _ (base limit v : ℕ) (s : List ℕ) (i d : ℕ) (h : i < length s) (e :
   unfolding value_from
   next_digit k l = rw (drop_next s i h, ← e, lt-ltb d base k, le-leb (v * base + d) limit l)
 
-pub value_end : (base limit v : ℕ) (s : List ℕ) (i : ℕ) → length s ≤ i → value_from base limit v (drop i s) ≡ parsed.Value v
+pub value_end : (base limit v : ℕ) (s : List ℕ) (i : ℕ) → length s ≤ i → value_from base limit v (drop i s) ≡ Some v
 unfolding value_from
 value_end base limit v s i h = rw (drop_of_length-le s h)
 
 -- what is read is at most the limit
-at_most_cond : (k : ℕ) (t : Bool) (p : Parsed) → (t ≡ true → AtMost k p) → AtMost k (cond t p parsed.Bad)
+at_most_cond : (k : ℕ) (t : Bool) (p : Option ℕ) → (t ≡ true → AtMost k p) → AtMost k (cond t p None)
 at_most_cond k true p a = a refl
 at_most_cond k false p a = tt
 
@@ -97,8 +96,8 @@ number_limit base limit [] = tt
 number_limit base limit (b ∷ s) = value_limit base limit 0 (b ∷ s) (omega arith)
 
 -- both clauses of the contract from the first
-pub limited : (base limit : ℕ) (s : List ℕ) (r : Parsed) → r ≡ number_in base limit s → (r ≡ number_in base limit s) × AtMost limit r
-limited base limit s r e = (e, subst (λ (x : Parsed). AtMost limit x) (sym e) (number_limit base limit s))
+pub limited : (base limit : ℕ) (s : List ℕ) (r : Option ℕ) → r ≡ number_in base limit s → (r ≡ number_in base limit s) × AtMost limit r
+limited base limit s r e = (e, subst (λ (x : Option ℕ). AtMost limit x) (sym e) (number_limit base limit s))
 
 -- what the quotient says of the product
 pub over : (limit base v d : ℕ) → 0 < base → limit / base < v → limit < v * base + d
@@ -147,7 +146,7 @@ pub prefix_end : (s : List ℕ) (i : ℕ) → length s ≤ i + 1 → without_pre
 prefix_end s i h = prefix_short (drop i s) (simp lib.ListN.length-drop (omega arith))
 
 -- ---- signs
-pub signed_none : (s : List ℕ) → length s ≡ 0 → signed_of s ≡ signed.Bad
+pub signed_none : (s : List ℕ) → length s ≡ 0 → signed_of s ≡ None
 unfolding signed_of
 signed_none [] e = refl
 signed_none (b ∷ s) e = absurd (omega arith)
@@ -162,8 +161,8 @@ unfolding signed_of
 signed_plus [] h e = absurd (h refl)
 signed_plus (b ∷ s) h e = rw (ne_eqb b 45 e)
 
-pub negative_low : (n : ℕ) → n ≤ 2147483647 → negative_of (parsed.Value n) ≡ signed.Value (neg_ℤ (pos n))
+pub negative_low : (n : ℕ) → n ≤ 2147483647 → negative_of (Some n) ≡ Some (neg_ℤ (pos n))
 negative_low n h = rw (le-leb n 2147483648 (omega arith))
 
-pub negative_high : (n : ℕ) → 2147483647 < n → (n ≡ 2147483648 → ⊥) → negative_of (parsed.Value n) ≡ signed.Bad
+pub negative_high : (n : ℕ) → 2147483647 < n → (n ≡ 2147483648 → ⊥) → negative_of (Some n) ≡ None
 negative_high n h e = rw (lt-leb n 2147483648 (omega (arith, e)))

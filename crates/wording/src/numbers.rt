@@ -9,18 +9,6 @@ ghost use Rattle.wording.specs.Numbers.{digit_of, AtMost, number_in, unsigned_of
 
 use texts::bytes;
 
-#[derive(Clone, Copy)]
-pub enum Parsed {
-    Value(u64),
-    Bad,
-}
-
-#[derive(Clone, Copy)]
-pub enum Signed {
-    Value(i32),
-    Bad,
-}
-
 // The value of a hexadecimal digit in either case; 16 where the byte is no digit.
 pub(crate) fn digit(b: u8) -> u8
     ensures value { result ≡ digit_of b }
@@ -48,46 +36,46 @@ pub(crate) fn digit(b: u8) -> u8
 }
 
 // Reads one digit or more of this base; the value is at most the limit.
-fn number(s: &[u8], base: u64, limit: u64) -> Parsed
+fn number(s: &[u8], base: u64, limit: u64) -> Option<u64>
     requires { 0 < base }
     ensures { (result ≡ number_in base limit s.now) × AtMost limit result }
 {
     if s.len() == 0 {
-        return Parsed::Bad;
+        return None;
     }
     let mut v: u64 = 0;
     let mut i = 0;
     while i < s.len() {
         let d = digit(s[i]) as u64;
         if base <= d {
-            return Parsed::Bad;
+            return None;
         }
         if limit / base < v {
-            return Parsed::Bad;
+            return None;
         }
         if limit - v * base < d {
-            return Parsed::Bad;
+            return None;
         }
         v = v * base + d;
         i += 1;
     }
-    Parsed::Value(v)
+    Some(v)
 }
 
 // An unsigned number of 32 bits.
-pub fn unsigned(s: &[u8]) -> Parsed
+pub fn unsigned(s: &[u8]) -> Option<u64>
     ensures { (result ≡ unsigned_of s.now) × AtMost (2 ^ 32 - 1) result }
 {
     number(bytes::strip(s, b'+'), 10, 0xFFFF_FFFF)
 }
 
 // A decimal number: digits alone, no sign, no needless zero at the start, at most the limit. Each number has one text.
-pub fn given(s: &[u8], limit: u64) -> Parsed
+pub fn given(s: &[u8], limit: u64) -> Option<u64>
     ensures { (result ≡ given_of limit s.now) × AtMost limit result }
 {
     if 1 < s.len() {
         if s[0] == b'0' {
-            return Parsed::Bad;
+            return None;
         }
         return number(s, 10, limit);
     }
@@ -112,7 +100,7 @@ fn without_prefix(s: &[u8]) -> &[u8]
 }
 
 // A set of 64 bits in hexadecimal.
-pub fn set(s: &[u8]) -> Parsed
+pub fn set(s: &[u8]) -> Option<u64>
     ensures { result ≡ set_of s.now }
 {
     number(
@@ -123,44 +111,44 @@ pub fn set(s: &[u8]) -> Parsed
 }
 
 // The number itself, up to 2^31 - 1.
-fn positive(n: Parsed) -> Signed
+fn positive(n: Option<u64>) -> Option<i32>
     ensures { result ≡ positive_of n }
 {
     match n {
-        Parsed::Value(v) => {
+        Some(v) => {
             if v <= 0x7FFF_FFFF {
-                return Signed::Value(v as i32);
+                return Some(v as i32);
             }
-            Signed::Bad
+            None
         }
-        Parsed::Bad => Signed::Bad,
+        None => None,
     }
 }
 
 // The number with its sign changed, down to -2^31. That smallest number has no opposite of 32 bits.
-fn negative(n: Parsed) -> Signed
+fn negative(n: Option<u64>) -> Option<i32>
     ensures { result ≡ negative_of n }
 {
     match n {
-        Parsed::Value(v) => {
+        Some(v) => {
             if v <= 0x7FFF_FFFF {
-                return Signed::Value(-(v as i32));
+                return Some(-(v as i32));
             }
             if v == 0x8000_0000 {
-                return Signed::Value(-0x7FFF_FFFF - 1);
+                return Some(-0x7FFF_FFFF - 1);
             }
-            Signed::Bad
+            None
         }
-        Parsed::Bad => Signed::Bad,
+        None => None,
     }
 }
 
 // A signed number of 32 bits.
-pub fn read_signed(s: &[u8]) -> Signed
+pub fn read_signed(s: &[u8]) -> Option<i32>
     ensures { result ≡ signed_of s.now }
 {
     if s.len() == 0 {
-        return Signed::Bad;
+        return None;
     }
     if s[0] == b'-' {
         return negative(number(&s[1..], 10, 0xFFFF_FFFF));

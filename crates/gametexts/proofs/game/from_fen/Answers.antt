@@ -2,10 +2,10 @@
 use Rattle.gametexts.specs.Texts.{game_from_fen_of}
 use Rattle.gametexts.proofs.game.from_fen.Goals as goal
 
-pub returns-in-Position : goal.returns-in-Position
+pub returns-in-Ok : goal.returns-in-Ok
 unfolding game_from_fen_of
-returns-in-Position c = rw (← c.from_fen.ensures, c.in-Position.is) c.from_position.ensures
+returns-in-Ok c = rw (← c.from_fen.ensures, c.in-Ok.is) c.from_position.ensures
 
-pub returns-in-Refused : goal.returns-in-Refused
+pub returns-in-Err : goal.returns-in-Err
 unfolding game_from_fen_of
-returns-in-Refused c = rw (← c.from_fen.ensures, c.in-Refused.is) c.not_begun.ensures
+returns-in-Err c = rw (← c.from_fen.ensures, c.in-Err.is) c.not_begun.ensures

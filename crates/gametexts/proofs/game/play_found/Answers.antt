@@ -3,8 +3,8 @@ use mathlib.Core.Path.{ap, ◌∙◌}
 use Rattle.gametexts.specs.Texts.{beside}
 use Rattle.gametexts.proofs.game.play_found.Goals as goal
 
-pub returns-in-Move : goal.returns-in-Move
-returns-in-Move c = rw c.in-Move.is (c.beside.ensures ∙ ap (beside _) c.play.ensures)
+pub returns-in-Ok : goal.returns-in-Ok
+returns-in-Ok c = rw c.in-Ok.is (c.beside.ensures ∙ ap (beside _) c.play.ensures)
 
-pub returns-in-Refused : goal.returns-in-Refused
-returns-in-Refused c = rw c.in-Refused.is c.refused_text.ensures
+pub returns-in-Err : goal.returns-in-Err
+returns-in-Err c = rw c.in-Err.is c.refused_text.ensures

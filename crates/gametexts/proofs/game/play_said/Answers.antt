@@ -7,14 +7,14 @@ use Rattle.gametexts.proofs.game.play_said.Goals as goal
 pub returns-then-over : goal.returns-then-over
 unfolding play_said
 returns-then-over c =
-    let e = over_at c.args.g c.requires.g_value _ (sym c.is_over.ensures ∙ c.in-Is.is) ∙ c.if-over.true in
+    let e = over_at c.args.g c.requires.g_value _ (sym c.is_over.ensures ∙ c.in-Ok.is) ∙ c.if-over.true in
     rw e c.refused_text.ensures
 
 pub returns-else-over : goal.returns-else-over
 unfolding play_said
 returns-else-over c =
-    let e = over_at c.args.g c.requires.g_value _ (sym c.is_over.ensures ∙ c.in-Is.is) ∙ c.if-over.false in
+    let e = over_at c.args.g c.requires.g_value _ (sym c.is_over.ensures ∙ c.in-Ok.is) ∙ c.if-over.false in
     rw (e, ← c.requires.p_value, ← c.fit.ensures) c.play_found.ensures
 
-pub returns-in-Refused : goal.returns-in-Refused
-returns-in-Refused c = over_not c.args.g c.requires.g_value _ (sym c.is_over.ensures ∙ c.in-Refused.is)
+pub returns-in-Err : goal.returns-in-Err
+returns-in-Err c = over_not c.args.g c.requires.g_value _ (sym c.is_over.ensures ∙ c.in-Err.is)

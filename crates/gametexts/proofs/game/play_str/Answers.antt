@@ -6,24 +6,24 @@ use Rattle.gametexts.proofs.game.play_str.Goals as goal
 
 pub play_said-requires : goal.play_said-requires
 play_said-requires c =
-    let q = stands_at c.args.g _ (sym c.position.ensures ∙ c.in-Position.is) in
+    let q = stands_at c.args.g _ (sym c.position.ensures ∙ c.in-Ok.is) in
     record { g_value = q.0; p_value = q.1 }
 
-pub returns-in-Said : goal.returns-in-Said
+pub returns-in-Ok : goal.returns-in-Ok
 unfolding play_str_of
-returns-in-Said c =
-    let q = stands_at c.args.g _ (sym c.position.ensures ∙ c.in-Position.is) in
-    rw (q.0, ← c.read_move.ensures, c.in-Said.is) c.play_said.ensures
+returns-in-Ok c =
+    let q = stands_at c.args.g _ (sym c.position.ensures ∙ c.in-Ok.is) in
+    rw (q.0, ← c.read_move.ensures, c.in-Ok.is) c.play_said.ensures
 
-pub returns-in-Refused-read_move : goal.returns-in-Refused-read_move
+pub returns-in-Err-read_move : goal.returns-in-Err-read_move
 unfolding play_str_of
-returns-in-Refused-read_move c =
-    let q = stands_at c.args.g _ (sym c.position.ensures ∙ c.in-Position.is) in
-    rw (q.0, ← c.read_move.ensures, c.in-Refused-read_move.is) c.refused_text.ensures
+returns-in-Err-read_move c =
+    let q = stands_at c.args.g _ (sym c.position.ensures ∙ c.in-Ok.is) in
+    rw (q.0, ← c.read_move.ensures, c.in-Err-read_move.is) c.refused_text.ensures
 
-pub returns-in-Refused : goal.returns-in-Refused
+pub returns-in-Err : goal.returns-in-Err
 unfolding play_str_of
-returns-in-Refused c =
+returns-in-Err c =
     let g = c.args.g in
-    let q = stands_not g _ (sym c.position.ensures ∙ c.in-Refused.is) in
-    rw q.0 (c.refused_text-in-Refused.ensures ∙ ap (refused_text g) q.1)
+    let q = stands_not g _ (sym c.position.ensures ∙ c.in-Err.is) in
+    rw q.0 (c.refused_text-in-Err.ensures ∙ ap (refused_text g) q.1)

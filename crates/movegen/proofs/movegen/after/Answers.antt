@@ -1,8 +1,8 @@
 -- Refusals in the order of docs/REFUSALS.md. A listed move can be played, and the result is the successor with its
 -- hash.
+use Rattle.std.specs.Prelude.{Ok}
 use mathlib.Core.Path.{◌≡◌, refl, sym, ap, ◌∙◌}
 use mathlib.Core.Bool.{true}
-use Rattle.positions.specs.declared.position.Placed.TheVariants as placed
 use Rattle.quiets.specs.declared.quiets.Listing.{Listing}
 use Rattle.movegen.specs.Lists.{after_of}
 use Rattle.movegen.proofs.Generated.{generated_is}
@@ -27,7 +27,7 @@ returns-then-contains c =
     let l = generated_is p e _ c.of.ensures _ c.generate-l.ensures in
     let f = sym (ap (λ (l : Listing). l.overflow) l) ∙ c.if-l.false in
     let there : c.contains.result ≡ true = c.if-contains.true in
-    ap placed.Position c.play.ensures
+    ap Ok c.play.ensures
     ∙ played_one p m e f (sym (found_law _ _ m l c.if-l.false) ∙ sym c.contains.ensures ∙ there) ∙ after_at p m e q
 
 pub returns-then-on_board : goal.returns-then-on_board

@@ -41,17 +41,17 @@ count-requires t c = (
 
 pub overflow_add-sum : goal.overflow_add-sum
 overflow_add-sum t c =
-    omega (arith, sum_fits c.args.v c.requires.0 _ c.generate-l.ensures c.if-l.false (c.args.depth - 1) _ _ c.loop-i.invariant.1 c.loop-i-test.true _ c.next.ensures (omega (arith, c.requires.1)) _ c.count.ensures _ c.in-Count.is)
+    omega (arith, sum_fits c.args.v c.requires.0 _ c.generate-l.ensures c.if-l.false (c.args.depth - 1) _ _ c.loop-i.invariant.1 c.loop-i-test.true _ c.next.ensures (omega (arith, c.requires.1)) _ c.count.ensures _ c.in-Ok.is)
 
-pub returns-in-Refused : goal.returns-in-Refused
-returns-in-Refused t c =
-    sum_refused c.args.v c.requires.0 _ c.generate-l.ensures c.if-l.false (c.args.depth - 1) _ _ c.loop-i.invariant.1 c.loop-i-test.true _ c.next.ensures (omega (arith, c.requires.1)) _ c.count.ensures _ c.in-Refused.is
+pub returns-in-Err : goal.returns-in-Err
+returns-in-Err t c =
+    sum_refused c.args.v c.requires.0 _ c.generate-l.ensures c.if-l.false (c.args.depth - 1) _ _ c.loop-i.invariant.1 c.loop-i-test.true _ c.next.ensures (omega (arith, c.requires.1)) _ c.count.ensures _ c.in-Err.is
     ∙ one_more c.args.depth (seen c.args.v) c.if-depth-eq0.false
 
 pub loop-i-preserved : goal.loop-i-preserved
 loop-i-preserved t c = (
   omega arith,
-  sum_again c.args.v c.requires.0 _ c.generate-l.ensures c.if-l.false (c.args.depth - 1) _ _ c.loop-i.invariant.1 c.loop-i-test.true _ c.next.ensures (omega (arith, c.requires.1)) _ c.count.ensures _ c.in-Count.is,
+  sum_again c.args.v c.requires.0 _ c.generate-l.ensures c.if-l.false (c.args.depth - 1) _ _ c.loop-i.invariant.1 c.loop-i-test.true _ c.next.ensures (omega (arith, c.requires.1)) _ c.count.ensures _ c.in-Ok.is,
 )
 
 pub returns : goal.returns

@@ -41,12 +41,12 @@ bounds-counts-i c =
     let d = c.loop-i.invariant.1 in
     in_array c.args.v c.requires.0 _ c.generate-l.ensures c.if-l.false c.args.plies _ _ d.counting c.loop-i-test.true
 
-pub returns-in-Refused : goal.returns-in-Refused
-returns-in-Refused c =
+pub returns-in-Err : goal.returns-in-Err
+returns-in-Err c =
     let d = c.loop-i.invariant.1 in
     let h = c.loop-i-test.true in
-    c.refused-in-Refused.ensures
-    ∙ divided_refused c.args.plies (seen c.args.v) _ (sym (sum_refused c.args.v c.requires.0 _ c.generate-l.ensures c.if-l.false c.args.plies _ _ d.counting h _ c.next.ensures c.requires.1 _ c.count.ensures _ c.in-Refused.is))
+    c.refused-in-Err.ensures
+    ∙ divided_refused c.args.plies (seen c.args.v) _ (sym (sum_refused c.args.v c.requires.0 _ c.generate-l.ensures c.if-l.false c.args.plies _ _ d.counting h _ c.next.ensures c.requires.1 _ c.count.ensures _ c.in-Err.is))
 
 pub loop-i-preserved : goal.loop-i-preserved
 loop-i-preserved c =
@@ -55,8 +55,8 @@ loop-i-preserved c =
     let w = listing_short c.args.v c.requires.0 _ c.generate-l.ensures c.if-l.false c.args.plies _ _ d.counting in (
       omega (arith, h),
       dividing_more c.args.plies (seen c.args.v) _ _ _ d (omega (arith, w.len, h)) (omega (arith, w.len, w.few, h))
-          (sum_below c.args.v c.requires.0 _ c.generate-l.ensures c.if-l.false c.args.plies _ _ d.counting h _ c.next.ensures _ _ c.count.ensures c.in-Count.is)
-          (sum_again c.args.v c.requires.0 _ c.generate-l.ensures c.if-l.false c.args.plies _ _ d.counting h _ c.next.ensures c.requires.1 _ c.count.ensures _ c.in-Count.is),
+          (sum_below c.args.v c.requires.0 _ c.generate-l.ensures c.if-l.false c.args.plies _ _ d.counting h _ c.next.ensures _ _ c.count.ensures c.in-Ok.is)
+          (sum_again c.args.v c.requires.0 _ c.generate-l.ensures c.if-l.false c.args.plies _ _ d.counting h _ c.next.ensures c.requires.1 _ c.count.ensures _ c.in-Ok.is),
     )
 
 pub returns : goal.returns

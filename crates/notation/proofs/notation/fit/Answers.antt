@@ -4,9 +4,9 @@ use Rattle.notation.specs.Choice.{answered}
 use Rattle.notation.proofs.Search.{fit_done, fit_refused}
 use Rattle.notation.proofs.notation.fit.Goals as goal
 
-pub returns-in-Done : goal.returns-in-Done
-returns-in-Done c =
-    c.answered.ensures ∙ ap answered c.choose.ensures ∙ fit_done c.args.p c.args.said c.legal_moves-l.result c.legal_moves-l.ensures c.in-Done.is
+pub returns-in-Ok : goal.returns-in-Ok
+returns-in-Ok c =
+    c.answered.ensures ∙ ap answered c.choose.ensures ∙ fit_done c.args.p c.args.said c.legal_moves-l.result c.legal_moves-l.ensures c.in-Ok.is
 
-pub returns-in-Refused : goal.returns-in-Refused
-returns-in-Refused c = fit_refused c.args.p c.args.said c.legal_moves-l.result _ c.legal_moves-l.ensures c.in-Refused.is
+pub returns-in-Err : goal.returns-in-Err
+returns-in-Err c = fit_refused c.args.p c.args.said c.legal_moves-l.result _ c.legal_moves-l.ensures c.in-Err.is

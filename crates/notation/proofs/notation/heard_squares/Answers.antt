@@ -9,9 +9,9 @@ use Rattle.notation.proofs.notation.heard_squares.Goals as goal
 pub loop-at-init : goal.loop-at-init
 loop-at-init c = (omega arith, (omega (arith, ap (λ (h : Said). h.count) c.unsaid-h.ensures, none c.args.capture), refl))
 
-pub returns-in-Refused : goal.returns-in-Refused
-returns-in-Refused c =
-    sym (opened c.args.c c.args.s.now c.unsaid-h.result c.args.capture c.unsaid-h.ensures ∙ c.loop-at.invariant.1.1 ∙ heard_turn c.args.c c.args.s.now c.loop-at.at _ c.loop-at.h _ (omega arith) c.up_to-text.ensures c.read_square.ensures ∙ rw c.in-Refused.is)
+pub returns-in-Err : goal.returns-in-Err
+returns-in-Err c =
+    sym (opened c.args.c c.args.s.now c.unsaid-h.result c.args.capture c.unsaid-h.ensures ∙ c.loop-at.invariant.1.1 ∙ heard_turn c.args.c c.args.s.now c.loop-at.at _ c.loop-at.h _ (omega arith) c.up_to-text.ensures c.read_square.ensures ∙ rw c.in-Err.is)
 
 pub overflow_add-at : goal.overflow_add-at
 overflow_add-at c = omega (arith, part_fits c.args.c c.args.s.now c.loop-at.at _ (omega arith) c.up_to-text.ensures)
@@ -25,7 +25,7 @@ loop-at-preserved c = (
   omega (arith, part_fits c.args.c c.args.s.now c.loop-at.at _ (omega arith) c.up_to-text.ensures),
   (
     omega (arith, c.loop-at.invariant.1.0, ap (λ (h : Said). h.count) c.heard_square-h.ensures ∙ one_more c.loop-at.h _),
-    c.loop-at.invariant.1.1 ∙ heard_turn c.args.c c.args.s.now c.loop-at.at _ c.loop-at.h _ (omega arith) c.up_to-text.ensures c.read_square.ensures ∙ rw (c.in-Number.is, ← c.heard_square-h.ensures),
+    c.loop-at.invariant.1.1 ∙ heard_turn c.args.c c.args.s.now c.loop-at.at _ c.loop-at.h _ (omega arith) c.up_to-text.ensures c.read_square.ensures ∙ rw (c.in-Ok.is, ← c.heard_square-h.ensures),
   ),
 )
 

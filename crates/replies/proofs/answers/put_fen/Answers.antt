@@ -7,16 +7,16 @@ use Rattle.replies.proofs.answers.put_fen.Goals as goal
 
 pub slice_bounds-space-end : goal.slice_bounds-space-end
 slice_bounds-space-end c =
-    (told.fen_told c.args.p _ refl _ _ _ c.fen.ensures.value c.fen.ensures.out_after c.in-Length.is).within
+    (told.fen_told c.args.p _ refl _ _ _ c.fen.ensures.value c.fen.ensures.out_after c.in-Ok.is).within
 
 pub slice_bounds-put-end : goal.slice_bounds-put-end
 slice_bounds-put-end c =
-    sym (length-take-le _ _ (told.fen_told c.args.p _ refl _ _ _ c.fen.ensures.value c.fen.ensures.out_after c.in-Length.is).within)
+    sym (length-take-le _ _ (told.fen_told c.args.p _ refl _ _ _ c.fen.ensures.value c.fen.ensures.out_after c.in-Ok.is).within)
 
-pub returns-in-Length : goal.returns-in-Length
-returns-in-Length c =
-    laws.adds_as (told.fen_told c.args.p _ refl _ _ _ c.fen.ensures.value c.fen.ensures.out_after c.in-Length.is).text c.put.ensures
+pub returns-in-Ok : goal.returns-in-Ok
+returns-in-Ok c =
+    laws.adds_as (told.fen_told c.args.p _ refl _ _ _ c.fen.ensures.value c.fen.ensures.out_after c.in-Ok.is).text c.put.ensures
 
-pub returns-in-Refused : goal.returns-in-Refused
-returns-in-Refused c =
-    laws.adds_as (sym (told.fen_untold c.args.p _ refl _ _ c.fen.ensures.value c.in-Refused.is)) (laws.adds_none _ _)
+pub returns-in-Err : goal.returns-in-Err
+returns-in-Err c =
+    laws.adds_as (sym (told.fen_untold c.args.p _ refl _ _ c.fen.ensures.value c.in-Err.is)) (laws.adds_none _ _)

@@ -1,8 +1,8 @@
 -- A position, or the refusal.
 use Rattle.replies.proofs.answers.tell_placed.Goals as goal
 
-pub returns-in-Position : goal.returns-in-Position
-returns-in-Position c = rw c.in-Position.is c.tell_fen.ensures
+pub returns-in-Ok : goal.returns-in-Ok
+returns-in-Ok c = rw c.in-Ok.is c.tell_fen.ensures
 
-pub returns-in-Refused : goal.returns-in-Refused
-returns-in-Refused c = rw c.in-Refused.is c.put_refusal.ensures
+pub returns-in-Err : goal.returns-in-Err
+returns-in-Err c = rw c.in-Err.is c.put_refusal.ensures

@@ -4,8 +4,8 @@ use Rattle.texts.proofs.Pieces as pieces
 use Rattle.replies.specs.States.{count_word}
 use Rattle.replies.proofs.states.put_count.Goals as goal
 
-pub returns-in-Count : goal.returns-in-Count
-returns-in-Count c = pieces.adds_as (sym (ap count_word c.in-Count.is)) c.put_decimal.ensures
+pub returns-in-Ok : goal.returns-in-Ok
+returns-in-Ok c = pieces.adds_as (sym (ap count_word c.in-Ok.is)) c.put_decimal.ensures
 
-pub returns-in-Refused : goal.returns-in-Refused
-returns-in-Refused c = pieces.adds_as (sym (ap count_word c.in-Refused.is)) (pieces.adds_none _ _)
+pub returns-in-Err : goal.returns-in-Err
+returns-in-Err c = pieces.adds_as (sym (ap count_word c.in-Err.is)) (pieces.adds_none _ _)

@@ -11,5 +11,5 @@ pub returns-in-Going : goal.returns-in-Going
 returns-in-Going c =
     pieces.adds_as (sym (ap judged_word c.in-Going.is)) c.put.ensures
 
-pub returns-in-Refused : goal.returns-in-Refused
-returns-in-Refused c = pieces.adds_as (sym (ap judged_word c.in-Refused.is)) (pieces.adds_none _ _)
+pub returns-in-Err : goal.returns-in-Err
+returns-in-Err c = pieces.adds_as (sym (ap judged_word c.in-Err.is)) (pieces.adds_none _ _)

@@ -4,13 +4,13 @@ use Rattle.texts.proofs.Pieces as pieces
 use Rattle.replies.specs.Answers as told
 use Rattle.requests.proofs.asked.after.Goals as goal
 
-pub returns-in-Move : goal.returns-in-Move
-returns-in-Move c =
-    rw (c.in-Position.is, ← c.listed_move.ensures, c.in-Move.is) (pieces.adds_as (ap told.after_answer c.after.ensures) c.tell_after.ensures)
+pub returns-in-Ok : goal.returns-in-Ok
+returns-in-Ok c =
+    rw (c.in-Ok.is, ← c.listed_move.ensures, c.in-Ok.is) (pieces.adds_as (ap told.after_answer c.after.ensures) c.tell_after.ensures)
 
-pub returns-in-Refused-listed_move : goal.returns-in-Refused-listed_move
-returns-in-Refused-listed_move c =
-    rw (c.in-Position.is, ← c.listed_move.ensures, c.in-Refused-listed_move.is) c.put_refusal.ensures
+pub returns-in-Err-listed_move : goal.returns-in-Err-listed_move
+returns-in-Err-listed_move c =
+    rw (c.in-Ok.is, ← c.listed_move.ensures, c.in-Err-listed_move.is) c.put_refusal.ensures
 
-pub returns-in-Refused : goal.returns-in-Refused
-returns-in-Refused c = rw c.in-Refused.is c.put_refusal-in-Refused.ensures
+pub returns-in-Err : goal.returns-in-Err
+returns-in-Err c = rw c.in-Err.is c.put_refusal-in-Err.ensures

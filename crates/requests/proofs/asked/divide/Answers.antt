@@ -1,22 +1,23 @@
 -- The position, then the depth, a number of 32 bits.
+use Rattle.std.specs.Prelude.{ℕ}
 use mathlib.Core.Path.{ap, subst}
 use native.Mathlib.Omega.{arith}
 use Rattle.wording.specs.Numbers.{AtMost}
-use Rattle.wording.specs.declared.numbers.Parsed.{Parsed}
 use Rattle.texts.proofs.Pieces as pieces
 use Rattle.replies.specs.Answers as told
 use Rattle.requests.proofs.asked.divide.Goals as goal
+use Rattle.std.specs.declared.option.Option.{Option}
 
 pub overflow_cast-n : goal.overflow_cast-n
 overflow_cast-n c =
-    let h = subst (λ (x : Parsed). AtMost 4294967295 x) c.in-Value.is c.unsigned.ensures.1 in omega (arith, h)
+    let h = subst (λ (x : Option ℕ). AtMost 4294967295 x) c.in-Some.is c.unsigned.ensures.1 in omega (arith, h)
 
-pub returns-in-Value : goal.returns-in-Value
-returns-in-Value c =
-    rw (c.in-Position.is, ← c.unsigned.ensures.0, c.in-Value.is) (pieces.adds_as (ap told.divided_answer c.divide.ensures) c.tell_divided.ensures)
+pub returns-in-Some : goal.returns-in-Some
+returns-in-Some c =
+    rw (c.in-Ok.is, ← c.unsigned.ensures.0, c.in-Some.is) (pieces.adds_as (ap told.divided_answer c.divide.ensures) c.tell_divided.ensures)
 
-pub returns-in-Bad : goal.returns-in-Bad
-returns-in-Bad c = rw (c.in-Position.is, ← c.unsigned.ensures.0, c.in-Bad.is) c.put_bad.ensures
+pub returns-in-None : goal.returns-in-None
+returns-in-None c = rw (c.in-Ok.is, ← c.unsigned.ensures.0, c.in-None.is) c.put_bad.ensures
 
-pub returns-in-Refused : goal.returns-in-Refused
-returns-in-Refused c = rw c.in-Refused.is c.put_refusal.ensures
+pub returns-in-Err : goal.returns-in-Err
+returns-in-Err c = rw c.in-Err.is c.put_refusal.ensures

@@ -7,12 +7,12 @@ pub returns-then-blanks-ne5 : goal.returns-then-blanks-ne5
 unfolding asked.evalw_request
 returns-then-blanks-ne5 c = rw (← c.blanks.ensures, ne_eqb _ 5 c.if-blanks-ne5.true) c.put_bad.ensures
 
-pub returns-in-Classical : goal.returns-in-Classical
+pub returns-in-Some : goal.returns-in-Some
 unfolding asked.evalw_request
-returns-in-Classical c =
-    rw (← c.blanks.ensures, eq-eqb _ 5 c.if-blanks-ne5.false, ← c.read_weights.ensures, c.in-Classical.is, ← c.first.ensures, ← c.position.ensures) c.eval.ensures
+returns-in-Some c =
+    rw (← c.blanks.ensures, eq-eqb _ 5 c.if-blanks-ne5.false, ← c.read_weights.ensures, c.in-Some.is, ← c.first.ensures, ← c.position.ensures) c.eval.ensures
 
-pub returns-in-Bad : goal.returns-in-Bad
+pub returns-in-None : goal.returns-in-None
 unfolding asked.evalw_request
-returns-in-Bad c =
-    rw (← c.blanks.ensures, eq-eqb _ 5 c.if-blanks-ne5.false, ← c.read_weights.ensures, c.in-Bad.is) c.put_bad-in-Bad.ensures
+returns-in-None c =
+    rw (← c.blanks.ensures, eq-eqb _ 5 c.if-blanks-ne5.false, ← c.read_weights.ensures, c.in-None.is) c.put_bad-in-None.ensures

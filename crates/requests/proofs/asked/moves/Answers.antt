@@ -4,8 +4,8 @@ use Rattle.texts.proofs.Pieces as pieces
 use Rattle.replies.specs.Answers as told
 use Rattle.requests.proofs.asked.moves.Goals as goal
 
-pub returns-in-Position : goal.returns-in-Position
-returns-in-Position c = rw c.in-Position.is (pieces.adds_as (ap told.list_answer c.legal_moves.ensures) c.tell_list.ensures)
+pub returns-in-Ok : goal.returns-in-Ok
+returns-in-Ok c = rw c.in-Ok.is (pieces.adds_as (ap told.list_answer c.legal_moves.ensures) c.tell_list.ensures)
 
-pub returns-in-Refused : goal.returns-in-Refused
-returns-in-Refused c = rw c.in-Refused.is c.put_refusal.ensures
+pub returns-in-Err : goal.returns-in-Err
+returns-in-Err c = rw c.in-Err.is c.put_refusal.ensures

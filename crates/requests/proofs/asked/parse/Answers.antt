@@ -1,12 +1,12 @@
 -- The position, then the move.
 use Rattle.requests.proofs.asked.parse.Goals as goal
 
-pub returns-in-Move : goal.returns-in-Move
-returns-in-Move c = rw (c.in-Position.is, ← c.listed_move.ensures, c.in-Move.is) c.tell_move.ensures
+pub returns-in-Ok : goal.returns-in-Ok
+returns-in-Ok c = rw (c.in-Ok.is, ← c.listed_move.ensures, c.in-Ok.is) c.tell_move.ensures
 
-pub returns-in-Refused-listed_move : goal.returns-in-Refused-listed_move
-returns-in-Refused-listed_move c =
-    rw (c.in-Position.is, ← c.listed_move.ensures, c.in-Refused-listed_move.is) c.put_refusal.ensures
+pub returns-in-Err-listed_move : goal.returns-in-Err-listed_move
+returns-in-Err-listed_move c =
+    rw (c.in-Ok.is, ← c.listed_move.ensures, c.in-Err-listed_move.is) c.put_refusal.ensures
 
-pub returns-in-Refused : goal.returns-in-Refused
-returns-in-Refused c = rw c.in-Refused.is c.put_refusal-in-Refused.ensures
+pub returns-in-Err : goal.returns-in-Err
+returns-in-Err c = rw c.in-Err.is c.put_refusal-in-Err.ensures

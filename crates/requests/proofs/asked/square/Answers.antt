@@ -4,13 +4,13 @@ use Rattle.texts.proofs.Pieces as pieces
 use Rattle.requests.specs.Asked as asked
 use Rattle.requests.proofs.asked.square.Goals as goal
 
-pub returns-in-Number : goal.returns-in-Number
-returns-in-Number c =
-    rw c.in-Number.is (pieces.adds_then c.put_ok-to.ensures
+pub returns-in-Ok : goal.returns-in-Ok
+returns-in-Ok c =
+    rw c.in-Ok.is (pieces.adds_then c.put_ok-to.ensures
     (pieces.adds_then c.put_decimal-to.ensures
     (pieces.adds_then c.put_byte-to.ensures
     (pieces.adds_then (pieces.adds_as (ap asked.numbered_word c.bit.ensures) c.put_numbered-to.ensures)
-    (pieces.adds_then c.put_byte-to-in-Number.ensures (pieces.adds_as (ap asked.numbered_word c.row.ensures) c.put_numbered.ensures))))))
+    (pieces.adds_then c.put_byte-to-in-Ok.ensures (pieces.adds_as (ap asked.numbered_word c.row.ensures) c.put_numbered.ensures))))))
 
-pub returns-in-Refused : goal.returns-in-Refused
-returns-in-Refused c = rw c.in-Refused.is c.put_refusal.ensures
+pub returns-in-Err : goal.returns-in-Err
+returns-in-Err c = rw c.in-Err.is c.put_refusal.ensures

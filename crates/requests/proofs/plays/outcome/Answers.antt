@@ -6,10 +6,10 @@ use Rattle.texts.proofs.Pieces as pieces
 use Rattle.replies.specs.States.{judged_word}
 use Rattle.requests.proofs.plays.outcome.Goals as goal
 
-pub returns-in-Position : goal.returns-in-Position
-returns-in-Position c =
-    rw c.in-Position.is
+pub returns-in-Ok : goal.returns-in-Ok
+returns-in-Ok c =
+    rw c.in-Ok.is
     (pieces.adds_then c.put_ok-k.ensures (pieces.adds_as (ap judged_word (c.outcome.ensures ∙ ap (λ (b : Begun). outcome_of b.game) c.from_position-begun.ensures)) c.put_judged.ensures))
 
-pub returns-in-Refused : goal.returns-in-Refused
-returns-in-Refused c = rw c.in-Refused.is c.put_refusal.ensures
+pub returns-in-Err : goal.returns-in-Err
+returns-in-Err c = rw c.in-Err.is c.put_refusal.ensures

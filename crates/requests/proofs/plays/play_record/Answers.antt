@@ -4,11 +4,11 @@ use Rattle.gametexts.specs.Texts.{beside}
 use Rattle.requests.specs.Plays.{play_move, play_record_of}
 use Rattle.requests.proofs.plays.play_record.Goals as goal
 
-pub returns-in-Move : goal.returns-in-Move
+pub returns-in-Ok : goal.returns-in-Ok
 unfolding play_record_of
-returns-in-Move c =
-    c.beside.ensures ∙ ap (beside _) c.play.ensures ∙ sym (ap (play_move c.args.g) (sym c.read_record.ensures ∙ c.in-Move.is))
+returns-in-Ok c =
+    c.beside.ensures ∙ ap (beside _) c.play.ensures ∙ sym (ap (play_move c.args.g) (sym c.read_record.ensures ∙ c.in-Ok.is))
 
-pub returns-in-Bad : goal.returns-in-Bad
+pub returns-in-None : goal.returns-in-None
 unfolding play_record_of
-returns-in-Bad c = c.refused_text.ensures ∙ sym (ap (play_move c.args.g) (sym c.read_record.ensures ∙ c.in-Bad.is))
+returns-in-None c = c.refused_text.ensures ∙ sym (ap (play_move c.args.g) (sym c.read_record.ensures ∙ c.in-None.is))

@@ -1,4 +1,5 @@
 -- The bytes before the place are the text, those from it on as they were; nothing is written before there is room.
+use Rattle.std.specs.Prelude.{Ok}
 use mathlib.Core.Path.{◌≡◌, refl, ap, ◌∙◌}
 use mathlib.Core.List.{List}
 use Prim.Native.Nat.{ℕ}
@@ -6,7 +7,6 @@ use lib.ListN.{length, get_or, set, length-set}
 use borrow.Author.Tests.{lt-leb, le-leb}
 use Rattle.texts.proofs.Writers as laws
 use Rattle.texts.specs.Lent.{emit_of, emitted}
-use Rattle.texts.specs.declared.bytes.Wrote.TheVariants.{Length}
 use borrow.Author.Rules.{rules}
 use native.Mathlib.Omega.{arith}
 use Rattle.texts.proofs.bytes.emit.Goals as goal
@@ -34,6 +34,6 @@ returns c =
     let e : c.loop-i.i ≡ length s = omega arith in
     let t = le-leb (length s) (length o) (omega arith) in
     record {
-      value = simp t (ap Length e);
+      value = simp t (ap Ok e);
       out_after = simp t (c.loop-i.invariant.3 ∙ laws.write_done s o c.loop-i.i e);
     }

@@ -3,14 +3,14 @@ use mathlib.Core.Path.{ap}
 use Rattle.texts.proofs.fen.ends.Goals as goal
 
 pub range-requires : goal.range-requires
-range-requires c = ((rw c.in-Number.is at c.requires.0).0, (rw c.in-Number-to.is at c.requires.1).1)
+range-requires c = ((rw c.in-Ok.is at c.requires.0).0, (rw c.in-Ok-to.is at c.requires.1).1)
 
-pub returns-in-Number-to : goal.returns-in-Number-to
-returns-in-Number-to c =
-    rw (c.in-Number.is, c.in-Number-to.is, ← c.range.ensures) (ap Rattle.texts.specs.declared.parts.Reading.TheVariants.Parts c.with_squares.ensures)
+pub returns-in-Ok-to : goal.returns-in-Ok-to
+returns-in-Ok-to c =
+    rw (c.in-Ok.is, c.in-Ok-to.is, ← c.range.ensures) (ap Ok c.with_squares.ensures)
 
-pub returns-in-Refused-to : goal.returns-in-Refused-to
-returns-in-Refused-to c = rw (c.in-Number.is, c.in-Refused-to.is)
+pub returns-in-Err-to : goal.returns-in-Err-to
+returns-in-Err-to c = rw (c.in-Ok.is, c.in-Err-to.is)
 
-pub returns-in-Refused : goal.returns-in-Refused
-returns-in-Refused c = rw c.in-Refused.is
+pub returns-in-Err : goal.returns-in-Err
+returns-in-Err c = rw c.in-Err.is

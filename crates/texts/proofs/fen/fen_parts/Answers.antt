@@ -12,6 +12,6 @@ pub returns-in-Side : goal.returns-in-Side
 returns-in-Side c =
     c.fields.ensures ∙ sym (laws.fen_open c.args.s.now c.body-t.result.now c.trim.result.now c.find-n.result c.side.result c.body-t.ensures c.find-n.ensures.0 c.trim.ensures c.side.ensures ∙ rw (c.in-Side.is, ← c.begun.ensures))
 
-pub returns-in-Refused : goal.returns-in-Refused
-returns-in-Refused c =
-    sym (laws.fen_open c.args.s.now c.body-t.result.now c.trim.result.now c.find-n.result c.side.result c.body-t.ensures c.find-n.ensures.0 c.trim.ensures c.side.ensures ∙ rw c.in-Refused.is)
+pub returns-in-Err : goal.returns-in-Err
+returns-in-Err c =
+    sym (laws.fen_open c.args.s.now c.body-t.result.now c.trim.result.now c.find-n.result c.side.result c.body-t.ensures c.find-n.ensures.0 c.trim.ensures c.side.ensures ∙ rw c.in-Err.is)

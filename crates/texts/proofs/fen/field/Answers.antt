@@ -14,7 +14,7 @@ returns-in-Side c =
     let s = c.args.s.now in
     c.items.ensures ∙ sym (laws.field_some c.args.p s (take (length s - 1) (drop 1 s)) c.fen_color.result c.if-s-eq0.false (rest s 1) c.fen_color.ensures ∙ rw c.in-Side.is)
 
-pub returns-in-Refused : goal.returns-in-Refused
-returns-in-Refused c =
+pub returns-in-Err : goal.returns-in-Err
+returns-in-Err c =
     let s = c.args.s.now in
-    sym (laws.field_some c.args.p s (drop 1 s) c.fen_color.result c.if-s-eq0.false refl c.fen_color.ensures ∙ rw c.in-Refused.is)
+    sym (laws.field_some c.args.p s (drop 1 s) c.fen_color.result c.if-s-eq0.false refl c.fen_color.ensures ∙ rw c.in-Err.is)

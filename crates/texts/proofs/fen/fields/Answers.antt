@@ -8,9 +8,9 @@ use Rattle.texts.proofs.fen.fields.Goals as goal
 pub loop-at-init : goal.loop-at-init
 loop-at-init c = record { within = search rules; answer = refl }
 
-pub returns-in-Refused : goal.returns-in-Refused
-returns-in-Refused c =
-    sym ((turned _ _ _ c.loop-at.invariant c.up_to-text.ensures c.trim.ensures c.field.ensures (omega arith)).stops c.in-Refused.is)
+pub returns-in-Err : goal.returns-in-Err
+returns-in-Err c =
+    sym ((turned _ _ _ c.loop-at.invariant c.up_to-text.ensures c.trim.ensures c.field.ensures (omega arith)).stops c.in-Err.is)
 
 pub overflow_add-at : goal.overflow_add-at
 overflow_add-at c =
@@ -22,7 +22,7 @@ overflow_add-at-in-loop-at c =
 
 pub loop-at-preserved : goal.loop-at-preserved
 loop-at-preserved c =
-    (turned _ _ _ c.loop-at.invariant c.up_to-text.ensures c.trim.ensures c.field.ensures (omega arith)).goes c.in-Parts.is
+    (turned _ _ _ c.loop-at.invariant c.up_to-text.ensures c.trim.ensures c.field.ensures (omega arith)).goes c.in-Ok.is
 
 pub returns : goal.returns
 returns c = sym (none_left _ _ _ c.loop-at.invariant (omega arith))

@@ -11,9 +11,9 @@ pub loop-at-init : goal.loop-at-init
 loop-at-init c =
     record { within = search rules; answer = ap (items_of c.args.color c.args.p) (sym (parts_start at_comma c.args.s.now)) }
 
-pub returns-in-Refused : goal.returns-in-Refused
-returns-in-Refused c =
-    sym ((turned _ _ _ c.loop-at.invariant c.up_to-text.ensures c.trim.ensures c.item.ensures (omega arith)).stops c.in-Refused.is)
+pub returns-in-Err : goal.returns-in-Err
+returns-in-Err c =
+    sym ((turned _ _ _ c.loop-at.invariant c.up_to-text.ensures c.trim.ensures c.item.ensures (omega arith)).stops c.in-Err.is)
 
 pub overflow_add-at : goal.overflow_add-at
 overflow_add-at c =
@@ -25,7 +25,7 @@ overflow_add-at-in-loop-at c =
 
 pub loop-at-preserved : goal.loop-at-preserved
 loop-at-preserved c =
-    (turned _ _ _ c.loop-at.invariant c.up_to-text.ensures c.trim.ensures c.item.ensures (omega arith)).goes c.in-Parts.is
+    (turned _ _ _ c.loop-at.invariant c.up_to-text.ensures c.trim.ensures c.item.ensures (omega arith)).goes c.in-Ok.is
 
 pub returns : goal.returns
 returns c = sym (none_left _ _ _ c.loop-at.invariant (omega arith))

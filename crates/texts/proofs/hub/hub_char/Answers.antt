@@ -1,5 +1,6 @@
 -- The three tests of a square decide its letter. On a number that is no square all three fail, and the letter is that of an
 -- empty square.
+use Rattle.std.specs.Prelude.{Err, None, Ok}
 use mathlib.Core.Path.{◌≡◌, refl, ap, ap₂, ◌∙◌}
 use mathlib.Core.Bool.{Bool, true, false, cond, ◌&&◌}
 use Prim.Native.Nat.{ℕ}
@@ -8,7 +9,6 @@ use Rattle.squares.specs.Squares.{is_square, bit_of, contains_of}
 use Rattle.squares.specs.declared.piece.Color.TheVariants.{White, Black}
 use Rattle.squares.specs.declared.refusal.Refusal.TheVariants.{NoSuchSquare}
 use Rattle.positions.specs.Boards.{Board, board_of, standing_of, piece_at_of}
-use Rattle.positions.specs.declared.position.Standing.TheVariants as standing
 use Rattle.texts.specs.Hub.{standing_char, letter_of, hub_char}
 use Rattle.texts.proofs.hub.hub_char.Goals as goal
 
@@ -19,8 +19,8 @@ told b n = go (is_square n)
     go : (t : Bool) → letter_of (t && has b.white (bit_of n)) (t && has b.black (bit_of n)) (t && has b.kings (bit_of n))
         ≡ standing_char (cond t
         (cond (t && has b.white (bit_of n)) (standing_of White (t && has b.kings (bit_of n)))
-        (cond (t && has b.black (bit_of n)) (standing_of Black (t && has b.kings (bit_of n))) standing.Nothing))
-        (standing.Refused NoSuchSquare))
+        (cond (t && has b.black (bit_of n)) (standing_of Black (t && has b.kings (bit_of n))) (Ok None)))
+        (Err NoSuchSquare))
     go true = refl
     go false = refl
 

@@ -11,7 +11,7 @@ returns-in-Side c =
     let s = c.args.s.now in
     c.hub_squares.ensures ∙ sym (laws.hub_some s c.from_char.result c.if-s-eq0.false c.from_char.ensures ∙ rw c.in-Side.is)
 
-pub returns-in-Refused : goal.returns-in-Refused
-returns-in-Refused c =
+pub returns-in-Err : goal.returns-in-Err
+returns-in-Err c =
     let s = c.args.s.now in
-    sym (laws.hub_some s c.from_char.result c.if-s-eq0.false c.from_char.ensures ∙ rw c.in-Refused.is)
+    sym (laws.hub_some s c.from_char.result c.if-s-eq0.false c.from_char.ensures ∙ rw c.in-Err.is)

@@ -15,15 +15,15 @@ returns-then-s-at c =
     let s = c.args.s.now in
     sym (laws.hub_cut s c.loop-n.n c.loop-n.p (omega arith) (omega arith)) ∙ c.loop-n.invariant.3 ∙ ap (λ (x : Parts). hub_from 50 1 x (drop 1 s)) c.begun-p.ensures
 
-pub returns-in-Refused : goal.returns-in-Refused
-returns-in-Refused c =
+pub returns-in-Err : goal.returns-in-Err
+returns-in-Err c =
     let s = c.args.s.now in
-    sym (laws.hub_step s c.loop-n.n c.loop-n.p c.hub_byte.result (omega arith) (omega arith) c.hub_byte.ensures ∙ rw c.in-Refused.is) ∙ c.loop-n.invariant.3 ∙ ap (λ (x : Parts). hub_from 50 1 x (drop 1 s)) c.begun-p.ensures
+    sym (laws.hub_step s c.loop-n.n c.loop-n.p c.hub_byte.result (omega arith) (omega arith) c.hub_byte.ensures ∙ rw c.in-Err.is) ∙ c.loop-n.invariant.3 ∙ ap (λ (x : Parts). hub_from 50 1 x (drop 1 s)) c.begun-p.ensures
 
 pub loop-n-preserved : goal.loop-n-preserved
 loop-n-preserved c =
     let s = c.args.s.now in
-    (omega arith, omega arith, omega arith, sym (laws.hub_step s c.loop-n.n c.loop-n.p c.hub_byte.result (omega arith) (omega arith) c.hub_byte.ensures ∙ rw c.in-Parts.is) ∙ c.loop-n.invariant.3)
+    (omega arith, omega arith, omega arith, sym (laws.hub_step s c.loop-n.n c.loop-n.p c.hub_byte.result (omega arith) (omega arith) c.hub_byte.ensures ∙ rw c.in-Ok.is) ∙ c.loop-n.invariant.3)
 
 pub returns-then-s-gt51 : goal.returns-then-s-gt51
 returns-then-s-gt51 c =

@@ -1,8 +1,8 @@
 -- Acceptance of what was read, or the refusal passed on.
 use Rattle.texts.proofs.parts.accept.Goals as goal
 
-pub returns-in-Parts : goal.returns-in-Parts
-returns-in-Parts c = rw c.in-Parts.is c.from_parts.ensures
+pub returns-in-Ok : goal.returns-in-Ok
+returns-in-Ok c = rw c.in-Ok.is c.from_parts.ensures
 
-pub returns-in-Refused : goal.returns-in-Refused
-returns-in-Refused c = rw c.in-Refused.is
+pub returns-in-Err : goal.returns-in-Err
+returns-in-Err c = rw c.in-Err.is

@@ -7,5 +7,5 @@ returns-in-White c = rw (c.in-Side.is, c.in-White.is)
 pub returns-in-Black : goal.returns-in-Black
 returns-in-Black c = rw (c.in-Side.is, c.in-Black.is)
 
-pub returns-in-Nobody : goal.returns-in-Nobody
-returns-in-Nobody c = rw c.in-Nobody.is
+pub returns-in-None : goal.returns-in-None
+returns-in-None c = rw c.in-None.is

@@ -1,4 +1,5 @@
 -- The three sets turned round, the side changed, the hash afresh.
+use Rattle.std.specs.Prelude.{Ok}
 use mathlib.Core.Path.{◌≡◌, sym, ap, ◌∙◌}
 use Prim.Native.Nat.{ℕ}
 use Rattle.squares.specs.Pieces.{other}
@@ -7,7 +8,6 @@ use Rattle.positions.specs.Boards.{board, board_of}
 use Rattle.positions.specs.Hash.{position_of}
 use Rattle.positions.specs.Flip.{rotated, flip, flipped_of}
 use Rattle.positions.specs.declared.position.Position.{Position}
-use Rattle.positions.specs.declared.position.Placed.TheVariants as placed
 use Rattle.positions.proofs.position.Position.flipped.Goals as goal
 
 flips : (p : Position) {w b k : ℕ} {s : Color} {r : Position}
@@ -20,7 +20,7 @@ pub returns-then-sound : goal.returns-then-sound
 unfolding flipped_of
 returns-then-sound c =
     rw (sym c.sound.ensures ∙ c.if-sound.true)
-    (ap placed.Position (flips c.args.self c.rotate.ensures c.rotate-then-sound.ensures c.rotate-then-sound-2.ensures c.not.ensures c.with_hash.ensures))
+    (ap Ok (flips c.args.self c.rotate.ensures c.rotate-then-sound.ensures c.rotate-then-sound-2.ensures c.not.ensures c.with_hash.ensures))
 
 pub returns-else-sound : goal.returns-else-sound
 unfolding flipped_of

@@ -1,8 +1,8 @@
 -- A refusal's number, or 0.
 use Rattle.squares.proofs.refusal.Answer.number.Goals as goal
 
-pub returns-in-Done : goal.returns-in-Done
-returns-in-Done c = rw c.in-Done.is
+pub returns-in-Ok : goal.returns-in-Ok
+returns-in-Ok c = rw c.in-Ok.is
 
-pub returns-in-Refused : goal.returns-in-Refused
-returns-in-Refused c = rw c.in-Refused.is c.number.ensures
+pub returns-in-Err : goal.returns-in-Err
+returns-in-Err c = rw c.in-Err.is c.number.ensures
