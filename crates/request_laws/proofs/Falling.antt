@@ -50,7 +50,7 @@ use Rattle.wording.specs.Output.{decimal, number_word}
 use Rattle.texts.specs.Bytes.{cons_head, parts_at}
 use Rattle.replies.specs.Answers.{move_word}
 use Rattle.replies.specs.States.{winner_word, ending_word, judged_word, count_word, plies_text, state_text, stand_word, moves_word, end_text}
-use Rattle.requests.specs.Plays.{after_word, words_of, record_of, play_text_of, play_move, play_record_of, play_word_of, text_told, record_told, word_told, game_text}
+use Rattle.requests.specs.Plays.{played_on, words_of, record_of, play_text_of, play_move, play_record_of, play_word_of, text_told, record_told, word_told, game_text}
 use Rattle.requests.specs.declared.plays.Given.{Given}
 use Rattle.requests.specs.declared.plays.Given.TheVariants as given
 use Rattle.request_laws.proofs.Lengths.{decimal_most, decimal_two, fen_most, move_by}
@@ -260,11 +260,11 @@ module _ (g : Game) (r : Good g) where
       go (Some m) = plays m refl
       go None = leaves BadMoveText refl
 
-  text_refused : (e : Refusal) (a : Result PlayedText Refusal) → a ≡ Err e → Word g (text_told a) (after_word g a)
+  text_refused : (e : Refusal) (a : Result PlayedText Refusal) → a ≡ Err e → Word g (text_told a) (played_on g a)
   unfolding text_told number_word
   text_refused e a q = rw q (record { good = r; cost = omega (arith, decimal_most (number_of e)) })
 
-  text_done : (m : Move) (n : Game) → Went g m n → (a : Result PlayedText Refusal) → a ≡ Ok (record { game = n; mv = m }) → Word g (text_told a) (after_word g a)
+  text_done : (m : Move) (n : Game) → Went g m n → (a : Result PlayedText Refusal) → a ≡ Ok (record { game = n; mv = m }) → Word g (text_told a) (played_on g a)
   unfolding text_told
   text_done m n v a q =
       rw q
@@ -273,27 +273,27 @@ module _ (g : Game) (r : Good g) where
         cost = omega (arith, length-append (move_word m) (state_text 47 n), move_by m, state_short n v.good 47, v.fallen);
       })
 
-  record_refused : (e : Refusal) (a : Result PlayedText Refusal) → a ≡ Err e → Word g (record_told a) (after_word g a)
+  record_refused : (e : Refusal) (a : Result PlayedText Refusal) → a ≡ Err e → Word g (record_told a) (played_on g a)
   unfolding record_told
   record_refused e a q = rw q (record { good = r; cost = omega (arith, decimal_most (number_of e)) })
 
-  record_done : (m : Move) (n : Game) → Went g m n → (a : Result PlayedText Refusal) → a ≡ Ok (record { game = n; mv = m }) → Word g (record_told a) (after_word g a)
+  record_done : (m : Move) (n : Game) → Went g m n → (a : Result PlayedText Refusal) → a ≡ Ok (record { game = n; mv = m }) → Word g (record_told a) (played_on g a)
   unfolding record_told
   record_done m n v a q = rw q (record { good = v.good; cost = omega (arith, decimal_most 0, v.fallen) })
 
   -- what is written of a word, by what became of it
   module _ (told : Result PlayedText Refusal → List ℕ)
-      (refused-cost : (e : Refusal) (a : Result PlayedText Refusal) → a ≡ Err e → Word g (told a) (after_word g a))
-      (done-cost : (m : Move) (n : Game) → Went g m n → (a : Result PlayedText Refusal) → a ≡ Ok (record { game = n; mv = m }) → Word g (told a) (after_word g a)) where
-    by_case : (a : Result PlayedText Refusal) → Case_of g a → Word g (told a) (after_word g a)
+      (refused-cost : (e : Refusal) (a : Result PlayedText Refusal) → a ≡ Err e → Word g (told a) (played_on g a))
+      (done-cost : (m : Move) (n : Game) → Went g m n → (a : Result PlayedText Refusal) → a ≡ Ok (record { game = n; mv = m }) → Word g (told a) (played_on g a)) where
+    by_case : (a : Result PlayedText Refusal) → Case_of g a → Word g (told a) (played_on g a)
     by_case a (plays m p) = go (play_case g r m)
       where
-        go : Case g m → Word g (told a) (after_word g a)
+        go : Case g m → Word g (told a) (played_on g a)
         go (refused e q) = refused-cost e a (p ∙ ap (beside m) q)
         go (done n q v) = done-cost m n v a (p ∙ ap (beside m) q)
     by_case a (leaves e p) = refused-cost e a p
 
-  pub word_cost : (h : Given) (w : List ℕ) → Word g (word_told h (play_word_of h g w)) (after_word g (play_word_of h g w))
+  pub word_cost : (h : Given) (w : List ℕ) → Word g (word_told h (play_word_of h g w)) (played_on g (play_word_of h g w))
   word_cost given.Text w = by_case text_told text_refused text_done (play_text_of g w) (text_case w)
   word_cost given.Record w = by_case record_told record_refused record_done (play_record_of g w) (record_case w)
 
@@ -329,8 +329,8 @@ game_cost h g r [] = omega (arith, end_most g)
 game_cost h g r (w ∷ ws) =
     let a = play_word_of h g w in
     let v = word_cost g r h w in
-    let i = game_cost h (after_word g a) v.good ws in
-    omega (arith, length-append (word_told h a) (game_text h (after_word g a) ws), v.cost, i)
+    let i = game_cost h (played_on g a) v.good ws in
+    omega (arith, length-append (word_told h a) (game_text h (played_on g a) ws), v.cost, i)
 
 pub pieces_most : (g : Game) → pieces g ≤ 128
 unfolding pieces pieces_on

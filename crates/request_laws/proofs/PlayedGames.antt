@@ -22,7 +22,7 @@ use Rattle.gametexts.specs.Texts.{beside, play_found, play_said, play_heard, pla
 use Rattle.gametexts.specs.declared.game.PlayedText.{PlayedText}
 use Rattle.wording.specs.Escapes.{undone}
 use Rattle.wording.specs.Output.{decimal}
-use Rattle.requests.specs.Plays.{record_of, play_text_of, play_record_of, text_told, record_told, after_word, game_text}
+use Rattle.requests.specs.Plays.{record_of, play_text_of, play_record_of, text_told, record_told, played_on, game_text}
 use Rattle.replies.specs.States.{end_text}
 use Rattle.requests.specs.declared.plays.Given.TheVariants as given
 use Rattle.squares.specs.declared.refusal.Refusal.{Refusal}
@@ -38,7 +38,7 @@ numbers_text [] = []
 numbers_text (n ∷ ns) = (32 ∷ decimal n) ++ numbers_text ns
 
 -- the move beside its play changes neither the answer nor the game after it
-beside_same : (g : Game) (m : Move) (x : Result Game Refusal) → (answer_number_of (beside m x) ≡ answer_number_of x) × (after_word g (beside m x) ≡ after_play g x)
+beside_same : (g : Game) (m : Move) (x : Result Game Refusal) → (answer_number_of (beside m x) ≡ answer_number_of x) × (played_on g (beside m x) ≡ after_play g x)
 beside_same g m (Ok h) = (refl, refl)
 beside_same g m (Err e) = (refl, refl)
 
@@ -63,7 +63,7 @@ record_demand {ws} {ms} p s r = record { demand = demand3 p s ms; told = record_
 -- ---- texts: each plays a move record, or leaves the game
 pub data Plays (g : Game) (a : Result PlayedText Refusal) : Type 0 where
   moves : (m : Move) → a ≡ beside m (play_of g m) → Plays g a
-  leaves : after_word g a ≡ g → Plays g a
+  leaves : played_on g a ≡ g → Plays g a
 
 found_plays : (g : Game) (f : Result Move Refusal) → Plays g (play_found g f)
 found_plays g (Ok m) = moves m refl
@@ -99,9 +99,9 @@ pub record TextsTold (g : Game) (ws : List (List ℕ)) : Type 0 where
   pub before : List ℕ
   pub told : game_text given.Text g ws ≡ before ++ end_text (game_after play_of g played)
 
-told_more : (g : Game) (w : List ℕ) (ws : List (List ℕ)) (a : Result PlayedText Refusal) → Plays g a → (r : TextsTold (after_word g a) ws) → (ms : List Move) × (game_text given.Text (after_word g a) ws ≡ r.before ++ end_text (game_after play_of g ms))
+told_more : (g : Game) (w : List ℕ) (ws : List (List ℕ)) (a : Result PlayedText Refusal) → Plays g a → (r : TextsTold (played_on g a) ws) → (ms : List Move) × (game_text given.Text (played_on g a) ws ≡ r.before ++ end_text (game_after play_of g ms))
 unfolding game_after
-told_more g w ws a (moves m e) r = (m ∷ r.played, r.told ∙ ap (λ (x : Game). r.before ++ end_text (game_after play_of x r.played)) (ap (after_word g) e ∙ (beside_same g m (play_of g m)).1))
+told_more g w ws a (moves m e) r = (m ∷ r.played, r.told ∙ ap (λ (x : Game). r.before ++ end_text (game_after play_of x r.played)) (ap (played_on g) e ∙ (beside_same g m (play_of g m)).1))
 told_more g w ws a (leaves e) r = (r.played, r.told ∙ ap (λ (x : Game). r.before ++ end_text (game_after play_of x r.played)) e)
 
 pub texts_told : (g : Game) (ws : List (List ℕ)) → TextsTold g ws
@@ -109,7 +109,7 @@ unfolding game_text game_after
 texts_told g [] = record { played = []; before = []; told = refl }
 texts_told g (w ∷ ws) =
     let a = play_text_of g w in
-    let r = texts_told (after_word g a) ws in
+    let r = texts_told (played_on g a) ws in
     let q = told_more g w ws a (word_plays g w) r in
     record {
       played = q.0;

@@ -1,5 +1,5 @@
 -- The words of a line one after another; records and texts; the game after a word.
-use Rattle.std.specs.Prelude.{None, Some}
+use Rattle.std.specs.Prelude.{None, Some, Result, Err}
 use Prim.Native.Nat.{ℕ, ◌-◌, ◌≤◌, ◌<◌}
 use mathlib.Core.Path.{◌≡◌, refl, ap, sym, ◌∙◌}
 use mathlib.Core.List.{List, [], ◌∷◌, ◌++◌}
@@ -18,11 +18,12 @@ use Rattle.gametexts.specs.declared.game.PlayedText.{PlayedText}
 use Rattle.wording.specs.Escapes.{undone, Undid}
 use Rattle.wording.specs.Numbers.{unsigned_of, set_of}
 use Rattle.wording.specs.Words.{first_word, after_word}
-use Rattle.requests.specs.Plays.{words_of, record_of, is_record_of, all_records, play_text_of, play_word_of, word_told, after_word, game_text}
+use Rattle.requests.specs.Plays.{words_of, record_of, is_record_of, all_records, play_text_of, play_word_of, word_told, played_on, game_text}
 use Rattle.replies.specs.States.{end_text}
 use Rattle.requests.specs.declared.plays.Given.{Given}
 use Rattle.requests.proofs.Readings.{cut, cut_part}
 use Rattle.requests.proofs.Suffixes as suffixes
+use Rattle.squares.specs.declared.refusal.Refusal.{Refusal}
 
 -- ---- a word and the words after it
 after_space : (b : ℕ) (t : List ℕ) → eqb b 32 ≡ true → after_word (b ∷ t) ≡ t
@@ -79,7 +80,7 @@ module _ (s : List ℕ) (i : ℕ) where
     unfolding all_records
     records_next e = rw (words_here, e)
 
-    pub game_next : (h : Given) (g : Game) (a : Result PlayedText Refusal) → a ≡ play_word_of h g word → word_told h a ++ game_text h (after_word g a) (words_of (drop (length s - length rest) s)) ≡ game_text h g (words_of (drop i s))
+    pub game_next : (h : Given) (g : Game) (a : Result PlayedText Refusal) → a ≡ play_word_of h g word → word_told h a ++ game_text h (played_on g a) (words_of (drop (length s - length rest) s)) ≡ game_text h g (words_of (drop i s))
     unfolding game_text
     game_next h g a e = rw (words_here, e)
 

@@ -86,14 +86,14 @@ word_told given.Text r = text_told r
 word_told given.Record r = record_told r
 
 -- the game that is played on: a refused word changes nothing
-abbrev pub after_word : Game → Result PlayedText Refusal → Game
-after_word g (Ok r) = r.game
-after_word g (Err e) = g
+abbrev pub played_on : Game → Result PlayedText Refusal → Game
+played_on g (Ok r) = r.game
+played_on g (Err e) = g
 
 -- each play gets the game that the plays before it led to
 unfoldable pub game_text : Given → Game → List (List ℕ) → List ℕ
 game_text h g [] = end_text g
-game_text h g (w ∷ ws) = let r = play_word_of h g w in word_told h r ++ game_text h (after_word g r) ws
+game_text h g (w ∷ ws) = let r = play_word_of h g w in word_told h r ++ game_text h (played_on g r) ws
 
 -- the words played on a new game
 unfoldable pub game_answer : Given → Position → List ℕ → List ℕ

@@ -6,7 +6,7 @@
 // ` | FEN OUTCOME COUNT1 COUNT2 TIMES MOVES`.
 ghost use Rattle.std.specs.Prelude.{◌≡◌};
 ghost use Rattle.texts.specs.Lent.{over};
-ghost use Rattle.requests.specs.Plays.{record_of, is_record_of, all_records, words_of, play_text_of, play_record_of, play_word_of, text_told, record_told, word_told, after_word, game_text, game_answer, play_request, record_request, outcome_request};
+ghost use Rattle.requests.specs.Plays.{record_of, is_record_of, all_records, words_of, play_text_of, play_record_of, play_word_of, text_told, record_told, word_told, played_on, game_text, game_answer, play_request, record_request, outcome_request};
 
 use games::game::Game;
 use gametexts::game::PlayedText;
@@ -136,8 +136,8 @@ fn tell_word(given: Given, r: Result<PlayedText, Refusal>, out: &mut Space)
 }
 
 // The game that is played on: a refused word changes nothing.
-fn after_word(g: Game, r: Result<PlayedText, Refusal>) -> Game
-    ensures { result ≡ after_word g r }
+fn played_on(g: Game, r: Result<PlayedText, Refusal>) -> Game
+    ensures { result ≡ played_on g r }
 {
     match r {
         Ok(played) => played.game,
@@ -156,7 +156,7 @@ fn play_words(given: Given, start: Game, s: &[u8], out: &mut Space)
         let word = words::first(left);
         let r = play_word(given, g, word);
         tell_word(given, r, out);
-        g = after_word(g, r);
+        g = played_on(g, r);
         i = s.len() - words::rest(left).len();
     }
     states::put_end(out, g);

@@ -2,6 +2,11 @@
 use mathlib.Core.Path.{refl, ap, ◌∙◌}
 use mathlib.Core.List.{List}
 use Prim.Native.Nat.{ℕ}
+use lib.ListN.{length, drop}
+use mathlib.Core.List.{◌++◌}
+use Prim.Native.Nat.{◌-◌}
+use Rattle.games.specs.declared.game.Game.{Game}
+use Rattle.requests.specs.Plays.{words_of, word_told, game_text}
 use Rattle.texts.specs.Lent.{over}
 use Rattle.texts.proofs.Overs as overs
 use Rattle.requests.proofs.PlayLaws as laws
@@ -26,7 +31,7 @@ loop-i-preserved c =
     let s = c.args.s.now in (
       omega arith,
       overs.over_moved _ _ _ _ _
-          (ap (λ (g : Game). over (word_told c.args.given c.play_word-r.result ++ game_text c.args.given g (words_of (drop (length s - length c.rest.result.now) s))) c.loop-i.out) c.after_word-g.ensures
+          (ap (λ (g : Game). over (word_told c.args.given c.play_word-r.result ++ game_text c.args.given g (words_of (drop (length s - length c.rest.result.now) s))) c.loop-i.out) c.played_on-g.ensures
           ∙ ap (λ (t : List ℕ). over t c.loop-i.out) (laws.game_next s c.loop-i.i _ _ _ (cuts.rest s c.loop-i.i) c.first-word.ensures c.rest.ensures (omega arith) c.args.given c.loop-i.g _ c.play_word-r.ensures) ∙ c.loop-i.invariant.1)
           c.tell_word.ensures,
     )
