@@ -1,6 +1,6 @@
 -- The boards P1 to P12 (docs/RULES.md, "Twelve boards"), each from the bytes of its text on: what the definitions in
 -- the contracts of the entries answer.
-use Rattle.std.specs.Prelude.{Err, None, Ok, Result, ℤ}
+use Rattle.std.specs.Prelude.{Err, None, Ok, Result, ℤ, Some}
 use Prim.Native.Nat.{ℕ, ◌+◌}
 use Prim.Native.String.{String}
 use mathlib.Core.Path.{◌≡◌, refl}
@@ -146,8 +146,8 @@ p12 = score "W:WK28,K32,33:BK1" (Ok (pos 50)) ∷ []
 pub table : All p1 × All p2_p5 × All p6_p9 × All p10_p11 × All p12
 unfolding scores.computed notation.computed games.computed game_from_fen_of
 table = (
-  (refl, (refl, (refl, ((refl, refl), tt)))),
-  (refl, ((refl, refl), (refl, (refl, (refl, (refl, (refl, tt))))))),
+  (refl, (refl, (refl, (refl, tt)))),
+  (refl, (refl, (refl, (refl, (refl, (refl, (refl, tt))))))),
   (refl, (refl, (refl, (refl, (refl, (refl, tt)))))),
   (refl, (refl, (refl, (refl, tt)))),
   (refl, tt),
