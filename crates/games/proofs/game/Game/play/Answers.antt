@@ -33,12 +33,10 @@ pub returns-in_err-unless-3 : goal.returns-in_err-unless-3
 unfolding play_of
 returns-in_err-unless-3 c =
     let q : c.from_residual-in_err-unless-3.result ≡ Err GameOver = search rules in
-    rw (
-      q,
-      sym c.valid.ensures ∙ holds _ _ c.in_ok-unless.ensures,
-      sym c.on_board.ensures ∙ holds _ _ c.in_ok-unless-2.ensures,
-      sym c.has_ended.ensures ∙ not_false _ (fails _ _ c.in_err-unless-3.ensures),
-    )
+    let v = sym c.valid.ensures ∙ holds _ _ c.in_ok-unless.ensures in
+    let b = sym c.on_board.ensures ∙ holds _ _ c.in_ok-unless-2.ensures in
+    let o = sym c.has_ended.ensures ∙ not_false _ (fails _ _ c.in_err-unless-3.ensures) in
+    rw (q, v, b, o)
 
 pub moved-requires : goal.moved-requires
 unfolding judged_of
@@ -52,9 +50,7 @@ moved-requires c =
 pub returns : goal.returns
 unfolding play_of
 returns c =
-    rw (
-      sym c.valid.ensures ∙ holds _ _ c.in_ok-unless.ensures,
-      sym c.on_board.ensures ∙ holds _ _ c.in_ok-unless-2.ensures,
-      sym c.has_ended.ensures ∙ not_true _ (holds _ _ c.in_ok-unless-3.ensures),
-    )
-    c.moved.ensures
+    let v = sym c.valid.ensures ∙ holds _ _ c.in_ok-unless.ensures in
+    let b = sym c.on_board.ensures ∙ holds _ _ c.in_ok-unless-2.ensures in
+    let o = sym c.has_ended.ensures ∙ not_true _ (holds _ _ c.in_ok-unless-3.ensures) in
+    rw (v, b, o) c.moved.ensures
