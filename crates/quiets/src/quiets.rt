@@ -18,7 +18,7 @@ use captures::moves::{BLANK, MAX_MOVES, MoveList};
 use captures::view::View;
 use positions::moves::Move;
 use squares::bitboard;
-use squares::bitboard::Bitboard;
+use squares::bitboard::{Bitboard, Members};
 use squares::piece::Color;
 
 // A list of moves, and whether there were more than it has room for.
@@ -191,10 +191,8 @@ fn kings_count(kings: Bitboard, empty: Bitboard) -> u32
     ensures { result ≡ length (king_quiets kings empty) }
 {
     let mut n = 0u32;
-    let mut left = kings;
-    while left != 0 {
-        n += king_count(u64::trailing_zeros(left), empty);
-        left = left & (left - 1);
+    for bit in Members(kings) {
+        n += king_count(bit, empty);
     }
     n
 }
