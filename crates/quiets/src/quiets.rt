@@ -76,13 +76,11 @@ fn kings_open(v: View) -> bool
     ensures { result ≡ any_in (king_open v.them (empty_of v)) (members (own_kings_of v)) }
 {
     let empty = v.empty();
-    let mut left = v.own_kings();
-    while left != 0 {
-        let at = 1u64 << u64::trailing_zeros(left);
+    for bit in Members(v.own_kings()) {
+        let at = 1u64 << bit;
         if movegen::king_open(at, v.them, empty | at) {
             return true;
         }
-        left = left & (left - 1);
     }
     false
 }
