@@ -109,9 +109,8 @@ pub fn quiet_moves(v: View) -> Listing
     let mut overflow = false;
     for k in 0..2 {
         let d = first + k;
-        let mut to = bitboard::shift(men, d) & empty;
-        while to != 0 {
-            let at = 1u64 << u64::trailing_zeros(to);
+        for bit in Members(bitboard::shift(men, d) & empty) {
+            let at = 1u64 << bit;
             let back = bitboard::shift(at, 3 - d);
             let mv = Move {
                 captured: 0,
@@ -124,12 +123,10 @@ pub fn quiet_moves(v: View) -> Listing
             } else {
                 overflow = true;
             }
-            to = to & (to - 1);
         }
     }
-    let mut left = v.own_kings();
-    while left != 0 {
-        let king = 1u64 << u64::trailing_zeros(left);
+    for bit in Members(v.own_kings()) {
+        let king = 1u64 << bit;
         let from = bitboard::first(king);
         for dir in 0..4 {
             let mut land = bitboard::shift(king, dir) & empty;
@@ -148,7 +145,6 @@ pub fn quiet_moves(v: View) -> Listing
                 land = bitboard::shift(land, dir) & empty;
             }
         }
-        left = left & (left - 1);
     }
     let list = MoveList {
         moves: moves,

@@ -4,11 +4,11 @@ use mathlib.Core.Path.{◌≡◌, refl, sym, ap, ap₂, ◌∙◌}
 use Prim.Native.Nat.{ℕ, ◌*◌, ◌%◌, ◌^◌, ◌<◌}
 use native.Mathlib.Omega.{arith}
 use lib.Bits.{bit_or}
-use Rattle.squares.proofs.Pointwise.{one_bit}
 use Rattle.squares.proofs.Members.{lowest_lt}
 use Rattle.captures.specs.Walks.{any_up_to}
 use Rattle.squares.proofs.Loops.{cleared}
 use Rattle.captures.specs.Open.{king_jump}
+use Rattle.captures.proofs.Loops.{one_at}
 use Rattle.quiets.specs.Tests.{any_in, king_open}
 use Rattle.squares.specs.Sets.{lowest, members}
 use Rattle.quiets.proofs.Some.{any_here, any_on, any_done}
@@ -19,7 +19,7 @@ asked : (them empty m bit at : ℕ) (r t : Bool) → m < 2 ^ 64 → 0 < m → bi
     → r ≡ any_up_to (king_jump at them (bit_or empty at)) 4 → r ≡ t → king_open them empty (lowest m) ≡ t
 unfolding king_open
 asked them empty m bit at r t h p b a e x =
-    let one = a ∙ ap (λ (i : ℕ). (1 * 2 ^ i) % 2 ^ 64) b ∙ one_bit (lowest m) (lowest_lt 64 m p h) in
+    let one = a ∙ one_at bit (lowest m) (lowest_lt 64 m p h) b in
     ap (λ (x : ℕ). any_up_to (king_jump x them (bit_or empty x)) 4) (sym one) ∙ sym e ∙ x
 
 pub loop-bit-init : goal.loop-bit-init
