@@ -1,16 +1,10 @@
 -- Each turn sets the search onto the lowest king left and records its captures, if it has a jump: one step of the fold.
-use mathlib.Core.Path.{refl, sym, ◌∙◌}
+use mathlib.Core.Path.{sym, ◌∙◌}
 use Rattle.squares.proofs.Loops.{next_lt, turn, done}
 use Rattle.captures.specs.Kings.{kings_captures_of}
 use Rattle.captures.proofs.Shut.{king_shut}
 use Rattle.captures.proofs.Loops.{one_at, king_turn}
 use Rattle.captures.proofs.pieces.kings_captures.Goals as goal
-
-pub loop-bit-init : goal.loop-bit-init
-loop-bit-init g c = rw c.into_iter-bit-iterator.ensures.into_iter_gives (record { fold = refl; fits = c.ranges.kings.fits })
-
-pub overflow_shl-at : goal.overflow_shl-at
-overflow_shl-at g c = rw c.in-Some.ensures.steps.1 (next_lt _ c.loop-bit.invariant c.in-Some.ensures.steps.0)
 
 pub loop-bit-preserved-then-king_open : goal.loop-bit-preserved-then-king_open
 loop-bit-preserved-then-king_open g c =

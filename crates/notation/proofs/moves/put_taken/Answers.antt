@@ -1,5 +1,5 @@
 -- One square a turn: what is put on and what remains are the whole list.
-use mathlib.Core.Path.{refl, ap, ◌∙◌}
+use mathlib.Core.Path.{ap, ◌∙◌}
 use Prim.Native.Nat.{◌^◌, ◌<◌}
 use native.Mathlib.Omega.{arith}
 use Rattle.squares.specs.Sets.{lowest}
@@ -8,9 +8,6 @@ use Rattle.squares.proofs.Loops.{cleared}
 use Rattle.texts.proofs.Writers.{square_lt}
 use Rattle.notation.proofs.MoveTexts.{taken_turn, taken_done}
 use Rattle.notation.proofs.moves.put_taken.Goals as goal
-
-pub loop-bit-init : goal.loop-bit-init
-loop-bit-init c = rw c.into_iter-bit-iterator.ensures.into_iter_gives (c.ranges.set.fits, refl)
 
 pub overflow_cast-n : goal.overflow_cast-n
 overflow_cast-n c = omega (arith, c.from_bit-n.ensures ∙ ap square_at_bit c.in-Some.ensures.steps.1, square_lt (lowest c.loop-bit.bit-iterator.0))

@@ -4,16 +4,9 @@ use lib.ListN.{length}
 use Prim.Native.Nat.{ℕ}
 use native.Mathlib.Omega.{arith}
 use Rattle.squares.specs.Sets.{lowest}
-use Rattle.squares.proofs.Members.{lowest_lt}
 use Rattle.quiets.specs.Quiets.{flights}
-use Rattle.quiets.proofs.Counts.{sum_start, sum_turn, sum_done, kings_most}
+use Rattle.quiets.proofs.Counts.{sum_turn, sum_done, kings_most}
 use Rattle.quiets.proofs.quiets.kings_count.Goals as goal
-
-pub loop-bit-init : goal.loop-bit-init
-loop-bit-init c = rw c.into_iter-bit-iterator.ensures.into_iter_gives (sum_start _ _ c.ranges.kings.fits)
-
-pub king_count-n-requires : goal.king_count-n-requires
-king_count-n-requires c = rw c.in-Some.ensures.steps.1 (lowest_lt 64 c.loop-bit.bit-iterator.0 c.in-Some.ensures.steps.0 c.loop-bit.invariant.fits)
 
 pub overflow_add-n : goal.overflow_add-n
 overflow_add-n c =

@@ -22,12 +22,6 @@ asked them empty m bit at r t h p b a e x =
     let one = a ∙ one_at bit (lowest m) (lowest_lt 64 m p h) b in
     ap (λ (x : ℕ). any_up_to (king_jump x them (bit_or empty x)) 4) (sym one) ∙ sym e ∙ x
 
-pub loop-bit-init : goal.loop-bit-init
-loop-bit-init c = rw c.into_iter-bit-iterator.ensures.into_iter_gives (refl, c.own_kings.type_inv)
-
-pub overflow_shl-at : goal.overflow_shl-at
-overflow_shl-at c = rw c.in-Some.ensures.steps.1 (lowest_lt 64 c.loop-bit.bit-iterator.0 c.in-Some.ensures.steps.0 c.loop-bit.invariant.1)
-
 pub returns-then-king_open : goal.returns-then-king_open
 returns-then-king_open c =
     let m = c.loop-bit.bit-iterator.0 in

@@ -1,6 +1,6 @@
 -- Each turn stores one move in the array: the men's steps by the lowest bit reached, in both directions forward; then the landings
 -- of each flight, direction by direction and king by king.
-use mathlib.Core.Path.{◌≡◌, refl, sym, ap, ap₂, ◌∙◌}
+use mathlib.Core.Path.{◌≡◌, sym, ap, ap₂, ◌∙◌}
 use mathlib.Core.Bool.{Bool, false}
 use mathlib.Core.List.{List, ◌∷◌, [], foldl, foldl-append, map}
 use Prim.Native.Nat.{ℕ, ◌+◌, ◌-◌, ◌*◌, ◌%◌, ◌^◌, ◌<◌}
@@ -37,12 +37,6 @@ loop-k-init c = (walk_start _ _, omega arith)
 pub overflow_add-d : goal.overflow_add-d
 overflow_add-d c = omega (arith, forward_le c.args.v.side, c.forward-first.ensures)
 
-pub loop-bit-init : goal.loop-bit-init
-loop-bit-init c = rw c.into_iter-bit-iterator.ensures.into_iter_gives (record { fits = and_lt _ _ c.shift.type_inv; same = refl })
-
-pub overflow_shl-at : goal.overflow_shl-at
-overflow_shl-at c = rw c.in-Some.ensures.steps.1 (lowest_lt 64 c.loop-bit.bit-iterator.0 c.in-Some.ensures.steps.0 c.loop-bit.invariant.fits)
-
 pub overflow_sub-d : goal.overflow_sub-d
 overflow_sub-d c = omega (arith, forward_le c.args.v.side, c.forward-first.ensures, c.loop-k-test.true)
 
@@ -77,13 +71,6 @@ loop-k-preserved c =
           (ones (step_move d) _ ∙ ap (λ (t : ℕ). map (step_move d) (members (bit_and t c.empty-empty.result))) c.shift.ensures)),
       omega arith,
     )
-
-pub loop-bit-2-init : goal.loop-bit-2-init
-loop-bit-2-init c = rw c.into_iter-bit-iterator-2.ensures.into_iter_gives (record { fits = c.own_kings.type_inv; same = refl })
-
-pub overflow_shl-king : goal.overflow_shl-king
-overflow_shl-king c =
-    rw c.in-Some-bit.ensures.steps.1 (lowest_lt 64 c.loop-bit-2.bit-iterator.0 c.in-Some-bit.ensures.steps.0 c.loop-bit-2.invariant.fits)
 
 pub loop-dir-init : goal.loop-dir-init
 loop-dir-init c = (walk_start _ _, omega arith)
