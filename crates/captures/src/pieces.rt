@@ -8,7 +8,7 @@ ghost use Rattle.captures.specs.View.{own_men_of, own_kings_of, empty_of};
 
 use crate::movegen::{Captures, king_open, man_open};
 use crate::view::View;
-use squares::bitboard::Bitboard;
+use squares::bitboard::{Bitboard, Members};
 
 // Most boards have no more captures than this.
 pub const ROOM: usize = 14;
@@ -18,15 +18,13 @@ pub const ROOM: usize = 14;
 fn men_captures<const N: usize>(s: &mut Captures<N>, men: Bitboard, empty: Bitboard)
     ensures { s.new ≡ men_captures_of s.old men empty }
 {
-    let mut left = men;
-    while left != 0 {
-        let at = 1u64 << u64::trailing_zeros(left);
+    for bit in Members(men) {
+        let at = 1u64 << bit;
         s.from = at;
         s.empty = empty | at;
         if man_open(at, s.them, empty | at) {
             s.man(at, 0);
         }
-        left = left & (left - 1);
     }
 }
 
@@ -34,15 +32,13 @@ fn men_captures<const N: usize>(s: &mut Captures<N>, men: Bitboard, empty: Bitbo
 fn kings_captures<const N: usize>(s: &mut Captures<N>, kings: Bitboard, empty: Bitboard)
     ensures { s.new ≡ kings_captures_of s.old kings empty }
 {
-    let mut left = kings;
-    while left != 0 {
-        let at = 1u64 << u64::trailing_zeros(left);
+    for bit in Members(kings) {
+        let at = 1u64 << bit;
         s.from = at;
         s.empty = empty | at;
         if king_open(at, s.them, empty | at) {
             s.king(at, 0, 4);
         }
-        left = left & (left - 1);
     }
 }
 

@@ -18,7 +18,7 @@ use captures::moves::{BLANK, MAX_MOVES, MoveList};
 use captures::view::View;
 use positions::moves::Move;
 use squares::bitboard;
-use squares::bitboard::Bitboard;
+use squares::bitboard::{Bitboard, Members};
 use squares::piece::Color;
 
 // A list of moves, and whether there were more than it has room for.
@@ -76,13 +76,11 @@ fn kings_open(v: View) -> bool
     ensures { result ≡ any_in (king_open v.them (empty_of v)) (members (own_kings_of v)) }
 {
     let empty = v.empty();
-    let mut left = v.own_kings();
-    while left != 0 {
-        let at = 1u64 << u64::trailing_zeros(left);
+    for bit in Members(v.own_kings()) {
+        let at = 1u64 << bit;
         if movegen::king_open(at, v.them, empty | at) {
             return true;
         }
-        left = left & (left - 1);
     }
     false
 }
@@ -111,9 +109,8 @@ pub fn quiet_moves(v: View) -> Listing
     let mut overflow = false;
     for k in 0..2 {
         let d = first + k;
-        let mut to = bitboard::shift(men, d) & empty;
-        while to != 0 {
-            let at = 1u64 << u64::trailing_zeros(to);
+        for bit in Members(bitboard::shift(men, d) & empty) {
+            let at = 1u64 << bit;
             let back = bitboard::shift(at, 3 - d);
             let mv = Move {
                 captured: 0,
@@ -126,12 +123,10 @@ pub fn quiet_moves(v: View) -> Listing
             } else {
                 overflow = true;
             }
-            to = to & (to - 1);
         }
     }
-    let mut left = v.own_kings();
-    while left != 0 {
-        let king = 1u64 << u64::trailing_zeros(left);
+    for bit in Members(v.own_kings()) {
+        let king = 1u64 << bit;
         let from = bitboard::first(king);
         for dir in 0..4 {
             let mut land = bitboard::shift(king, dir) & empty;
@@ -150,7 +145,6 @@ pub fn quiet_moves(v: View) -> Listing
                 land = bitboard::shift(land, dir) & empty;
             }
         }
-        left = left & (left - 1);
     }
     let list = MoveList {
         moves: moves,
@@ -191,10 +185,8 @@ fn kings_count(kings: Bitboard, empty: Bitboard) -> u32
     ensures { result ≡ length (king_quiets kings empty) }
 {
     let mut n = 0u32;
-    let mut left = kings;
-    while left != 0 {
-        n += king_count(u64::trailing_zeros(left), empty);
-        left = left & (left - 1);
+    for bit in Members(kings) {
+        n += king_count(bit, empty);
     }
     n
 }

@@ -5,8 +5,5 @@ use Rattle.squares.proofs.Loops.{Left}
 use Rattle.captures.specs.Kings.{king_captures}
 use Rattle.captures.proofs.pieces.kings_captures.Given as goal
 
-abbrev pub invariant-loop-left : goal.invariant-loop-left
-invariant-loop-left g l = Left (king_captures l.empty) (foldl (king_captures l.empty) l.fn.s (members l.fn.kings)) l.s l.left
-
-abbrev pub decreases-loop-left : goal.decreases-loop-left
-decreases-loop-left g l = l.left
+abbrev pub invariant-loop-bit : goal.invariant-loop-bit
+invariant-loop-bit g l = Left (king_captures l.empty) (foldl (king_captures l.empty) l.fn.s (members l.fn.kings)) l.s l.bit-iterator.0

@@ -1,26 +1,26 @@
 -- Each turn adds the moves of the lowest king left; the whole sum is small.
+use mathlib.Core.Path.{◌≡◌, ap, ◌∙◌}
+use lib.ListN.{length}
+use Prim.Native.Nat.{ℕ}
 use native.Mathlib.Omega.{arith}
-use Rattle.squares.proofs.Members.{lowest_lt}
-use Rattle.squares.proofs.Loops.{cleared}
-use Rattle.quiets.proofs.Counts.{sum_start, sum_turn, sum_done, kings_most}
+use Rattle.squares.specs.Sets.{lowest}
+use Rattle.quiets.specs.Quiets.{flights}
+use Rattle.quiets.proofs.Counts.{sum_turn, sum_done, kings_most}
 use Rattle.quiets.proofs.quiets.kings_count.Goals as goal
-
-pub loop-left-init : goal.loop-left-init
-loop-left-init c = sum_start _ _ c.ranges.kings.fits
-
-pub king_count-n-requires : goal.king_count-n-requires
-king_count-n-requires c = lowest_lt 64 c.loop-left.left (omega arith) c.loop-left.invariant.fits
 
 pub overflow_add-n : goal.overflow_add-n
 overflow_add-n c =
-    omega (arith, (sum_turn _ _ c.loop-left.n c.loop-left.left c.king_count-n.result c.loop-left.invariant (omega arith) c.king_count-n.ensures).same, kings_most c.args.kings c.args.empty)
+    let s = c.in-Some.ensures.steps in
+    let e : c.king_count-n.result ≡ length (flights c.args.empty (lowest c.loop-bit.bit-iterator.0)) =
+    c.king_count-n.ensures ∙ ap (λ (i : ℕ). length (flights c.args.empty i)) s.1 in
+    omega (arith, (sum_turn _ _ c.loop-bit.n c.loop-bit.bit-iterator.0 _ c.loop-bit.invariant s.0 e).same, kings_most c.args.kings c.args.empty)
 
-pub loop-left-smaller : goal.loop-left-smaller
-loop-left-smaller c = cleared c.loop-left.left (omega arith)
-
-pub loop-left-preserved : goal.loop-left-preserved
-loop-left-preserved c =
-    sum_turn _ _ c.loop-left.n c.loop-left.left c.king_count-n.result c.loop-left.invariant (omega arith) c.king_count-n.ensures
+pub loop-bit-preserved : goal.loop-bit-preserved
+loop-bit-preserved c =
+    let s = c.in-Some.ensures.steps in
+    let e : c.king_count-n.result ≡ length (flights c.args.empty (lowest c.loop-bit.bit-iterator.0)) =
+    c.king_count-n.ensures ∙ ap (λ (i : ℕ). length (flights c.args.empty i)) s.1 in
+    rw s.2 (sum_turn _ _ c.loop-bit.n c.loop-bit.bit-iterator.0 _ c.loop-bit.invariant s.0 e)
 
 pub returns : goal.returns
-returns c = sum_done _ _ c.loop-left.n c.loop-left.left c.loop-left.invariant c.loop-left-test.false
+returns c = sum_done _ _ c.loop-bit.n c.loop-bit.bit-iterator.0 c.loop-bit.invariant c.in-None.ensures.steps.0

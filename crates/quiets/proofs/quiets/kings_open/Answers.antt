@@ -1,50 +1,48 @@
 -- The loop asks the kings in turn, the lowest first.
-use mathlib.Core.Path.{refl, sym, ap, ap₂, ◌∙◌}
-use Prim.Native.Nat.{ℕ}
+use mathlib.Core.Bool.{Bool}
+use mathlib.Core.Path.{◌≡◌, refl, sym, ap, ap₂, ◌∙◌}
+use Prim.Native.Nat.{ℕ, ◌*◌, ◌%◌, ◌^◌, ◌<◌}
 use native.Mathlib.Omega.{arith}
 use lib.Bits.{bit_or}
-use Rattle.squares.proofs.Pointwise.{one_bit}
 use Rattle.squares.proofs.Members.{lowest_lt}
 use Rattle.captures.specs.Walks.{any_up_to}
 use Rattle.squares.proofs.Loops.{cleared}
 use Rattle.captures.specs.Open.{king_jump}
+use Rattle.captures.proofs.Loops.{one_at}
 use Rattle.quiets.specs.Tests.{any_in, king_open}
-use Rattle.squares.specs.Sets.{members}
+use Rattle.squares.specs.Sets.{lowest, members}
 use Rattle.quiets.proofs.Some.{any_here, any_on, any_done}
 use Rattle.quiets.proofs.quiets.kings_open.Goals as goal
 
-pub loop-left-init : goal.loop-left-init
-loop-left-init c = (refl, c.own_kings-left.type_inv)
-
-pub overflow_cast-at : goal.overflow_cast-at
-overflow_cast-at c = let m = c.loop-left.left in omega (arith, lowest_lt 64 m (omega arith) c.loop-left.invariant.1)
-
-pub overflow_shl-at : goal.overflow_shl-at
-overflow_shl-at c = let m = c.loop-left.left in lowest_lt 64 m (omega arith) c.loop-left.invariant.1
+-- the test of the bit as the loop makes it
+asked : (them empty m bit at : ℕ) (r t : Bool) → m < 2 ^ 64 → 0 < m → bit ≡ lowest m → at ≡ (1 * 2 ^ bit) % 2 ^ 64
+    → r ≡ any_up_to (king_jump at them (bit_or empty at)) 4 → r ≡ t → king_open them empty (lowest m) ≡ t
+unfolding king_open
+asked them empty m bit at r t h p b a e x =
+    let one = a ∙ one_at bit (lowest m) (lowest_lt 64 m p h) b in
+    ap (λ (x : ℕ). any_up_to (king_jump x them (bit_or empty x)) 4) (sym one) ∙ sym e ∙ x
 
 pub returns-then-king_open : goal.returns-then-king_open
-unfolding king_open
 returns-then-king_open c =
-    let m = c.loop-left.left in
-    let l = lowest_lt 64 m (omega arith) c.loop-left.invariant.1 in
-    any_here (king_open c.args.v.them c.empty-empty.result) m _ (omega arith) c.loop-left.invariant.1 c.loop-left.invariant.0
-    (ap (λ (x : ℕ). any_up_to (king_jump x c.args.v.them (bit_or c.empty-empty.result x)) 4) (sym (one_bit _ l)) ∙ sym c.king_open.ensures ∙ c.if-king_open.true)
-    ∙ ap₂ (λ (e k : ℕ). any_in (king_open c.args.v.them e) (members k)) c.empty-empty.ensures c.own_kings-left.ensures
+    let m = c.loop-bit.bit-iterator.0 in
+    let s = c.in-Some.ensures.steps in
+    let h : m < 2 ^ 64 = c.loop-bit.invariant.1 in
+    any_here (king_open c.args.v.them c.empty-empty.result) m _ s.0 h (rw c.into_iter-bit-iterator.ensures.into_iter_gives at c.loop-bit.invariant.0)
+    (asked c.args.v.them c.empty-empty.result m _ _ _ _ h s.0 s.1 refl c.king_open.ensures c.if-king_open.true)
+    ∙ ap₂ (λ (e k : ℕ). any_in (king_open c.args.v.them e) (members k)) c.empty-empty.ensures c.own_kings.ensures
 
-pub loop-left-smaller : goal.loop-left-smaller
-loop-left-smaller c = cleared c.loop-left.left (omega arith)
-
-pub loop-left-preserved : goal.loop-left-preserved
-unfolding king_open
-loop-left-preserved c =
-    let m = c.loop-left.left in
-    let l = lowest_lt 64 m (omega arith) c.loop-left.invariant.1 in (
-      any_on (king_open c.args.v.them c.empty-empty.result) m _ (omega arith) c.loop-left.invariant.1 c.loop-left.invariant.0
-          (ap (λ (x : ℕ). any_up_to (king_jump x c.args.v.them (bit_or c.empty-empty.result x)) 4) (sym (one_bit _ l)) ∙ sym c.king_open.ensures ∙ c.if-king_open.false),
-      omega (arith, cleared m (omega arith), c.loop-left.invariant.1),
+pub loop-bit-preserved : goal.loop-bit-preserved
+loop-bit-preserved c =
+    let m = c.loop-bit.bit-iterator.0 in
+    let s = c.in-Some.ensures.steps in
+    let h : m < 2 ^ 64 = c.loop-bit.invariant.1 in
+    rw s.2 (
+      any_on (king_open c.args.v.them c.empty-empty.result) m _ s.0 h c.loop-bit.invariant.0
+          (asked c.args.v.them c.empty-empty.result m _ _ _ _ h s.0 s.1 refl c.king_open.ensures c.if-king_open.false),
+      omega (arith, cleared m s.0, h),
     )
 
 pub returns : goal.returns
 returns c =
-    any_done _ c.loop-left.left _ c.loop-left-test.false c.loop-left.invariant.0
-    ∙ ap₂ (λ (e k : ℕ). any_in (king_open c.args.v.them e) (members k)) c.empty-empty.ensures c.own_kings-left.ensures
+    any_done _ c.loop-bit.bit-iterator.0 _ c.in-None.ensures.steps.0 (rw c.into_iter-bit-iterator.ensures.into_iter_gives at c.loop-bit.invariant.0)
+    ∙ ap₂ (λ (e k : ℕ). any_in (king_open c.args.v.them e) (members k)) c.empty-empty.ensures c.own_kings.ensures

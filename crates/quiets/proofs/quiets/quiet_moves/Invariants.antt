@@ -19,11 +19,8 @@ held moves len = record { moves = moves; len = len }
 abbrev pub found : List Move → ℕ → Bool → Listing
 found moves len overflow = listing (held moves len) overflow
 
-abbrev pub invariant-loop-to : goal.invariant-loop-to
-invariant-loop-to l = Adding (λ i. step_move l.d i ∷ []) (foldl add_of (found l.initial.moves l.initial.len l.initial.overflow) (flat_map (λ i. step_move l.d i ∷ []) (members l.initial.to))) (found l.moves l.len l.overflow) l.to
-
-abbrev pub decreases-loop-to : goal.decreases-loop-to
-decreases-loop-to l = l.to
+abbrev pub invariant-loop-bit : goal.invariant-loop-bit
+invariant-loop-bit l = Adding (λ i. step_move l.d i ∷ []) (foldl add_of (found l.initial.moves l.initial.len l.initial.overflow) (flat_map (λ i. step_move l.d i ∷ []) (members l.initial.bit-iterator.0))) (found l.moves l.len l.overflow) l.bit-iterator.0
 
 abbrev pub invariant-loop-k : goal.invariant-loop-k
 invariant-loop-k l = Walked (λ i. men_steps l.men l.empty (l.first + i)) (found l.initial.moves l.initial.len l.initial.overflow) (found l.moves l.len l.overflow) l.k × (l.k ≤ 2)
@@ -37,8 +34,5 @@ decreases-loop-land l = rank (direction_at l.dir) l.land
 abbrev pub invariant-loop-dir : goal.invariant-loop-dir
 invariant-loop-dir l = Walked (flight_from l.from l.king l.empty) (found l.initial.moves l.initial.len l.initial.overflow) (found l.moves l.len l.overflow) l.dir × (l.dir ≤ 4)
 
-abbrev pub invariant-loop-left : goal.invariant-loop-left
-invariant-loop-left l = Adding (flights l.empty) (foldl add_of (found l.initial.moves l.initial.len l.initial.overflow) (flat_map (flights l.empty) (members l.initial.left))) (found l.moves l.len l.overflow) l.left
-
-abbrev pub decreases-loop-left : goal.decreases-loop-left
-decreases-loop-left l = l.left
+abbrev pub invariant-loop-bit-2 : goal.invariant-loop-bit-2
+invariant-loop-bit-2 l = Adding (flights l.empty) (foldl add_of (found l.initial.moves l.initial.len l.initial.overflow) (flat_map (flights l.empty) (members l.initial.bit-iterator.0))) (found l.moves l.len l.overflow) l.bit-iterator.0

@@ -7,8 +7,6 @@ use Rattle.texts.specs.Lent.{over}
 use Rattle.squares.specs.Sets.{members}
 use Rattle.texts.proofs.fen.put_list.Given as goal
 
-abbrev pub invariant-loop-left : goal.invariant-loop-left
-invariant-loop-left l = (l.left < 2 ^ 64) × (over (remaining l.kings l.first (members l.left)) l.out ≡ over (list_text l.kings l.set) l.initial.out)
-
-abbrev pub decreases-loop-left : goal.decreases-loop-left
-decreases-loop-left l = l.left
+abbrev pub invariant-loop-bit : goal.invariant-loop-bit
+invariant-loop-bit l =
+    (l.bit-iterator.0 < 2 ^ 64) × (over (remaining l.kings l.first (members l.bit-iterator.0)) l.out ≡ over (list_text l.kings l.set) l.initial.out)
