@@ -91,9 +91,9 @@ module _ (g : Game) (m : Move) where
     where
       go : (s q t u : Bool) (p : Position)
           → Told g (reached_of g m
-              (cond s
-              (cond q (cond t (Err (refusal 17)) (cond u (Ok p) (Err (refusal 15)))) (Err (refusal 11)))
-              (Err (refusal 12))))
+          (cond s
+          (cond q (cond t (Err (refusal 17)) (cond u (Ok p) (Err (refusal 15)))) (Err (refusal 11)))
+          (Err (refusal 12))))
       go false q t u p = told_err g 12 (omega arith) refl (λ n. refl)
       go true false t u p = told_err g 11 (omega arith) refl (λ n. refl)
       go true true true u p = told_err g 17 (omega arith) refl (λ n. refl)

@@ -6,12 +6,12 @@ use captures::moves::MoveList;
 use movegen::perft::Divided;
 use positions::moves::Move;
 use positions::position::Position;
+use squares::bitboard::Bitboard;
+use squares::piece::Piece;
 use squares::refusal::Refusal;
 use std::fmt::Display;
 use std::io;
 use texts::fen;
-use squares::piece::Piece;
-use squares::bitboard::Bitboard;
 
 pub(crate) fn refusal(rt: &impl Print, e: Refusal) -> io::Result<()> {
     print!(rt; "{} {}", e.number(), e.square())

@@ -6,8 +6,8 @@ use games::game::{Game, Outcome, Termination};
 use gametexts::game::PlayedText;
 use positions::position::Position;
 use squares::piece::Color;
-use std::io;
 use squares::refusal::Refusal;
+use std::io;
 
 pub(crate) fn blank_game() -> Game {
     Game::new()
@@ -69,7 +69,11 @@ fn codes(rt: &impl Print, answers: &[u8]) -> io::Result<()> {
 }
 
 // The game, then the lent answers as they are after the call.
-pub(crate) fn begun_with(rt: &impl Print, b: Result<Game, Refusal>, answers: &[u8]) -> io::Result<()> {
+pub(crate) fn begun_with(
+    rt: &impl Print,
+    b: Result<Game, Refusal>,
+    answers: &[u8],
+) -> io::Result<()> {
     answered(rt, b)?;
     print!(rt; ", answers")?;
     codes(rt, answers)?;

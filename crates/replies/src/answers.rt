@@ -10,10 +10,10 @@ use captures::moves::{MAX_MOVES, MoveList};
 use movegen::perft::Divided;
 use positions::moves::Move;
 use positions::position::Position;
+use squares::refusal::Refusal;
 use texts::space::Space;
 use texts::{fen, hub};
 use wording::output;
-use squares::refusal::Refusal;
 
 pub fn put_fen(out: &mut Space, p: Position)
     ensures { out.new ≡ over (fen_word p) out.old }

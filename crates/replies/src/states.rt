@@ -9,11 +9,11 @@ ghost use Rattle.replies.specs.States.{winner_word, outcome_word, judged_word, c
 use crate::answers;
 use captures::moves::{MAX_MOVES, MoveList};
 use games::game::{Game, Outcome, Termination};
+use positions::position::Position;
 use squares::piece::Color;
+use squares::refusal::Refusal;
 use texts::space::Space;
 use wording::output;
-use squares::refusal::Refusal;
-use positions::position::Position;
 
 fn put_winner(out: &mut Space, w: Option<Color>)
     ensures { out.new ≡ over (winner_word w) out.old }

@@ -8,6 +8,7 @@ ghost use Rattle.requests.specs.Asked.{fen_request, hub_request, numbered_word, 
 use crate::reading;
 use crate::reading::Form;
 use positions::position;
+use positions::position::Position;
 use replies::answers;
 use scores::eval::Classical;
 use squares::piece::Color;
@@ -15,7 +16,6 @@ use squares::refusal::Refusal;
 use texts::space::Space;
 use wording::output::Flaw;
 use wording::{numbers, output, words};
-use positions::position::Position;
 
 pub(crate) fn fen(p: Result<Position, Refusal>, out: &mut Space)
     ensures { out.new ≡ over (fen_request p) out.old }

@@ -1,9 +1,6 @@
--- The index stays below 256, the length of the array, and no more counts are 0 than were looked at.
-use Prim.Native.Nat.{◌-◌, ◌≤◌}
+-- No more counts are 0 than were looked at.
+use Prim.Native.Nat.{◌≤◌}
 use Rattle.handed.proofs.show.zeros.Given as goal
 
-abbrev pub invariant-loop-i : goal.invariant-loop-i
-invariant-loop-i l = (l.n ≤ l.i) × (l.i ≤ 256)
-
-abbrev pub decreases-loop-i : goal.decreases-loop-i
-decreases-loop-i l = 256 - l.i
+abbrev pub invariant-loop-count : goal.invariant-loop-count
+invariant-loop-count l = l.n ≤ l.count-index
