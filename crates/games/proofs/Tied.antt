@@ -21,7 +21,7 @@ use Rattle.rules.specs.Ordered.{legal, listed}
 use Rattle.movegen.specs.Lists.{after_of, played_of}
 use Rattle.games.specs.Demand3.{answers_to, game_after, game_of, heard_of, heard, Demand3}
 use Rattle.games.specs.Games.{blank_position, last_of, valid, judged_of, ended}
-use Rattle.games.specs.Play.{fresh_of, new_of, reached_of, play_of, after_play, outcome_of}
+use Rattle.games.specs.Play.{empty_game, fresh_of, new_of, reached_of, play_of, after_play, outcome_of}
 use Rattle.games.specs.declared.game.Game.{Game}
 use Rattle.games.proofs.Laws.{demand3}
 use Rattle.games.proofs.game.Game.from_position.Reads as new-reads
@@ -70,7 +70,7 @@ module _ (g : Game) where
   told_cond true x y u v = u
   told_cond false x y u v = v
 
-told_new : (p : Position) → Told (fresh_of blank_position) (new_of p)
+told_new : (p : Position) → Told empty_game (new_of p)
 unfolding new_of
 told_new p =
     told_cond _ (sound p) _ _ (told_ok _ (fresh_of p)) (told_err _ 12 (omega arith) refl (λ n. refl))
