@@ -13,4 +13,3 @@ begun_told b = beside b.answer b.game
 
 abbrev pub played_told : Played → Told Game
 played_told p = beside p.answer p.game
-

@@ -17,11 +17,11 @@ use positions::position;
 use positions::position::Position;
 use scores::eval;
 use scores::eval::Classical;
+use squares::refusal::Refusal;
 use squares::{bitboard, square};
 use std::io;
 use texts::{bytes, fen, hub};
 use wording::words;
-use squares::refusal::Refusal;
 
 fn of_position(
     rt: &impl Print,

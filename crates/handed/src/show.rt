@@ -7,11 +7,11 @@ use movegen::movegen::Listed;
 use movegen::perft::Divided;
 use positions::moves::Move;
 use positions::position::Position;
+use squares::bitboard::Bitboard;
+use squares::piece::Piece;
 use squares::refusal::Refusal;
 use std::io;
 use texts::fen;
-use squares::piece::Piece;
-use squares::bitboard::Bitboard;
 
 pub(crate) fn refusal(rt: &impl Print, e: Refusal) -> io::Result<()> {
     print!(rt; "{} {}", e.number(), e.square())

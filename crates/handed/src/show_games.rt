@@ -7,8 +7,8 @@ use gametexts::game::PlayedText;
 use positions::position;
 use positions::position::Position;
 use squares::piece::Color;
-use std::io;
 use squares::refusal::Refusal;
+use std::io;
 
 pub(crate) fn blank_game() -> Game {
     let b = Game::from_position(position::initial());

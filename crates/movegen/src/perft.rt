@@ -85,7 +85,12 @@ fn listed(found: Captures) -> Result<u64, Refusal>
 }
 
 // The number of captures, from the short list, or from the long one where the short one is too small.
-fn captures_count(men: Bitboard, kings: Bitboard, them: Bitboard, empty: Bitboard) -> Result<u64, Refusal>
+fn captures_count(
+    men: Bitboard,
+    kings: Bitboard,
+    them: Bitboard,
+    empty: Bitboard,
+) -> Result<u64, Refusal>
     ensures { result ≡ listed_count (capture_moves_of men kings them empty) }
 {
     let few = shorts::few::few_captures(men, kings, them, empty);

@@ -9,9 +9,9 @@ use movegen::movegen::Listed;
 use movegen::perft::Divided;
 use positions::moves::Move;
 use positions::position::Position;
+use squares::refusal::Refusal;
 use texts::{fen, hub};
 use wording::output;
-use squares::refusal::Refusal;
 
 pub fn put_fen(out: &mut [u8], at: usize, p: Position) -> usize
     ensures { Adds (fen_word p) out.old at out.new result }

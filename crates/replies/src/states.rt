@@ -7,10 +7,10 @@ use crate::answers;
 use captures::moves::MAX_MOVES;
 use games::game::{Game, Outcome, Termination};
 use movegen::movegen::Listed;
-use squares::piece::Color;
-use wording::output;
-use squares::refusal::Refusal;
 use positions::position::Position;
+use squares::piece::Color;
+use squares::refusal::Refusal;
+use wording::output;
 
 fn put_winner(out: &mut [u8], at: usize, w: Option<Color>) -> usize
     ensures { Adds (winner_word w) out.old at out.new result }
@@ -42,8 +42,10 @@ pub fn put_judged(out: &mut [u8], at: usize, j: Result<Option<Outcome>, Refusal>
     ensures { Adds (judged_word j) out.old at out.new result }
 {
     match j {
-        Ok(Some(o)) => put_outcome(out, at, o),
-        Ok(None) => output::put(out, at, b"none"),
+        Ok(found) => match found {
+            Some(o) => put_outcome(out, at, o),
+            None => output::put(out, at, b"none"),
+        },
         Err(_) => at,
     }
 }

@@ -53,7 +53,7 @@ either_refused : (s : List ℕ) → readable longest_text s ≡ false → either
 unfolding either_of
 either_refused s e = rw (fen_refused s e, hub_refused s e) (go (eqb (length s) 51 && eqb (index_of (is 58) s) 51))
   where
-    go : (b : Bool) → cond b (Err TextTooLong) (Err TextTooLong) ≡ Err TextTooLong
+    go : (b : Bool) → ◌≡◌ {A = Result Position Refusal} (cond b (Err TextTooLong) (Err TextTooLong)) (Err TextTooLong)
     go true = refl
     go false = refl
 

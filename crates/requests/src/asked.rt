@@ -8,13 +8,13 @@ ghost use Rattle.requests.specs.Asked.{fen_request, hub_request, numbered_word, 
 use crate::reading;
 use crate::reading::Form;
 use positions::position;
+use positions::position::Position;
 use replies::answers;
 use scores::eval::Classical;
 use squares::piece::Color;
 use squares::refusal::Refusal;
 use wording::output::Flaw;
 use wording::{numbers, output, words};
-use positions::position::Position;
 
 pub(crate) fn fen(p: Result<Position, Refusal>, out: &mut [u8], at: usize) -> usize
     ensures { Adds (fen_request p) out.old at out.new result }
@@ -45,9 +45,7 @@ pub(crate) fn moves(p: Result<Position, Refusal>, limit: usize, out: &mut [u8], 
     ensures { Adds (moves_request p limit) out.old at out.new result }
 {
     match p {
-        Ok(q) => {
-            answers::tell_list(out, at, movegen::movegen::legal_moves(q, limit))
-        }
+        Ok(q) => { answers::tell_list(out, at, movegen::movegen::legal_moves(q, limit)) }
         Err(e) => output::put_refusal(out, at, e),
     }
 }
@@ -96,9 +94,7 @@ pub(crate) fn perft(p: Result<Position, Refusal>, depth: &[u8], out: &mut [u8], 
 {
     match p {
         Ok(q) => match numbers::unsigned(depth) {
-            Some(n) => {
-                answers::tell_counted(out, at, movegen::perft::perft(q, n as u32))
-            }
+            Some(n) => { answers::tell_counted(out, at, movegen::perft::perft(q, n as u32)) }
             None => output::put_bad(out, at, Flaw::Number),
         },
         Err(e) => output::put_refusal(out, at, e),
@@ -110,9 +106,7 @@ pub(crate) fn divide(p: Result<Position, Refusal>, depth: &[u8], out: &mut [u8],
 {
     match p {
         Ok(q) => match numbers::unsigned(depth) {
-            Some(n) => {
-                answers::tell_divided(out, at, movegen::perft::divide(q, n as u32))
-            }
+            Some(n) => { answers::tell_divided(out, at, movegen::perft::divide(q, n as u32)) }
             None => output::put_bad(out, at, Flaw::Number),
         },
         Err(e) => output::put_refusal(out, at, e),
@@ -120,7 +114,12 @@ pub(crate) fn divide(p: Result<Position, Refusal>, depth: &[u8], out: &mut [u8],
 }
 
 // The score with these weights.
-pub(crate) fn eval(p: Result<Position, Refusal>, weights: Classical, out: &mut [u8], at: usize) -> usize
+pub(crate) fn eval(
+    p: Result<Position, Refusal>,
+    weights: Classical,
+    out: &mut [u8],
+    at: usize,
+) -> usize
     ensures { Adds (eval_request p weights) out.old at out.new result }
 {
     match p {
@@ -261,9 +260,7 @@ fn sets(arg: &[u8], out: &mut [u8], at: usize) -> usize
         return output::put_bad(out, at, Flaw::Number);
     };
     match side(words::word(arg, 3)) {
-        Ok(c) => {
-            answers::tell_placed(out, at, position::from_parts(white, black, kings, c))
-        }
+        Ok(c) => { answers::tell_placed(out, at, position::from_parts(white, black, kings, c)) }
         Err(_) => output::put_bad(out, at, Flaw::Side),
     }
 }

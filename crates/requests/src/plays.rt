@@ -171,7 +171,12 @@ pub(crate) fn play(p: Result<Position, Refusal>, texts: &[u8], out: &mut [u8], a
 }
 
 // Every record must be readable before one is played.
-pub(crate) fn record(p: Result<Position, Refusal>, records: &[u8], out: &mut [u8], at: usize) -> usize
+pub(crate) fn record(
+    p: Result<Position, Refusal>,
+    records: &[u8],
+    out: &mut [u8],
+    at: usize,
+) -> usize
     ensures { Adds (record_request p records.now) out.old at out.new result }
 {
     match p {

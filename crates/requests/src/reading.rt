@@ -4,11 +4,11 @@
 ghost use Rattle.std.specs.Prelude.{◌≡◌};
 ghost use Rattle.requests.specs.Reading.{either_of, read_of, position_in, move_in, square_in};
 
+use positions::moves::Move;
 use positions::position::Position;
+use squares::refusal::Refusal;
 use texts::{bytes, fen, hub};
 use wording::escapes;
-use squares::refusal::Refusal;
-use positions::moves::Move;
 
 // How the text of a position is read: as FEN, as Hub, or as whichever of the two it looks like.
 #[derive(Clone, Copy)]

@@ -6,12 +6,12 @@ ghost use Rattle.requests.specs.Requests.{rows, help_text, request_at, request_o
 use crate::reading::Form;
 use crate::{asked, plays, reading};
 use captures::moves::MAX_MOVES;
+use positions::position::Position;
 use scores::eval::Classical;
+use squares::refusal::Refusal;
 use texts::bytes;
 use wording::output::Flaw;
 use wording::{escapes, output, words};
-use positions::position::Position;
-use squares::refusal::Refusal;
 
 // The longest line that is looked at.
 pub const LONGEST: usize = 65536;

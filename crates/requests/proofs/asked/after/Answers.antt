@@ -4,9 +4,9 @@ use Rattle.texts.proofs.Pieces as pieces
 use Rattle.replies.specs.Answers as told
 use Rattle.requests.proofs.asked.after.Goals as goal
 
-pub returns-in-Ok : goal.returns-in-Ok
-returns-in-Ok c =
-    rw (c.in-Ok.is, ← c.listed_move.ensures, c.in-Ok.is) (pieces.adds_as (ap told.after_answer c.after.ensures) c.tell_after.ensures)
+pub returns-in-Ok-listed_move : goal.returns-in-Ok-listed_move
+returns-in-Ok-listed_move c =
+    rw (c.in-Ok.is, ← c.listed_move.ensures, c.in-Ok-listed_move.is) (pieces.adds_as (ap told.after_answer c.after.ensures) c.tell_after.ensures)
 
 pub returns-in-Err-listed_move : goal.returns-in-Err-listed_move
 returns-in-Err-listed_move c =

@@ -1,8 +1,8 @@
 -- The position, then the move.
 use Rattle.requests.proofs.asked.parse.Goals as goal
 
-pub returns-in-Ok : goal.returns-in-Ok
-returns-in-Ok c = rw (c.in-Ok.is, ← c.listed_move.ensures, c.in-Ok.is) c.tell_move.ensures
+pub returns-in-Ok-listed_move : goal.returns-in-Ok-listed_move
+returns-in-Ok-listed_move c = rw (c.in-Ok.is, ← c.listed_move.ensures, c.in-Ok-listed_move.is) c.tell_move.ensures
 
 pub returns-in-Err-listed_move : goal.returns-in-Err-listed_move
 returns-in-Err-listed_move c =
