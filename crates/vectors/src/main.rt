@@ -4,6 +4,7 @@
 #![tactic(auto)]
 
 use squares::piece::{Color, PieceKind};
+use squares::refusal::Refusal;
 use squares::{square, zobrist};
 use std::io;
 
