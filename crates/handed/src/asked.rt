@@ -107,10 +107,8 @@ fn of_game(rt: &impl Print, entry: u64, n: u64, g: Game, m: Move) -> io::Result<
 
 // Reads the numbers of a list. They come after the first three words of the line.
 fn listed(s: &[u8], list: &mut [u64]) {
-    let mut i = 0;
-    while i < list.len() {
+    for i in 0..list.len() {
         list[i] = given::number(s, i + 3);
-        i += 1;
     }
 }
 
@@ -189,12 +187,7 @@ pub(crate) fn lines(rt: &impl Print, text: &[u8]) -> io::Result<()> {
     let mut m = show::blank_move();
     let mut w = Classical::new();
     let mut g = show_games::blank_game();
-    let mut at = 0;
-    while at < text.len() {
-        let rest = &text[at..];
-        let n = bytes::find(rest, b'\n');
-        at = at + n + 1;
-        let s = &rest[..n];
+    for s in text.split(|b| *b == b'\n') {
         p = given::position(p, s);
         m = given::record(m, s);
         w = given::weights(w, s);

@@ -7,7 +7,4 @@ use Rattle.games.specs.Games.{blank_position}
 use Rattle.games.proofs.keeping.appended.Given as goal
 
 abbrev pub invariant-loop-i : goal.invariant-loop-i
-invariant-loop-i l = (l.i ≤ l.n) × (l.more ≡ take l.i l.g.kept ++ replicate (51 - l.i) blank_position)
-
-abbrev pub decreases-loop-i : goal.decreases-loop-i
-decreases-loop-i l = l.n - l.i
+invariant-loop-i l = (l.i ≤ l.g.len) × (l.more ≡ take l.i l.g.kept ++ replicate (51 - l.i) blank_position)
