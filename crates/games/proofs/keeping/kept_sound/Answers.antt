@@ -15,15 +15,15 @@ pub loop-at-preserved : goal.loop-at-preserved
 loop-at-preserved c =
     let g = c.args.g in
     let k : length g.kept ≡ 51 = search (rules, length_of_map) in
-    let s = sym c.sound.ensures ∙ c.if-sound.true in
+    let s = sym c.sound.ensures ∙ c.if-not-sound.false in
     (omega arith, all_more blank_position g.kept c.loop-at.at (omega arith) c.loop-at.invariant.1 s)
 
-pub returns-else-sound : goal.returns-else-sound
+pub returns-then-not-sound : goal.returns-then-not-sound
 unfolding window_of
-returns-else-sound c =
+returns-then-not-sound c =
     let g = c.args.g in
     let k : length g.kept ≡ 51 = search (rules, length_of_map) in
-    let s = sym c.sound.ensures ∙ c.if-sound.false in
+    let s = sym c.sound.ensures ∙ c.if-not-sound.true in
     sym (all_fails blank_position g.kept g.len c.loop-at.at (omega arith) (omega arith) s)
 
 pub returns : goal.returns

@@ -31,11 +31,6 @@ overflow_add-times c =
     let v = valid_says c.args.g c.requires in
     omega (arith, v, c.loop-k.invariant)
 
-pub overflow_add-k : goal.overflow_add-k
-overflow_add-k c =
-    let v = valid_says c.args.g c.requires in
-    omega (arith, v, c.loop-k.invariant)
-
 pub loop-k-preserved : goal.loop-k-preserved
 loop-k-preserved c =
     let v = valid_says c.args.g c.requires in
