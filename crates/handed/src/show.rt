@@ -14,7 +14,7 @@ use std::io;
 use texts::fen;
 
 pub(crate) fn refusal(rt: &impl Print, e: Refusal) -> io::Result<()> {
-    print!(rt; "{} {}", e.number(), e.square())
+    print!(rt; "{e}")
 }
 
 // The first n bytes.

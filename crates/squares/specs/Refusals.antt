@@ -1,5 +1,7 @@
 -- The number and the square that each refusal is reported with (docs/RULES.md, "Refusals").
-use Rattle.std.specs.Prelude.{ℕ, Bool, cond, ◌==◌, Err, Ok, Result}
+use Rattle.std.specs.Prelude.{ℕ, Bool, cond, ◌==◌, List, ◌∷◌, ◌++◌, Err, Ok, Result}
+use Rattle.std.specs.Fmt.{decimal}
+use Prim.Native.Char.{code}
 use Rattle.squares.specs.declared.refusal.Refusal.{Refusal}
 use Rattle.squares.specs.declared.refusal.Refusal.TheVariants.{TextTooLong, NoSide, NoColor, BadSquare, BadHubByte, NotFifty, Overlap, ManOnPromotionRow, BadMoveText, BeyondLimit, NoSuchSquare, BadPosition, BadGame, GameOver, NoMoveFits, SeveralFit, TooManyMoves, FenTooLong, SpaceTooShort}
 
@@ -50,6 +52,10 @@ square_of SpaceTooShort = 0
 abbrev pub answer_number_of : {A : Type 0} → Result A Refusal → ℕ
 answer_number_of (Ok x) = 0
 answer_number_of (Err e) = number_of e
+
+-- how a refusal is printed: its number, a space and its square
+abbrev pub refusal_output : Refusal → List ℕ
+refusal_output e = decimal (number_of e) ++ (code " " ∷ decimal (square_of e))
 
 -- the refusal e, unless a test holds
 abbrev pub unless_of : Refusal → Bool → Result Unit Refusal
