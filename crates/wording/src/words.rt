@@ -59,12 +59,10 @@ pub fn blanks(s: &[u8]) -> usize
     ensures { result ≡ blanks_in s.now }
 {
     let mut n = 0;
-    let mut i = 0;
-    while i < s.len() {
-        if s[i] == b' ' {
+    for &b in s {
+        if b == b' ' {
             n += 1;
         }
-        i += 1;
     }
     n
 }
