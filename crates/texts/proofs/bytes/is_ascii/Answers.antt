@@ -1,24 +1,17 @@
 -- Every byte before the place was at most 127; the first above it decides.
-use mathlib.Core.Path.{refl, sym, ◌∙◌}
+use mathlib.Core.Path.{sym, ◌∙◌}
 use Rattle.texts.proofs.Cuts as laws
-use borrow.Author.Rules.{rules}
+use borrow.Author.Tests.{ltb-true, ltb-false}
 use native.Mathlib.Omega.{arith}
 use Rattle.texts.proofs.bytes.is_ascii.Goals as goal
 
-pub loop-i-init : goal.loop-i-init
-loop-i-init c = (search rules, refl)
+pub returns-then-not-is_ascii : goal.returns-then-not-is_ascii
+returns-then-not-is_ascii c =
+    sym (c.loop-b.invariant ∙ laws.ascii_high c.args.s.now c.loop-b.b-index (omega arith) (omega (arith, ltb-false _ 128 (sym c.if-not-is_ascii.ensures))))
 
-pub returns-then-s-i-gt127 : goal.returns-then-s-i-gt127
-returns-then-s-i-gt127 c =
-    let s = c.args.s.now in
-    sym (c.loop-i.invariant.1 ∙ laws.ascii_high s c.loop-i.i (omega arith) c.if-s-i-gt127.true)
-
-pub loop-i-preserved : goal.loop-i-preserved
-loop-i-preserved c =
-    let s = c.args.s.now in
-    (search rules, c.loop-i.invariant.1 ∙ laws.ascii_low s c.loop-i.i (omega arith) c.if-s-i-gt127.false)
+pub loop-b-preserved : goal.loop-b-preserved
+loop-b-preserved c =
+    c.loop-b.invariant ∙ laws.ascii_low c.args.s.now c.loop-b.b-index (omega arith) (omega (arith, ltb-true _ 128 (sym c.if-not-is_ascii.ensures)))
 
 pub returns : goal.returns
-returns c =
-    let s = c.args.s.now in
-    sym (c.loop-i.invariant.1 ∙ laws.ascii_end s c.loop-i.i (omega arith))
+returns c = sym (c.loop-b.invariant ∙ laws.ascii_end c.args.s.now c.loop-b.b-index (omega arith))
