@@ -1,17 +1,13 @@
--- Every byte before the place was at most 127; the first above it decides.
-use mathlib.Core.Path.{sym, ◌∙◌}
+-- All bytes are looked at.
+use Rattle.std.proofs.Common.{◌≡◌, ◌∙◌, rules, tests}
+use Rattle.std.proofs.lemmas.Iterator.{YieldsList-from_slice}
+use Rattle.std.proofs.lemmas.Iterator.Search.{all_from_yields_List}
+use lib.Dec.{leb}
+use Rattle.core.specs.List.{list_all}
 use Rattle.texts.proofs.Cuts as laws
-use borrow.Author.Tests.{ltb-true, ltb-false}
-use native.Mathlib.Omega.{arith}
 use Rattle.texts.proofs.bytes.is_ascii.Goals as goal
 
-pub returns-then-not-is_ascii : goal.returns-then-not-is_ascii
-returns-then-not-is_ascii c =
-    sym (c.loop-b.invariant ∙ laws.ascii_high c.args.s.now c.loop-b.b-index (omega arith) (omega (arith, ltb-false _ 128 (sym c.if-not-is_ascii.ensures))))
-
-pub loop-b-preserved : goal.loop-b-preserved
-loop-b-preserved c =
-    c.loop-b.invariant ∙ laws.ascii_low c.args.s.now c.loop-b.b-index (omega arith) (omega (arith, ltb-true _ 128 (sym c.if-not-is_ascii.ensures)))
-
 pub returns : goal.returns
-returns c = sym (c.loop-b.invariant ∙ laws.ascii_end c.args.s.now c.loop-b.b-index (omega arith))
+returns c =
+    let all : c.all.result ≡ list_all (λ b. leb b 127) c.args.s.now = all_from_yields_List (λ b. leb b 127) _ _ c.all.result c.all.ensures.ran (YieldsList-from_slice _ c.iter.ensures.rest) (λ x b q k. search (rules, tests)) in
+    all ∙ laws.all_ascii c.args.s.now
