@@ -7,7 +7,7 @@ use native.Mathlib.Omega.{arith}
 use native.Mathlib.Numerals.{add-one}
 use native.Mathlib.Nat.{add_assoc}
 use lib.ListN.{length, take, drop, get_or, length-drop, drop_of_length-le}
-use lib.Seq.{drop-cons, take-suc, take_all, drop-drop, length-take-le}
+use lib.Seq.{drop-cons, take-suc, take_all, drop-drop, length-take-le, take-length}
 use lib.Dec.{leb, ltb, eqb, leb-suc-suc}
 use borrow.Author.Tests.{le-leb, lt-leb, lt-ltb, eq-eqb, ne_eqb, leb-true, leb-false, ltb-true, ltb-false}
 use Rattle.texts.specs.Bytes.{ascii, is, holds, trim_start, keep_end, trim_end, cons_head, split_on, up_to, after_or, after_or_all, after_first, starts_with, strip, index_of, parts_from, IsIndex}
@@ -33,17 +33,20 @@ all_ascii [] = refl
 all_ascii (b ∷ s) = ap (λ (t : Bool). leb b 127 && t) (all_ascii s)
 
 -- ---- trimming
-pub start_cut : (p : ℕ → Bool) (s : List ℕ) (i : ℕ) → i < length s → p (get_or s i 0) ≡ true → trim_start p (drop i s) ≡ trim_start p (drop (i + 1) s)
+pub start_cut : (p : ℕ → Bool) (s : List ℕ) → 0 < length s → p (get_or s 0 0) ≡ true → trim_start p s ≡ trim_start p (take (length s - 1) (drop 1 s))
 unfolding trim_start
-start_cut p s i h e = rw (drop_next s i h, e)
+start_cut p [] h e = absurd (omega arith)
+start_cut p (b ∷ s) h e = rw e (ap (trim_start p) (sym (rest (b ∷ s) 1)))
 
-pub start_keep : (p : ℕ → Bool) (s : List ℕ) (i : ℕ) → i < length s → p (get_or s i 0) ≡ false → trim_start p (drop i s) ≡ drop i s
+pub start_keep : (p : ℕ → Bool) (s : List ℕ) → 0 < length s → p (get_or s 0 0) ≡ false → trim_start p s ≡ s
 unfolding trim_start
-start_keep p s i h e = rw (drop_next s i h, e)
+start_keep p [] h e = absurd (omega arith)
+start_keep p (b ∷ s) h e = rw e
 
-pub start_end : (p : ℕ → Bool) (s : List ℕ) (i : ℕ) → length s ≤ i → trim_start p (drop i s) ≡ drop i s
+pub start_end : (p : ℕ → Bool) (s : List ℕ) → length s < 1 → trim_start p s ≡ s
 unfolding trim_start
-start_end p s i h = rw (drop_of_length-le s h)
+start_end p [] h = refl
+start_end p (b ∷ s) h = absurd (omega arith)
 
 keep_cond : (p : ℕ → Bool) (a : ℕ) (t : Bool) (x s : List ℕ) (b : ℕ) → keep_end p a (cond t x (s ++ b ∷ [])) ≡ cond t (keep_end p a x) (a ∷ (s ++ b ∷ []))
 unfolding keep_end
@@ -56,32 +59,24 @@ unfolding trim_end keep_end
 end_snoc p [] b = refl
 end_snoc p (a ∷ s) b = ap (keep_end p a) (end_snoc p s b) ∙ keep_cond p a (p b) (trim_end p s) s b
 
-take_last : (s : List ℕ) (e : ℕ) → 0 < e → e ≤ length s → take e s ≡ take (e - 1) s ++ get_or s (e - 1) 0 ∷ []
-take_last s e p h = let q : e ≡ suc (e - 1) = omega arith in rw (← take-suc s (e - 1) 0 (omega arith)) (ap (λ (n : ℕ). take n s) q)
+end_last : (s : List ℕ) → 0 < length s → s ≡ take (length s - 1) s ++ get_or s (length s - 1) 0 ∷ []
+end_last s p =
+    let q : length s ≡ suc (length s - 1) = omega arith in
+    sym (take-length s) ∙ ap (λ (n : ℕ). take n s) q ∙ take-suc s (length s - 1) 0 (omega arith)
 
-pub end_cut : (p : ℕ → Bool) (s : List ℕ) (e : ℕ) → 0 < e → e ≤ length s → p (get_or s (e - 1) 0) ≡ true → trim_end p (take e s) ≡ trim_end p (take (e - 1) s)
-end_cut p s e q h t = rw (take_last s e q h, end_snoc, t)
+pub end_cut : (p : ℕ → Bool) (s : List ℕ) → 0 < length s → p (get_or s (length s - 1) 0) ≡ true → trim_end p s ≡ trim_end p (take (length s - 1) s)
+end_cut p s q t = ap (trim_end p) (end_last s q) ∙ end_snoc p (take (length s - 1) s) _ ∙ ap (λ (x : Bool). cond x (trim_end p (take (length s - 1) s)) (take (length s - 1) s ++ get_or s (length s - 1) 0 ∷ [])) t
 
-pub end_keep : (p : ℕ → Bool) (s : List ℕ) (e : ℕ) → 0 < e → e ≤ length s → p (get_or s (e - 1) 0) ≡ false → trim_end p (take e s) ≡ take e s
-end_keep p s e q h t = rw (take_last s e q h, end_snoc, t)
+pub end_keep : (p : ℕ → Bool) (s : List ℕ) → 0 < length s → p (get_or s (length s - 1) 0) ≡ false → trim_end p s ≡ s
+end_keep p s q t =
+    ap (trim_end p) (end_last s q) ∙ end_snoc p (take (length s - 1) s) _ ∙ ap (λ (x : Bool). cond x (trim_end p (take (length s - 1) s)) (take (length s - 1) s ++ get_or s (length s - 1) 0 ∷ [])) t ∙ sym (end_last s q)
 
-pub end_none : (p : ℕ → Bool) (s : List ℕ) (e : ℕ) → e ≤ 0 → trim_end p (take e s) ≡ take e s
+pub end_none : (p : ℕ → Bool) (s : List ℕ) → length s < 1 → trim_end p s ≡ s
 unfolding trim_end
-end_none p s e h = let z : e ≡ 0 = omega arith in rw z
+end_none p [] h = refl
+end_none p (b ∷ s) h = absurd (omega arith)
 
 -- ---- finding
-pub find_hit : (c : ℕ) (s : List ℕ) (i : ℕ) → i < length s → get_or s i 0 ≡ c → index_of (is c) (drop i s) ≡ 0
-unfolding index_of is
-find_hit c s i h e = rw (drop_next s i h, eq-eqb _ _ e)
-
-pub find_miss : (c : ℕ) (s : List ℕ) (i : ℕ) → i < length s → (get_or s i 0 ≡ c → ⊥) → index_of (is c) (drop i s) ≡ suc (index_of (is c) (drop (i + 1) s))
-unfolding index_of is
-find_miss c s i h e = rw (drop_next s i h, ne_eqb _ _ e)
-
-pub find_end : (p : ℕ → Bool) (s : List ℕ) (i : ℕ) → length s ≤ i → index_of p (drop i s) ≡ 0
-unfolding index_of
-find_end p s i h = rw (drop_of_length-le s h)
-
 position_is : (p : ℕ → Bool) (s : List ℕ) → position_or_len p s ≡ index_of p s
 unfolding index_of
 position_is p [] = refl

@@ -133,10 +133,9 @@ digits n = cond (ltb n 10) ((code "0" + n) ∷ []) ((code "0" + n / 10) ∷ (cod
 
 -- ---- what the code's helpers find
 
--- the bytes that trimming removes: blanks, or one byte
-abbrev pub cuts : Bool → ℕ → ℕ → Bool
-cuts true c = blank
-cuts false c = is c
+-- where the test computes p, the text t is what `trims` leaves of s
+abbrev pub Trims : (ℕ → Bool → Type 0) → ((ℕ → Bool) → List ℕ → List ℕ) → List ℕ → List ℕ → Type 0
+Trims test trims s t = (p : ℕ → Bool) → ((b : ℕ) (r : Bool) → test b r → r ≡ p b) → t ≡ trims p s
 
 -- the index of the first byte for which p holds; the length where there is none
 unfoldable pub index_of : (ℕ → Bool) → List ℕ → ℕ
