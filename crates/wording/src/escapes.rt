@@ -16,10 +16,14 @@ use texts::space::Space;
 fn high(b: u8) -> Option<u32>
     ensures { IsDigit (high_of b) result }
 {
-    if b == b'+' { Some(0) } else { numbers::digit(b) }
+    if b == b'+' {
+        Some(0)
+    } else {
+        numbers::digit(b)
+    }
 }
 
-// Reads the two digits after `\x`; what it answers is explained below.
+// Reads the two digits after `\x`.
 fn hex_escape(s: &[u8]) -> Option<(u8, usize)>
     ensures { result ≡ hex_escape s.now }
 {
