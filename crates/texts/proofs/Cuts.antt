@@ -9,7 +9,7 @@ use native.Mathlib.Nat.{add_assoc}
 use lib.ListN.{length, take, drop, get_or, length-drop, drop_of_length-le}
 use lib.Seq.{drop-cons, take-suc, take_all, drop-drop, length-take-le, take-length}
 use lib.Dec.{leb, ltb, eqb, leb-suc-suc}
-use borrow.Author.Tests.{le-leb, lt-leb, lt-ltb, eq-eqb, ne_eqb, leb-true, leb-false, ltb-true, ltb-false}
+use borrow.Author.Tests.{le-leb, lt-leb, lt-ltb, ne_eqb, leb-true, leb-false, ltb-true, ltb-false}
 use Rattle.texts.specs.Bytes.{ascii, is, holds, trim_start, keep_end, trim_end, cons_head, split_on, up_to, after_or, after_or_all, after_first, starts_with, strip, index_of, parts_from, IsIndex}
 use lib.Pointwise.{pointwise}
 use Rattle.core.specs.List.{list_all, position_or_len}

@@ -1,5 +1,5 @@
 -- Each end is a square, or its refusal is passed on.
-use mathlib.Core.Path.{◌≡◌, ap, ◌∙◌}
+use mathlib.Core.Path.{◌≡◌, ap}
 use borrow.Author.Rules.{rules}
 use Rattle.std.specs.Prelude.{Ok, Err}
 use Rattle.texts.proofs.fen.ends.Goals as goal
