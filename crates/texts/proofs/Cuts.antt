@@ -1,16 +1,22 @@
 -- What the byte loops find, place by place: trimming, finding, splitting at a place, a square's digits.
 use Prim.Native.Nat.{ℕ, suc, ◌+◌, ◌-◌, ◌≤◌, ◌<◌}
-use mathlib.Core.Path.{◌≡◌, refl, ap, ap₂, sym, ◌∙◌}
+use mathlib.Core.Path.{◌≡◌, refl, ap, ap₂, sym, subst, ◌∙◌}
 use mathlib.Core.List.{List, [], ◌∷◌, ◌++◌}
-use mathlib.Core.Bool.{Bool, true, false, cond, ◌||◌}
+use mathlib.Core.Bool.{Bool, true, false, cond, not, ◌||◌, ◌&&◌}
 use native.Mathlib.Omega.{arith}
 use native.Mathlib.Numerals.{add-one}
 use native.Mathlib.Nat.{add_assoc}
 use lib.ListN.{length, take, drop, get_or, length-drop, drop_of_length-le}
-use lib.Seq.{drop-cons, take-suc, take_all, drop-drop, length-take-le}
+use lib.Seq.{drop-cons, take-suc, take_all, drop-drop, length-take-le, take-length}
 use lib.Dec.{leb, ltb, eqb, leb-suc-suc}
-use borrow.Author.Tests.{le-leb, lt-leb, lt-ltb, eq-eqb, ne_eqb, leb-true, leb-false}
-use Rattle.texts.specs.Bytes.{ascii, is, holds, trim_start, keep_end, trim_end, cons_head, split_on, up_to, after_or, after_or_all, after_first, starts_with, strip, index_of, parts_from}
+use borrow.Author.Tests.{le-leb, lt-leb, lt-ltb, ne_eqb, leb-true, leb-false, ltb-true, ltb-false}
+use Rattle.texts.specs.Bytes.{ascii, is, holds, trim_start, keep_end, trim_end, cons_head, split_on, up_to, after_or, after_or_all, after_first, starts_with, strip, index_of, parts_from, IsIndex}
+use lib.Pointwise.{pointwise}
+use Rattle.core.specs.List.{list_all, position_or_len}
+use Rattle.core.specs.Option.{unwrap_or}
+use Rattle.std.proofs.Common.{Bor}
+use Rattle.std.specs.Prelude.{None, Some, MatchOption}
+use Rattle.std.specs.declared.option.Option.{Option}
 
 -- one more element at i + 1
 pub drop_next : (s : List ℕ) (i : ℕ) → i < length s → drop i s ≡ get_or s i 0 ∷ drop (i + 1) s
@@ -21,30 +27,26 @@ pub rest : (s : List ℕ) (i : ℕ) → take (length s - i) (drop i s) ≡ drop 
 rest s i = take_all (length s - i) (drop i s) (simp length-drop (omega arith))
 
 -- ---- ASCII
-pub ascii_high : (s : List ℕ) (i : ℕ) → i < length s → 127 < get_or s i 0 → ascii (drop i s) ≡ false
+pub all_ascii : (s : List ℕ) → list_all (λ b. leb b 127) s ≡ ascii s
 unfolding ascii
-ascii_high s i h e = rw (drop_next s i h, lt-leb (get_or s i 0) 127 e)
-
-pub ascii_low : (s : List ℕ) (i : ℕ) → i < length s → get_or s i 0 ≤ 127 → ascii (drop i s) ≡ ascii (drop (i + 1) s)
-unfolding ascii
-ascii_low s i h e = rw (drop_next s i h, le-leb (get_or s i 0) 127 e)
-
-pub ascii_end : (s : List ℕ) (i : ℕ) → length s ≤ i → ascii (drop i s) ≡ true
-unfolding ascii
-ascii_end s i h = rw (drop_of_length-le s h)
+all_ascii [] = refl
+all_ascii (b ∷ s) = ap (λ (t : Bool). leb b 127 && t) (all_ascii s)
 
 -- ---- trimming
-pub start_cut : (p : ℕ → Bool) (s : List ℕ) (i : ℕ) → i < length s → p (get_or s i 0) ≡ true → trim_start p (drop i s) ≡ trim_start p (drop (i + 1) s)
+pub start_cut : (p : ℕ → Bool) (s : List ℕ) → 0 < length s → p (get_or s 0 0) ≡ true → trim_start p s ≡ trim_start p (take (length s - 1) (drop 1 s))
 unfolding trim_start
-start_cut p s i h e = rw (drop_next s i h, e)
+start_cut p [] h e = absurd (omega arith)
+start_cut p (b ∷ s) h e = rw e (ap (trim_start p) (sym (rest (b ∷ s) 1)))
 
-pub start_keep : (p : ℕ → Bool) (s : List ℕ) (i : ℕ) → i < length s → p (get_or s i 0) ≡ false → trim_start p (drop i s) ≡ drop i s
+pub start_keep : (p : ℕ → Bool) (s : List ℕ) → 0 < length s → p (get_or s 0 0) ≡ false → trim_start p s ≡ s
 unfolding trim_start
-start_keep p s i h e = rw (drop_next s i h, e)
+start_keep p [] h e = absurd (omega arith)
+start_keep p (b ∷ s) h e = rw e
 
-pub start_end : (p : ℕ → Bool) (s : List ℕ) (i : ℕ) → length s ≤ i → trim_start p (drop i s) ≡ drop i s
+pub start_end : (p : ℕ → Bool) (s : List ℕ) → length s < 1 → trim_start p s ≡ s
 unfolding trim_start
-start_end p s i h = rw (drop_of_length-le s h)
+start_end p [] h = refl
+start_end p (b ∷ s) h = absurd (omega arith)
 
 keep_cond : (p : ℕ → Bool) (a : ℕ) (t : Bool) (x s : List ℕ) (b : ℕ) → keep_end p a (cond t x (s ++ b ∷ [])) ≡ cond t (keep_end p a x) (a ∷ (s ++ b ∷ []))
 unfolding keep_end
@@ -57,31 +59,32 @@ unfolding trim_end keep_end
 end_snoc p [] b = refl
 end_snoc p (a ∷ s) b = ap (keep_end p a) (end_snoc p s b) ∙ keep_cond p a (p b) (trim_end p s) s b
 
-take_last : (s : List ℕ) (e : ℕ) → 0 < e → e ≤ length s → take e s ≡ take (e - 1) s ++ get_or s (e - 1) 0 ∷ []
-take_last s e p h = let q : e ≡ suc (e - 1) = omega arith in rw (← take-suc s (e - 1) 0 (omega arith)) (ap (λ (n : ℕ). take n s) q)
+end_last : (s : List ℕ) → 0 < length s → s ≡ take (length s - 1) s ++ get_or s (length s - 1) 0 ∷ []
+end_last s p =
+    let q : length s ≡ suc (length s - 1) = omega arith in
+    sym (take-length s) ∙ ap (λ (n : ℕ). take n s) q ∙ take-suc s (length s - 1) 0 (omega arith)
 
-pub end_cut : (p : ℕ → Bool) (s : List ℕ) (e : ℕ) → 0 < e → e ≤ length s → p (get_or s (e - 1) 0) ≡ true → trim_end p (take e s) ≡ trim_end p (take (e - 1) s)
-end_cut p s e q h t = rw (take_last s e q h, end_snoc, t)
+pub end_cut : (p : ℕ → Bool) (s : List ℕ) → 0 < length s → p (get_or s (length s - 1) 0) ≡ true → trim_end p s ≡ trim_end p (take (length s - 1) s)
+end_cut p s q t = ap (trim_end p) (end_last s q) ∙ end_snoc p (take (length s - 1) s) _ ∙ ap (λ (x : Bool). cond x (trim_end p (take (length s - 1) s)) (take (length s - 1) s ++ get_or s (length s - 1) 0 ∷ [])) t
 
-pub end_keep : (p : ℕ → Bool) (s : List ℕ) (e : ℕ) → 0 < e → e ≤ length s → p (get_or s (e - 1) 0) ≡ false → trim_end p (take e s) ≡ take e s
-end_keep p s e q h t = rw (take_last s e q h, end_snoc, t)
+pub end_keep : (p : ℕ → Bool) (s : List ℕ) → 0 < length s → p (get_or s (length s - 1) 0) ≡ false → trim_end p s ≡ s
+end_keep p s q t =
+    ap (trim_end p) (end_last s q) ∙ end_snoc p (take (length s - 1) s) _ ∙ ap (λ (x : Bool). cond x (trim_end p (take (length s - 1) s)) (take (length s - 1) s ++ get_or s (length s - 1) 0 ∷ [])) t ∙ sym (end_last s q)
 
-pub end_none : (p : ℕ → Bool) (s : List ℕ) (e : ℕ) → e ≤ 0 → trim_end p (take e s) ≡ take e s
+pub end_none : (p : ℕ → Bool) (s : List ℕ) → length s < 1 → trim_end p s ≡ s
 unfolding trim_end
-end_none p s e h = let z : e ≡ 0 = omega arith in rw z
+end_none p [] h = refl
+end_none p (b ∷ s) h = absurd (omega arith)
 
 -- ---- finding
-pub find_hit : (c : ℕ) (s : List ℕ) (i : ℕ) → i < length s → get_or s i 0 ≡ c → index_of (is c) (drop i s) ≡ 0
-unfolding index_of is
-find_hit c s i h e = rw (drop_next s i h, eq-eqb _ _ e)
-
-pub find_miss : (c : ℕ) (s : List ℕ) (i : ℕ) → i < length s → (get_or s i 0 ≡ c → ⊥) → index_of (is c) (drop i s) ≡ suc (index_of (is c) (drop (i + 1) s))
-unfolding index_of is
-find_miss c s i h e = rw (drop_next s i h, ne_eqb _ _ e)
-
-pub find_end : (p : ℕ → Bool) (s : List ℕ) (i : ℕ) → length s ≤ i → index_of p (drop i s) ≡ 0
+position_is : (p : ℕ → Bool) (s : List ℕ) → position_or_len p s ≡ index_of p s
 unfolding index_of
-find_end p s i h = rw (drop_of_length-le s h)
+position_is p [] = refl
+position_is p (b ∷ s) = go (p b) (position_is p s)
+  where
+    go : (t : Bool) → position_or_len p s ≡ index_of p s → cond (not t) (1 + position_or_len p s) 0 ≡ cond t 0 (suc (index_of p s))
+    go true e = refl
+    go false e = omega (arith, e)
 
 pub index_le : (p : ℕ → Bool) (s : List ℕ) → index_of p s ≤ length s
 unfolding index_of
@@ -91,6 +94,18 @@ index_le p (b ∷ s) = go (p b) (index_le p s)
     go : (t : Bool) → index_of p s ≤ length s → cond t 0 (suc (index_of p s)) ≤ suc (length s)
     go true h = omega arith
     go false h = omega arith
+
+-- the place that the standard library's search answers
+pub found : (p : ℕ → Bool) (s : List ℕ) (r : Option ℕ) → r ≡ cond (ltb (position_or_len p s) (length s)) (Some (position_or_len p s)) None → IsIndex (index_of p s) (length s) r
+found p s r e = subst (λ (x : Option ℕ). IsIndex (index_of p s) (length s) x) (sym e) (go (ltb (position_or_len p s) (length s)) refl)
+  where
+    go : (t : Bool) → ltb (position_or_len p s) (length s) ≡ t → IsIndex (index_of p s) (length s) (cond t (Some (position_or_len p s)) None)
+    go true h = (position_is p s, omega (arith, position_is p s, ltb-true (position_or_len p s) (length s) h))
+    go false h = omega (arith, position_is p s, index_le p s, ltb-false (position_or_len p s) (length s) h)
+
+pub or_length : (i n : ℕ) (r : Option ℕ) → IsIndex i n r → (unwrap_or r n ≡ i) × (unwrap_or r n ≤ n)
+or_length i n (Some k) h = (h.0, omega (arith, h.0, h.1))
+or_length i n None h = (sym h, omega arith)
 
 -- a byte is held where it is found before the end
 pub holds_found : (c : ℕ) (s : List ℕ) → ltb (index_of (is c) s) (length s) ≡ holds c s
@@ -168,20 +183,22 @@ first_at c (b ∷ s) h = go (eqb b c)
     go true = refl
     go false = ne_eqb (suc (index_of (is c) s)) 0 (λ e. omega arith)
 
-pub strip_hit : (c : ℕ) (s : List ℕ) → 0 < length s → get_or s 0 0 ≡ c → strip c s ≡ drop 1 s
-unfolding strip
-strip_hit c [] p e = absurd (omega arith)
-strip_hit c (b ∷ s) p e = rw (eq-eqb b c e)
+-- what is left where the standard library takes the prefix c off
+first_same : (c b : ℕ) (s : List ℕ) (t : Bool) → (eqb b c && true) ≡ t → cond (eqb b c) s (b ∷ s) ≡ cond t s (b ∷ s)
+first_same c b s t e = go (eqb b c) e
+  where
+    go : (u : Bool) → (u && true) ≡ t → cond u s (b ∷ s) ≡ cond t s (b ∷ s)
+    go true e = ap (λ (x : Bool). cond x s (b ∷ s)) e
+    go false e = ap (λ (x : Bool). cond x s (b ∷ s)) e
 
-pub strip_miss : (c : ℕ) (s : List ℕ) → 0 < length s → (get_or s 0 0 ≡ c → ⊥) → strip c s ≡ s
+pub stripped : (c : ℕ) (t : Bor (List ℕ)) (s : List ℕ) → t.now ≡ s → (r : Option (Bor (List ℕ)))
+    → MatchOption r (pointwise eqb (take 1 s) (c ∷ []) ≡ false) (λ x. (pointwise eqb (take 1 s) (c ∷ []) ≡ true) × (x.now ≡ drop 1 s) × (length x.now + 1 ≡ length s))
+    → (unwrap_or r t).now ≡ strip c s
 unfolding strip
-strip_miss c [] p e = refl
-strip_miss c (b ∷ s) p e = rw (ne_eqb b c e)
-
-pub strip_none : (c : ℕ) (s : List ℕ) → length s ≤ 0 → strip c s ≡ s
-unfolding strip
-strip_none c [] p = refl
-strip_none c (b ∷ s) p = absurd (omega arith)
+stripped c t [] q None h = q
+stripped c t (b ∷ s) q None h = q ∙ sym (first_same c b s false h)
+stripped c t [] q (Some x) h = absurd (omega (arith, h.2))
+stripped c t (b ∷ s) q (Some x) h = h.1 ∙ sym (first_same c b s true h.0)
 
 -- ---- the parts from a place on
 parts_cons : (p : ℕ → Bool) (b : ℕ) (s : List ℕ) (m : ℕ) → parts_from p (b ∷ s) (suc m + 1) ≡ parts_from p s (m + 1)

@@ -1,9 +1,10 @@
 -- Texts as lists of bytes: trimming, splitting, joining, and the text of a square (docs/RULES.md, "Square texts").
-use Rattle.std.specs.Prelude.{ℕ, suc, ◌+◌, ◌-◌, ◌*◌, ◌/◌, ◌%◌, List, [], ◌∷◌, ◌++◌, Bool, true, false, cond, ◌&&◌, ◌||◌, length, drop, ltb, leb, eqb, Err, Ok, Result}
+use Rattle.std.specs.Prelude.{◌≡◌, ◌<◌, None, Some, ℕ, suc, ◌+◌, ◌-◌, ◌*◌, ◌/◌, ◌%◌, List, [], ◌∷◌, ◌++◌, Bool, true, false, cond, ◌&&◌, ◌||◌, length, drop, ltb, leb, eqb, Err, Ok, Result}
 use Prim.Native.Char.{code}
 use Prim.Native.String.{String, [] as []ˢ, ◌∷◌ as ◌∷ˢ◌}
 use Rattle.squares.specs.Squares.{is_square}
 use Rattle.squares.specs.Refusals.{refusal}
+use Rattle.std.specs.declared.option.Option.{Option}
 use Rattle.squares.specs.declared.refusal.Refusal.{Refusal}
 
 -- the bytes of an ASCII text
@@ -132,10 +133,9 @@ digits n = cond (ltb n 10) ((code "0" + n) ∷ []) ((code "0" + n / 10) ∷ (cod
 
 -- ---- what the code's helpers find
 
--- the bytes that trimming removes: blanks, or one byte
-abbrev pub cuts : Bool → ℕ → ℕ → Bool
-cuts true c = blank
-cuts false c = is c
+-- where the test computes p, the text t is what `trims` leaves of s
+abbrev pub Trims : (ℕ → Bool → Type 0) → ((ℕ → Bool) → List ℕ → List ℕ) → List ℕ → List ℕ → Type 0
+Trims test trims s t = (p : ℕ → Bool) → ((b : ℕ) (r : Bool) → test b r → r ≡ p b) → t ≡ trims p s
 
 -- the index of the first byte for which p holds; the length where there is none
 unfoldable pub index_of : (ℕ → Bool) → List ℕ → ℕ
@@ -145,3 +145,8 @@ index_of p (b ∷ s) = cond (p b) 0 (suc (index_of p s))
 -- the parts of s from the place `at` on; none where that is past the end
 unfoldable pub parts_from : (ℕ → Bool) → List ℕ → ℕ → List (List ℕ)
 parts_from p s at = cond (leb at (length s)) (split_on p (drop at s)) []
+
+-- r is the index i, where that is below the length n
+abbrev pub IsIndex : ℕ → ℕ → Option ℕ → Type 0
+IsIndex i n (Some k) = (k ≡ i) × (i < n)
+IsIndex i n None = i ≡ n

@@ -15,34 +15,34 @@ use Rattle.texts.specs.Lent.{over}
 use Rattle.texts.specs.declared.space.Space.{Space}
 use Rattle.wording.specs.Numbers.{digit_of}
 use Rattle.wording.specs.Escapes.{Plain, text, broken, high_of, hex_escape, escape_of, UsedIn, before, on_escape, undo, plain, is_plain, text_of, undone, Undid}
-use Rattle.wording.specs.declared.escapes.Escape.{Escape}
-use Rattle.wording.specs.declared.escapes.Escape.TheVariants as escape
+use Rattle.std.specs.declared.option.Option.{Option}
+use Rattle.std.specs.Prelude.{None, Some}
 
 -- ---- \xHH
-pub hex_short : (s : List ℕ) → length s < 2 → hex_escape s ≡ escape.Bad
+pub hex_short : (s : List ℕ) → length s < 2 → hex_escape s ≡ None
 unfolding hex_escape
 hex_short [] h = refl
 hex_short (a ∷ []) h = refl
 hex_short (a ∷ (b ∷ s)) h = absurd (omega arith)
 
 pub hex_pair : (s : List ℕ) (a b : ℕ) → 2 ≤ length s → a ≡ high_of (get_or s 0 0) → b ≡ digit_of (get_or s 1 0)
-    → hex_escape s ≡ cond (leb a 15 && leb b 15) (escape.Byte (a * 16 + b) 3) escape.Bad
+    → hex_escape s ≡ cond (leb a 15 && leb b 15) (Some (a * 16 + b, 3)) None
 unfolding hex_escape
 hex_pair [] a b h e f = absurd (omega arith)
 hex_pair (x ∷ []) a b h e f = absurd (omega arith)
 hex_pair (x ∷ (y ∷ s)) a b h e f = rw (e, f)
 
-pub high_bad : (a b : ℕ) (p : Escape) → 15 < a → cond (leb a 15 && leb b 15) p escape.Bad ≡ escape.Bad
+pub high_bad : (a b : ℕ) (p : Option (ℕ × ℕ)) → 15 < a → cond (leb a 15 && leb b 15) p None ≡ None
 high_bad a b p h = rw (lt-leb a 15 h)
 
-pub low_bad : (a b : ℕ) (p : Escape) → a ≤ 15 → 15 < b → cond (leb a 15 && leb b 15) p escape.Bad ≡ escape.Bad
+pub low_bad : (a b : ℕ) (p : Option (ℕ × ℕ)) → a ≤ 15 → 15 < b → cond (leb a 15 && leb b 15) p None ≡ None
 low_bad a b p k h = rw (le-leb a 15 k, lt-leb b 15 h)
 
-pub pair_good : (a b : ℕ) (p : Escape) → a ≤ 15 → b ≤ 15 → cond (leb a 15 && leb b 15) p escape.Bad ≡ p
+pub pair_good : (a b : ℕ) (p : Option (ℕ × ℕ)) → a ≤ 15 → b ≤ 15 → cond (leb a 15 && leb b 15) p None ≡ p
 pair_good a b p k h = rw (le-leb a 15 k, le-leb b 15 h)
 
 -- ---- an escape
-pub escape_none : (s : List ℕ) → length s ≡ 0 → escape_of s ≡ escape.Bad
+pub escape_none : (s : List ℕ) → length s ≡ 0 → escape_of s ≡ None
 unfolding escape_of
 escape_none [] e = refl
 escape_none (c ∷ s) e = absurd (omega arith)
@@ -52,12 +52,12 @@ escape_at [] k h e = absurd (h refl)
 escape_at (c ∷ s) k h e = ap (λ (x : ℕ). escape_of (x ∷ s)) e
 
 pub escape_other : (s : List ℕ) → (length s ≡ 0 → ⊥) → (get_or s 0 0 ≡ 92 → ⊥) → (get_or s 0 0 ≡ 115 → ⊥) → (get_or s 0 0 ≡ 116 → ⊥)
-    → (get_or s 0 0 ≡ 110 → ⊥) → (get_or s 0 0 ≡ 114 → ⊥) → (get_or s 0 0 ≡ 120 → ⊥) → escape_of s ≡ escape.Bad
+    → (get_or s 0 0 ≡ 110 → ⊥) → (get_or s 0 0 ≡ 114 → ⊥) → (get_or s 0 0 ≡ 120 → ⊥) → escape_of s ≡ None
 unfolding escape_of
 escape_other [] h a b c d e f = absurd (h refl)
 escape_other (x ∷ s) h a b c d e f = rw (ne_eqb x 92 a, ne_eqb x 115 b, ne_eqb x 116 c, ne_eqb x 110 d, ne_eqb x 114 e, ne_eqb x 120 f)
 
-used_cond : (t : Bool) (p q : Escape) (k : ℕ) → UsedIn p k → UsedIn q k → UsedIn (cond t p q) k
+used_cond : (t : Bool) (p q : Option (ℕ × ℕ)) (k : ℕ) → UsedIn p k → UsedIn q k → UsedIn (cond t p q) k
 used_cond true p q k a b = a
 used_cond false p q k a b = b
 
@@ -78,12 +78,12 @@ used (c ∷ s) =
     (used_cond (eqb c 114) _ _ _ (omega arith) (used_cond (eqb c 120) _ _ _ (used_hex s) tt)))))
 
 -- both clauses of the contract from the first
-pub escaped : (s : List ℕ) (r : Escape) → r ≡ escape_of s → (r ≡ escape_of s) × UsedIn r (length s)
-escaped s r e = (e, subst (λ (x : Escape). UsedIn x (length s)) (sym e) (used s))
+pub escaped : (s : List ℕ) (r : Option (ℕ × ℕ)) → r ≡ escape_of s → (r ≡ escape_of s) × UsedIn r (length s)
+escaped s r e = (e, subst (λ (x : Option (ℕ × ℕ)). UsedIn x (length s)) (sym e) (used s))
 
-pub used_fits : (s : List ℕ) (i : ℕ) (r : Escape) (x n : ℕ) → i ≤ length s → UsedIn r (length (take (length s - i) (drop i s))) → r ≡ escape.Byte x n → i + n ≤ length s
+pub used_fits : (s : List ℕ) (i : ℕ) (r : Option (ℕ × ℕ)) (x n : ℕ) → i ≤ length s → UsedIn r (length (take (length s - i) (drop i s))) → r ≡ Some (x, n) → i + n ≤ length s
 used_fits s i r x n h u e =
-    let l : n ≤ length (take (length s - i) (drop i s)) = subst (λ (y : Escape). UsedIn y (length (take (length s - i) (drop i s)))) e u in
+    let l : n ≤ length (take (length s - i) (drop i s)) = subst (λ (y : Option (ℕ × ℕ)). UsedIn y (length (take (length s - i) (drop i s)))) e u in
     omega (arith, l, ap length (rest s i), length-drop i s)
 
 -- ---- undoing
@@ -112,17 +112,17 @@ undo_slash b t e = escape_byte b t (eqb b 92) (eq-eqb b 92 e)
 pub undo_plain : (s : List ℕ) (i : ℕ) → i < length s → (get_or s i 0 ≡ 92 → ⊥) → undo 0 (drop i s) ≡ before (get_or s i 0) (undo 0 (drop (i + 1) s))
 undo_plain s i h e = ap (undo 0) (drop_next s i h) ∙ undo_byte (get_or s i 0) (drop (i + 1) s) e
 
-pub undo_escape : (s : List ℕ) (i x n : ℕ) → i < length s → get_or s i 0 ≡ 92 → escape_of (drop (i + 1) s) ≡ escape.Byte x n
+pub undo_escape : (s : List ℕ) (i x n : ℕ) → i < length s → get_or s i 0 ≡ 92 → escape_of (drop (i + 1) s) ≡ Some (x, n)
     → undo 0 (drop i s) ≡ before x (undo 0 (drop (i + 1 + n) s))
 undo_escape s i x n h e f =
     ap (undo 0) (drop_next s i h) ∙ undo_slash (get_or s i 0) (drop (i + 1) s) e
-    ∙ ap (λ (p : Escape). on_escape p (λ y m. before y (undo m (drop (i + 1) s)))) f
+    ∙ ap (λ (p : Option (ℕ × ℕ)). on_escape p (λ y m. before y (undo m (drop (i + 1) s)))) f
     ∙ ap (before x) (undo_skip n (drop (i + 1) s) ∙ ap (undo 0) (drop-drop n (i + 1) s))
 
-pub undo_broken : (s : List ℕ) (i : ℕ) → i < length s → get_or s i 0 ≡ 92 → escape_of (drop (i + 1) s) ≡ escape.Bad → undo 0 (drop i s) ≡ broken
+pub undo_broken : (s : List ℕ) (i : ℕ) → i < length s → get_or s i 0 ≡ 92 → escape_of (drop (i + 1) s) ≡ None → undo 0 (drop i s) ≡ broken
 undo_broken s i h e f =
     ap (undo 0) (drop_next s i h) ∙ undo_slash (get_or s i 0) (drop (i + 1) s) e
-    ∙ ap (λ (p : Escape). on_escape p (λ y m. before y (undo m (drop (i + 1) s)))) f
+    ∙ ap (λ (p : Option (ℕ × ℕ)). on_escape p (λ y m. before y (undo m (drop (i + 1) s)))) f
 
 pub undo_end : (s : List ℕ) (i : ℕ) → length s ≤ i → undo 0 (drop i s) ≡ text []
 unfolding undo

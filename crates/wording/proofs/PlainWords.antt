@@ -13,8 +13,8 @@ use Rattle.texts.proofs.ListLaws.{each}
 use Rattle.wording.specs.Numbers.{digit_of}
 use Rattle.wording.specs.Words.{first_word, after_word, word_at}
 use Rattle.wording.specs.Escapes.{Plain, text, broken, high_of, hex_escape, escape_of, UsedIn, before, on_escape, undo, plain, is_plain}
-use Rattle.wording.specs.declared.escapes.Escape.{Escape}
-use Rattle.wording.specs.declared.escapes.Escape.TheVariants as escape
+use Rattle.std.specs.declared.option.Option.{Option}
+use Rattle.std.specs.Prelude.{None, Some}
 use Rattle.wording.proofs.Escaped.{used}
 
 -- ---- no byte of an escape is a space, so the first word alone has the same escape
@@ -32,7 +32,7 @@ unfolding hex_escape up_to
 hex_word [] = refl
 hex_word (a ∷ []) = go (eqb a 32)
   where
-    go : (t : Bool) → hex_escape (cond t [] (a ∷ [])) ≡ escape.Bad
+    go : (t : Bool) → hex_escape (cond t [] (a ∷ [])) ≡ None
     go true = refl
     go false = refl
 hex_word (a ∷ (b ∷ s)) = go (eqb a 32) (eqb b 32) refl refl
@@ -66,11 +66,11 @@ unfolding undo
 cut_space b s e = ap (λ (x : ℕ). is_plain (undo 0 (x ∷ s))) (eqb-true b 32 e) ∙ cut_before 32 (undo 0 s) (text []) (is_plain (undo 0 s)) refl
 
 module _ (b : ℕ) (s : List ℕ) (ih : (k : ℕ) → k ≤ length (up_to 32 s) → Cut k s) where
-  cut_escape : (x : Escape) → UsedIn x (length (up_to 32 s))
+  cut_escape : (x : Option (ℕ × ℕ)) → UsedIn x (length (up_to 32 s))
       → is_plain (on_escape x (λ c n. before c (undo n s))) ≡ (is_plain (on_escape x (λ c n. before c (undo n (up_to 32 s)))) && is_plain (undo 0 (after_or [] 32 s)))
   unfolding Cut
-  cut_escape (escape.Byte c n) h = cut_before c (undo n s) (undo n (up_to 32 s)) _ (ih n h)
-  cut_escape escape.Bad h = refl
+  cut_escape (Some e) h = cut_before e.0 (undo e.1 s) (undo e.1 (up_to 32 s)) _ (ih e.1 h)
+  cut_escape None h = refl
 
   cut_byte : (k : ℕ) → k ≤ suc (length (up_to 32 s)) → is_plain (undo k (b ∷ s)) ≡ (is_plain (undo k (b ∷ up_to 32 s)) && is_plain (undo 0 (after_or [] 32 s)))
   unfolding Cut undo

@@ -1,19 +1,20 @@
 -- Digits and numbers, place by place.
 use Rattle.std.specs.Prelude.{None, Some}
-use Prim.Native.Nat.{ℕ, ◌+◌, ◌-◌, ◌*◌, ◌/◌, ◌≤◌, ◌<◌}
+use Prim.Native.Nat.{ℕ, ◌+◌, ◌-◌, ◌*◌, ◌≤◌, ◌<◌}
 use mathlib.Core.Path.{◌≡◌, refl, ap, sym, ◌∙◌, subst}
 use mathlib.Core.List.{List, [], ◌∷◌}
 use mathlib.Core.Bool.{Bool, true, false, cond, ◌&&◌}
 use native.Mathlib.Omega.{arith}
-use native.Mathlib.Nat.{le-div_iff_mul-le, div-lt_iff_lt-mul}
 use lib.ListN.{length, drop, get_or, drop_of_length-le}
 use lib.Dec.{leb, ltb, eqb}
 use lib.IntN.{pos, neg_ℤ}
-use borrow.Author.Tests.{le-leb, lt-leb, lt-ltb, le-ltb, eq-eqb, ne_eqb, leb-true}
+use borrow.Author.Tests.{le-leb, lt-leb, lt-ltb, le-ltb, eq-eqb, ne_eqb, leb-true, leb-false, ltb-true, ltb-false}
 use Rattle.squares.proofs.Bools.{and_right}
 use Rattle.texts.specs.Bytes.{strip}
 use Rattle.texts.proofs.Cuts.{drop_next}
-use Rattle.wording.specs.Numbers.{AtMost, digit_of, value_from, number_in, without_prefix, positive_of, negative_of, signed_of}
+use Rattle.core.specs.Char.{digit_value}
+use Rattle.std.specs.Prelude.{SomeIff}
+use Rattle.wording.specs.Numbers.{IsDigit, AtMost, digit_of, value_from, number_in, without_prefix, positive_of, negative_of, signed_of}
 use Rattle.std.specs.declared.option.Option.{Option}
 
 -- ---- digits
@@ -45,6 +46,67 @@ module _ (b : ℕ) where
   pub above_letters : 102 < b → digit_of b ≡ 16
   unfolding digit_of
   above_letters h = rw (le-leb 48 b (omega arith), lt-leb b 57 (omega arith), le-leb 65 b (omega arith), lt-leb b 70 (omega arith), le-leb 97 b (omega arith), lt-leb b 102 h)
+
+-- what the standard library finds of such a digit; it reads letters up to Z
+past_capitals : (b : ℕ) (t : Bool) → ltb b 91 ≡ t → 70 < b → b < 97 → 16 ≤ digit_value b
+past_capitals b true e h k =
+    let q : digit_value b ≡ b - 55 = rw (le-ltb b 48 (omega (arith, h)), le-ltb b 58 (omega (arith, h)), le-ltb b 65 (omega (arith, h)), lt-ltb b 91 (ltb-true b 91 e)) in
+    omega (arith, q, h)
+past_capitals b false e h k =
+    let q : digit_value b ≡ 36 = rw (le-ltb b 48 (omega (arith, h)), le-ltb b 58 (omega (arith, h)), le-ltb b 65 (omega (arith, h)), le-ltb b 91 (ltb-false b 91 e), lt-ltb b 97 k) in
+    omega (arith, q)
+
+past_letters : (b : ℕ) (t : Bool) → ltb b 123 ≡ t → 102 < b → 16 ≤ digit_value b
+past_letters b true e h =
+    let q : digit_value b ≡ b - 87 = rw (le-ltb b 48 (omega (arith, h)), le-ltb b 58 (omega (arith, h)), le-ltb b 65 (omega (arith, h)), le-ltb b 91 (omega (arith, h)), le-ltb b 97 (omega (arith, h)), lt-ltb b 123 (ltb-true b 123 e)) in
+    omega (arith, q, h)
+past_letters b false e h =
+    let q : digit_value b ≡ 36 = rw (le-ltb b 48 (omega (arith, h)), le-ltb b 58 (omega (arith, h)), le-ltb b 65 (omega (arith, h)), le-ltb b 91 (omega (arith, h)), le-ltb b 97 (omega (arith, h)), le-ltb b 123 (ltb-false b 123 e)) in
+    omega (arith, q)
+
+digit_cases : (b : ℕ) (t : Bool) → ltb b 48 ≡ t → (u : Bool) → leb b 57 ≡ u → (v : Bool) → ltb b 65 ≡ v → (w : Bool) → leb b 70 ≡ w
+    → (x : Bool) → ltb b 97 ≡ x → (y : Bool) → leb b 102 ≡ y
+    → (digit_value b < 16 → digit_value b ≡ digit_of b) × ((digit_value b < 16 → ⊥) → 15 < digit_of b)
+digit_cases b true e u f v g w i x j y k =
+    let q : digit_value b ≡ 36 = rw (lt-ltb b 48 (ltb-true b 48 e)) in
+    (λ h. absurd (omega (arith, h, q)), λ h. omega (arith, below_digits b (ltb-true b 48 e)))
+digit_cases b false e true f v g w i x j y k =
+    let l = ltb-false b 48 e in
+    let m = leb-true b 57 f in
+    let q : digit_value b ≡ b - 48 = rw (le-ltb b 48 l, lt-ltb b 58 (omega (arith, m))) in
+    (λ h. q ∙ sym (decimal_digit b l m), λ h. absurd (h (omega (arith, q, m))))
+digit_cases b false e false f true g w i x j y k =
+    let l = leb-false b 57 f in
+    let m = ltb-true b 65 g in
+    let q : digit_value b ≡ 36 = rw (le-ltb b 48 (omega (arith, l)), le-ltb b 58 (omega (arith, l)), lt-ltb b 65 m) in
+    (λ h. absurd (omega (arith, h, q)), λ h. omega (arith, below_capitals b l m))
+digit_cases b false e false f false g true i x j y k =
+    let l = ltb-false b 65 g in
+    let m = leb-true b 70 i in
+    let q : digit_value b ≡ b - 55 = rw (le-ltb b 48 (omega (arith, l)), le-ltb b 58 (omega (arith, l)), le-ltb b 65 l, lt-ltb b 91 (omega (arith, m))) in
+    (λ h. omega (arith, q, capital_digit b l m, l), λ h. absurd (h (omega (arith, q, l, m))))
+digit_cases b false e false f false g false i true j y k =
+    let l = leb-false b 70 i in
+    let m = ltb-true b 97 j in
+    let q = past_capitals b (ltb b 91) refl l m in
+    (λ h. absurd (omega (arith, h, q)), λ h. omega (arith, below_letters b l m))
+digit_cases b false e false f false g false i false j true k =
+    let l = ltb-false b 97 j in
+    let m = leb-true b 102 k in
+    let q : digit_value b ≡ b - 87 = rw (le-ltb b 48 (omega (arith, l)), le-ltb b 58 (omega (arith, l)), le-ltb b 65 (omega (arith, l)), le-ltb b 91 (omega (arith, l)), le-ltb b 97 l, lt-ltb b 123 (omega (arith, m))) in
+    (λ h. omega (arith, q, letter_digit b l m, l), λ h. absurd (h (omega (arith, q, l, m))))
+digit_cases b false e false f false g false i false j false k =
+    let l = leb-false b 102 k in
+    let q = past_letters b (ltb b 123) refl l in
+    (λ h. absurd (omega (arith, h, q)), λ h. omega (arith, above_letters b l))
+
+pub digit_found : (b : ℕ) (r : Option ℕ) → SomeIff r (digit_value b < 16) (digit_value b) → IsDigit (digit_of b) r
+digit_found b (Some d) h =
+    let w = digit_cases b (ltb b 48) refl (leb b 57) refl (ltb b 65) refl (leb b 70) refl (ltb b 97) refl (leb b 102) refl in
+    (h.1 ∙ w.0 h.0, omega (arith, h.0, h.1))
+digit_found b None h =
+    let w = digit_cases b (ltb b 48) refl (leb b 57) refl (ltb b 65) refl (leb b 70) refl (ltb b 97) refl (leb b 102) refl in
+    w.1 h
 
 -- ---- numbers
 pub number_none : (base limit : ℕ) (s : List ℕ) → length s ≡ 0 → number_in base limit s ≡ None
@@ -98,13 +160,6 @@ number_limit base limit (b ∷ s) = value_limit base limit 0 (b ∷ s) (omega ar
 -- both clauses of the contract from the first
 pub limited : (base limit : ℕ) (s : List ℕ) (r : Option ℕ) → r ≡ number_in base limit s → (r ≡ number_in base limit s) × AtMost limit r
 limited base limit s r e = (e, subst (λ (x : Option ℕ). AtMost limit x) (sym e) (number_limit base limit s))
-
--- what the quotient says of the product
-pub over : (limit base v d : ℕ) → 0 < base → limit / base < v → limit < v * base + d
-over limit base v d p h = omega (arith, (div-lt_iff_lt-mul {k = base} {x = limit} {y = v} p).0 h)
-
-pub under : (limit base v : ℕ) → 0 < base → v ≤ limit / base → v * base ≤ limit
-under limit base v p h = (le-div_iff_mul-le {k = base} {x = v} {y = limit} p).0 h
 
 -- ---- without every 0x at the start
 drop_two : (s : List ℕ) (i : ℕ) → i + 1 < length s → drop i s ≡ get_or s i 0 ∷ (get_or s (i + 1) 0 ∷ drop (i + 2) s)

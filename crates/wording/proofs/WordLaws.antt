@@ -2,38 +2,24 @@
 use Prim.Native.Nat.{ℕ, zero, suc, ◌+◌, ◌-◌, ◌≤◌, ◌<◌}
 use mathlib.Core.Path.{◌≡◌, refl, ap, sym, ◌∙◌}
 use mathlib.Core.List.{List, [], ◌∷◌}
-use mathlib.Core.Bool.{Bool, true, false, ◌&&◌}
+use mathlib.Core.Bool.{Bool, ◌&&◌}
 use native.Mathlib.Omega.{arith}
 use lib.ListN.{length, take, drop, get_or, drop_of_length-le}
 use lib.Seq.{drop-drop}
+use lib.Dec.{eqb}
+use lib.Pointwise.{pointwise}
 use borrow.Author.Tests.{eq-eqb, ne_eqb}
 use Rattle.texts.specs.Bytes.{is, after_or, after_first, index_of}
 use Rattle.texts.proofs.Cuts.{drop_next, rest, after_hit, after_none}
 use Rattle.wording.specs.Words.{same_text, first_word, after_word, word_at, blanks_in}
 
 -- ---- the same text
-pub same_lengths : (a b : List ℕ) → (length a ≡ length b → ⊥) → same_text a b ≡ false
+pub same_pointwise : (a b : List ℕ) → pointwise eqb a b ≡ same_text a b
 unfolding same_text
-same_lengths [] [] h = absurd (h refl)
-same_lengths [] (y ∷ b) h = refl
-same_lengths (x ∷ a) [] h = refl
-same_lengths (x ∷ a) (y ∷ b) h = rw (same_lengths a b (λ e. h (ap suc e))) (false_right (lib.Dec.eqb x y))
-  where
-    false_right : (t : Bool) → (t && false) ≡ false
-    false_right true = refl
-    false_right false = refl
-
-pub same_differ : (a b : List ℕ) (i : ℕ) → i < length a → i < length b → (get_or a i 0 ≡ get_or b i 0 → ⊥) → same_text (drop i a) (drop i b) ≡ false
-unfolding same_text
-same_differ a b i h k e = rw (drop_next a i h, drop_next b i k, ne_eqb (get_or a i 0) (get_or b i 0) e)
-
-pub same_step : (a b : List ℕ) (i : ℕ) → i < length a → i < length b → get_or a i 0 ≡ get_or b i 0 → same_text (drop i a) (drop i b) ≡ same_text (drop (i + 1) a) (drop (i + 1) b)
-unfolding same_text
-same_step a b i h k e = rw (drop_next a i h, drop_next b i k, eq-eqb (get_or a i 0) (get_or b i 0) e)
-
-pub same_end : (a b : List ℕ) (i : ℕ) → length a ≤ i → length b ≤ i → same_text (drop i a) (drop i b) ≡ true
-unfolding same_text
-same_end a b i h k = rw (drop_of_length-le a h, drop_of_length-le b k)
+same_pointwise [] [] = refl
+same_pointwise [] (y ∷ b) = refl
+same_pointwise (x ∷ a) [] = refl
+same_pointwise (x ∷ a) (y ∷ b) = ap (λ (t : Bool). eqb x y && t) (same_pointwise a b)
 
 -- ---- words
 none_after : after_word [] ≡ []

@@ -1,10 +1,9 @@
 -- Escapes: \\ \s \t \n \r stand for a backslash, space, tab, line feed and carriage return, \xHH for any byte.
-use Rattle.std.specs.Prelude.{◌≡◌, ℕ, zero, suc, ◌+◌, ◌*◌, ◌≤◌, min, List, [], ◌∷◌, Bool, true, false, cond, ◌&&◌, length, eqb, leb}
+use Rattle.std.specs.Prelude.{◌≡◌, ℕ, zero, suc, ◌+◌, ◌*◌, ◌≤◌, min, List, [], ◌∷◌, Bool, true, false, cond, ◌&&◌, length, eqb, leb, None, Some}
 use Prim.Native.Char.{code}
 use Rattle.texts.specs.Lent.{written}
 use Rattle.wording.specs.Numbers.{digit_of}
-use Rattle.wording.specs.declared.escapes.Escape.{Escape}
-use Rattle.wording.specs.declared.escapes.Escape.TheVariants as escape
+use Rattle.std.specs.declared.option.Option.{Option}
 
 -- the text that a word stands for, or `broken` where one of its escapes is invalid
 pub data Plain : Type 0 where
@@ -16,26 +15,27 @@ unfoldable pub high_of : ℕ → ℕ
 high_of b = cond (eqb b (code "+")) 0 (digit_of b)
 
 -- the byte of the two digits after \x; such an escape has 3 bytes after its backslash
-unfoldable pub hex_escape : List ℕ → Escape
-hex_escape [] = escape.Bad
-hex_escape (a ∷ []) = escape.Bad
-hex_escape (a ∷ (b ∷ s)) = cond (leb (high_of a) 15 && leb (digit_of b) 15) (escape.Byte (high_of a * 16 + digit_of b) 3) escape.Bad
+unfoldable pub hex_escape : List ℕ → Option (ℕ × ℕ)
+hex_escape [] = None
+hex_escape (a ∷ []) = None
+hex_escape (a ∷ (b ∷ s)) = cond (leb (high_of a) 15 && leb (digit_of b) 15) (Some (high_of a * 16 + digit_of b, 3)) None
 
--- an escape: s is what comes after its backslash
-unfoldable pub escape_of : List ℕ → Escape
-escape_of [] = escape.Bad
+-- an escape: s is what comes after its backslash. The byte that the escape stands for, and how many bytes the escape has
+-- after its backslash; none where the escape is invalid
+unfoldable pub escape_of : List ℕ → Option (ℕ × ℕ)
+escape_of [] = None
 escape_of (c ∷ s) =
-    cond (eqb c (code "\\")) (escape.Byte (code "\\") 1)
-    (cond (eqb c (code "s")) (escape.Byte (code " ") 1)
-    (cond (eqb c (code "t")) (escape.Byte 9 1)
-    (cond (eqb c (code "n")) (escape.Byte 10 1)
-    (cond (eqb c (code "r")) (escape.Byte 13 1)
-    (cond (eqb c (code "x")) (hex_escape s) escape.Bad)))))
+    cond (eqb c (code "\\")) (Some (code "\\", 1))
+    (cond (eqb c (code "s")) (Some (code " ", 1))
+    (cond (eqb c (code "t")) (Some (9, 1))
+    (cond (eqb c (code "n")) (Some (10, 1))
+    (cond (eqb c (code "r")) (Some (13, 1))
+    (cond (eqb c (code "x")) (hex_escape s) None)))))
 
 -- an escape has at most k bytes after its backslash
-abbrev pub UsedIn : Escape → ℕ → Type 0
-UsedIn (escape.Byte b n) k = n ≤ k
-UsedIn escape.Bad k = Unit
+abbrev pub UsedIn : Option (ℕ × ℕ) → ℕ → Type 0
+UsedIn (Some e) k = e.1 ≤ k
+UsedIn None k = Unit
 
 -- a byte before the text of the rest
 abbrev pub before : ℕ → Plain → Plain
@@ -43,9 +43,9 @@ before b (text t) = text (b ∷ t)
 before b broken = broken
 
 -- k goes on with the byte and the length of a valid escape
-abbrev pub on_escape : Escape → (ℕ → ℕ → Plain) → Plain
-on_escape (escape.Byte b n) k = k b n
-on_escape escape.Bad k = broken
+abbrev pub on_escape : Option (ℕ × ℕ) → (ℕ → ℕ → Plain) → Plain
+on_escape (Some e) k = k e.0 e.1
+on_escape None k = broken
 
 -- the text that a word stands for, after its first k bytes, which belong to an escape
 unfoldable pub undo : ℕ → List ℕ → Plain

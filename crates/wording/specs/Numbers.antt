@@ -1,6 +1,6 @@
 -- Numbers that are read from words: unsigned, signed and hexadecimal ones as Rust reads them (an optional sign, one
 -- digit or more, leading zeros allowed, at most the type's limit), and strict ones, which have exactly one text.
-use Rattle.std.specs.Prelude.{ℕ, ◌+◌, ◌-◌, ◌*◌, ◌^◌, ◌≤◌, List, [], ◌∷◌, Bool, true, false, cond, ◌&&◌, eqb, leb, ltb, pos, neg_ℤ, None, Some, ℤ}
+use Rattle.std.specs.Prelude.{◌≡◌, ℕ, ◌+◌, ◌-◌, ◌*◌, ◌^◌, ◌≤◌, ◌<◌, List, [], ◌∷◌, Bool, true, false, cond, ◌&&◌, eqb, leb, ltb, pos, neg_ℤ, None, Some, ℤ}
 use Prim.Native.Char.{code}
 use Rattle.texts.specs.Bytes.{strip}
 use Rattle.std.specs.declared.option.Option.{Option}
@@ -16,6 +16,11 @@ digit_of b =
     cond (leb (code "0") b && leb b (code "9")) (b - code "0")
     (cond (leb (code "A") b && leb b (code "F")) (b - code "A" + 10)
     (cond (leb (code "a") b && leb b (code "f")) (b - code "a" + 10) 16))
+
+-- r is the value v of a hexadecimal digit; there is none where v is above 15
+abbrev pub IsDigit : ℕ → Option ℕ → Type 0
+IsDigit v (Some d) = (d ≡ v) × (d ≤ 15)
+IsDigit v None = 15 < v
 
 -- the number v followed by digits of this base; no value on the way is above the limit
 unfoldable pub value_from : ℕ → ℕ → ℕ → List ℕ → Option ℕ

@@ -6,59 +6,51 @@
 // A backslash that begins none of these is an invalid escape.
 ghost use Rattle.std.specs.Prelude.{◌≡◌, length};
 ghost use Rattle.texts.specs.Lent.{over};
+ghost use Rattle.wording.specs.Numbers.{IsDigit};
 ghost use Rattle.wording.specs.Escapes.{high_of, hex_escape, escape_of, UsedIn, plain, is_plain, undone, Undid};
 
 use crate::numbers;
 use texts::space::Space;
 
-// The byte that an escape stands for, and how many bytes the escape has after its backslash; or that it is invalid.
-#[derive(Clone, Copy)]
-pub(crate) enum Escape {
-    Byte(u8, usize),
-    Bad,
-}
-
-// The value of the first of two hexadecimal digits, above 15 where it is no digit. Rust reads a `+` there as a sign, so
-// `\x+A` is the byte 10.
-fn high(b: u8) -> u8
-    ensures { result ≡ high_of b }
+// The value of the first of two hexadecimal digits. Rust reads a `+` there as a sign, so `\x+A` is the byte 10.
+fn high(b: u8) -> Option<u32>
+    ensures { IsDigit (high_of b) result }
 {
-    if b == b'+' { 0 } else { numbers::digit(b) }
+    if b == b'+' {
+        Some(0)
+    } else {
+        numbers::digit(b)
+    }
 }
 
 // Reads the two digits after `\x`.
-fn hex_escape(s: &[u8]) -> Escape
+fn hex_escape(s: &[u8]) -> Option<(u8, usize)>
     ensures { result ≡ hex_escape s.now }
 {
     if s.len() < 2 {
-        return Escape::Bad;
+        return None;
     }
-    let a = high(s[0]);
-    let b = numbers::digit(s[1]);
-    if 15 < a {
-        return Escape::Bad;
-    }
-    if 15 < b {
-        return Escape::Bad;
-    }
-    Escape::Byte(a * 16 + b, 3)
+    let a = high(s[0])?;
+    let b = numbers::digit(s[1])?;
+    Some(((a * 16 + b) as u8, 3))
 }
 
-// Reads an escape: s is what comes after its backslash.
-fn read_escape(s: &[u8]) -> Escape
+// Reads an escape: s is what comes after its backslash. The answer is the byte that the escape stands for, and how many
+// bytes the escape has after its backslash; there is none where the escape is invalid.
+fn read_escape(s: &[u8]) -> Option<(u8, usize)>
     ensures { (result ≡ escape_of s.now) × UsedIn result (length s.now) }
 {
     if s.len() == 0 {
-        return Escape::Bad;
+        return None;
     }
     match s[0] {
-        b'\\' => Escape::Byte(b'\\', 1),
-        b's' => Escape::Byte(b' ', 1),
-        b't' => Escape::Byte(b'\t', 1),
-        b'n' => Escape::Byte(b'\n', 1),
-        b'r' => Escape::Byte(b'\r', 1),
+        b'\\' => Some((b'\\', 1)),
+        b's' => Some((b' ', 1)),
+        b't' => Some((b'\t', 1)),
+        b'n' => Some((b'\n', 1)),
+        b'r' => Some((b'\r', 1)),
         b'x' => hex_escape(&s[1..]),
-        _ => Escape::Bad,
+        _ => None,
     }
 }
 
@@ -71,14 +63,10 @@ pub fn is_plain(s: &[u8]) -> bool
         let b = s[i];
         i += 1;
         if b == b'\\' {
-            match read_escape(&s[i..]) {
-                Escape::Byte(_, n) => {
-                    i += n;
-                }
-                Escape::Bad => {
-                    return false;
-                }
-            }
+            let Some((_, n)) = read_escape(&s[i..]) else {
+                return false;
+            };
+            i += n;
         }
     }
     true
@@ -96,15 +84,11 @@ fn put_plain(out: &mut Space, s: &[u8])
         let b = s[i];
         i += 1;
         if b == b'\\' {
-            match read_escape(&s[i..]) {
-                Escape::Byte(x, n) => {
-                    out.put_byte(x);
-                    i += n;
-                }
-                Escape::Bad => {
-                    return;
-                }
-            }
+            let Some((x, n)) = read_escape(&s[i..]) else {
+                return;
+            };
+            out.put_byte(x);
+            i += n;
         } else {
             out.put_byte(b);
         }

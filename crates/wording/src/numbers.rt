@@ -5,59 +5,36 @@
 // * `set`: 64 bits in hexadecimal, with or without `0x`;
 // * `given`: decimal digits alone, exactly as `output::put_decimal` writes them.
 ghost use Rattle.std.specs.Prelude.{◌≡◌, ◌-◌, ◌^◌, ◌≤◌, ◌<◌};
-ghost use Rattle.wording.specs.Numbers.{digit_of, AtMost, number_in, unsigned_of, given_of, without_prefix, set_of, positive_of, negative_of, signed_of};
+ghost use Rattle.wording.specs.Numbers.{digit_of, IsDigit, AtMost, number_in, unsigned_of, given_of, without_prefix, set_of, positive_of, negative_of, signed_of};
 
 use texts::bytes;
 
-// The value of a hexadecimal digit in either case; 16 where the byte is no digit.
-pub(crate) fn digit(b: u8) -> u8
-    ensures value { result ≡ digit_of b }
-    ensures upper_bound { result ≤ 16 }
+// The value of a hexadecimal digit in either case.
+#[tactic(auto, using(crate::proofs::Values::digit_found))]
+pub(crate) fn digit(b: u8) -> Option<u32>
+    ensures { IsDigit (digit_of b) result }
 {
-    if b < b'0' {
-        return 16;
-    }
-    if b <= b'9' {
-        return b - b'0';
-    }
-    if b < b'A' {
-        return 16;
-    }
-    if b <= b'F' {
-        return b - b'A' + 10;
-    }
-    if b < b'a' {
-        return 16;
-    }
-    if b <= b'f' {
-        return b - b'a' + 10;
-    }
-    16
+    (b as char).to_digit(16)
 }
 
 // Reads one digit or more of this base; the value is at most the limit.
 fn number(s: &[u8], base: u64, limit: u64) -> Option<u64>
-    requires { 0 < base }
+    requires { base ≤ 16 }
     ensures { (result ≡ number_in base limit s.now) × AtMost limit result }
 {
-    if s.len() == 0 {
+    if s.is_empty() {
         return None;
     }
     let mut v: u64 = 0;
-    let mut i = 0;
-    while i < s.len() {
-        let d = digit(s[i]) as u64;
+    for &b in s {
+        let d = digit(b)? as u64;
         if base <= d {
             return None;
         }
-        if limit / base < v {
+        v = v.checked_mul(base)?.checked_add(d)?;
+        if limit < v {
             return None;
         }
-        if limit - v * base < d {
-            return None;
-        }
-        v = v * base + d;
-        i += 1;
     }
     Some(v)
 }

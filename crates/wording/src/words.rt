@@ -6,20 +6,11 @@ ghost use Rattle.wording.specs.Words.{same_text, first_word, after_word, word_at
 use texts::bytes;
 
 // Whether two texts are the same.
+#[tactic(auto, using(crate::proofs::WordLaws::same_pointwise))]
 pub fn same(a: &[u8], b: &[u8]) -> bool
     ensures { result ≡ same_text a.now b.now }
 {
-    if a.len() != b.len() {
-        return false;
-    }
-    let mut i = 0;
-    while i < a.len() {
-        if a[i] != b[i] {
-            return false;
-        }
-        i += 1;
-    }
-    true
+    a == b
 }
 
 // What comes before the first space: the whole where there is none.
@@ -59,12 +50,10 @@ pub fn blanks(s: &[u8]) -> usize
     ensures { result ≡ blanks_in s.now }
 {
     let mut n = 0;
-    let mut i = 0;
-    while i < s.len() {
-        if s[i] == b' ' {
+    for &b in s {
+        if b == b' ' {
             n += 1;
         }
-        i += 1;
     }
     n
 }

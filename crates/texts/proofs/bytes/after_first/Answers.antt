@@ -1,13 +1,15 @@
--- After the place that `find` gives; from that place on there is nothing where it is the end.
-use mathlib.Core.Path.{◌∙◌}
+-- After the place that was found; nothing where there is none.
+use mathlib.Core.Path.{sym, ◌∙◌}
 use Prim.Native.Nat.{◌+◌}
+use lib.ListN.{length}
 use Rattle.texts.proofs.Cuts as laws
+use native.Mathlib.Omega.{arith}
 use Rattle.texts.proofs.bytes.after_first.Goals as goal
 
-pub returns-then-n-s : goal.returns-then-n-s
-returns-then-n-s c =
-    laws.rest c.args.s.now (c.find-n.result + 1) ∙ laws.after_hit c.args.c c.args.s.now c.find-n.result c.find-n.ensures.0
+pub returns-in-Some : goal.returns-in-Some
+returns-in-Some c =
+    let s = c.args.s.now in laws.rest s (c.in-Some.n + 1) ∙ laws.after_hit c.args.c s c.in-Some.n c.in-Some.ensures.0
 
-pub returns-else-n-s : goal.returns-else-n-s
-returns-else-n-s c =
-    laws.rest c.args.s.now c.find-n.result ∙ laws.after_none c.args.c c.args.s.now c.find-n.result c.find-n.ensures.0 c.if-n-s.false
+pub returns-in-None : goal.returns-in-None
+returns-in-None c =
+    let s = c.args.s.now in laws.rest s (length s) ∙ laws.after_none c.args.c s (length s) (sym c.in-None.ensures) (omega arith)

@@ -1,4 +1,4 @@
--- After the place that `find` gives, where there is one.
+-- After the place that was found; all where there is none.
 use mathlib.Core.Path.{ap, sym, ◌∙◌}
 use Prim.Native.Nat.{ℕ, ◌+◌}
 use lib.ListN.{drop}
@@ -6,12 +6,10 @@ use Rattle.texts.proofs.Cuts as laws
 use native.Mathlib.Omega.{arith}
 use Rattle.texts.proofs.bytes.after_or_all.Goals as goal
 
-pub returns-then-n-s : goal.returns-then-n-s
-returns-then-n-s c =
+pub returns-in-Some : goal.returns-in-Some
+returns-in-Some c =
     let s = c.args.s.now in
-    laws.rest s (c.find-n.result + 1) ∙ ap (λ (n : ℕ). drop (n + 1) s) c.find-n.ensures.0 ∙ sym (laws.after_all_hit c.args.c s (omega (arith, c.find-n.ensures.0, c.if-n-s.true)))
+    laws.rest s (c.in-Some.n + 1) ∙ ap (λ (n : ℕ). drop (n + 1) s) c.in-Some.ensures.0 ∙ sym (laws.after_all_hit c.args.c s c.in-Some.ensures.1)
 
-pub returns-else-n-s : goal.returns-else-n-s
-returns-else-n-s c =
-    let s = c.args.s.now in
-    sym (laws.after_all_none c.args.c s (omega (arith, c.find-n.ensures.0, c.if-n-s.false)))
+pub returns-in-None : goal.returns-in-None
+returns-in-None c = sym (laws.after_all_none c.args.c c.args.s.now (omega (arith, c.in-None.ensures)))

@@ -1,30 +1,15 @@
--- The bytes after the place are all removed; the first from the end that is not removed ends the rest.
-use mathlib.Core.Path.{ap, sym, ◌∙◌}
-use lib.Seq.{length-take-le, take-length}
+-- The last byte decides whether more is cut off.
+use mathlib.Core.Path.{sym, ◌∙◌}
 use Rattle.texts.proofs.Cuts as laws
-use Rattle.texts.specs.Bytes.{cuts, trim_end}
-use borrow.Author.Rules.{rules}
-use native.Mathlib.Omega.{arith}
 use Rattle.texts.proofs.bytes.cut_end.Goals as goal
 
-pub loop-e-init : goal.loop-e-init
-loop-e-init c = (search rules, ap (trim_end (cuts c.args.blanks c.args.c)) (sym (take-length c.args.s.now)))
+pub returns-then-not-cut : goal.returns-then-not-cut
+returns-then-not-cut g c p k =
+    sym (c.loop-rest.invariant p k ∙ laws.end_keep p c.loop-rest.rest.now c.in-len1-up.len_at_least (sym (k _ _ c.cut.ensures) ∙ c.if-not-cut.true))
 
-pub loop-e-preserved : goal.loop-e-preserved
-loop-e-preserved c =
-    let s = c.args.s.now in
-    (search rules, c.loop-e.invariant.1 ∙ laws.end_cut (cuts c.args.blanks c.args.c) s c.loop-e.e (omega arith) (omega arith) (sym c.is_cut.ensures ∙ c.if-is_cut.true))
-
-pub slice_bounds-result-end : goal.slice_bounds-result-end
-slice_bounds-result-end c = sym (length-take-le _ _ (omega arith))
-
-pub returns-else-is_cut : goal.returns-else-is_cut
-returns-else-is_cut c =
-    sym (c.loop-e.invariant.1 ∙ laws.end_keep (cuts c.args.blanks c.args.c) c.args.s.now c.loop-e.e (omega arith) (omega arith) (sym c.is_cut.ensures ∙ c.if-is_cut.false))
-
-pub slice_bounds-result-end-2 : goal.slice_bounds-result-end-2
-slice_bounds-result-end-2 c = sym (length-take-le _ _ (omega arith))
+pub loop-rest-preserved : goal.loop-rest-preserved
+loop-rest-preserved g c p k =
+    c.loop-rest.invariant p k ∙ laws.end_cut p c.loop-rest.rest.now c.in-len1-up.len_at_least (sym (k _ _ c.cut.ensures) ∙ c.if-not-cut.false)
 
 pub returns : goal.returns
-returns c =
-    sym (c.loop-e.invariant.1 ∙ laws.end_none (cuts c.args.blanks c.args.c) c.args.s.now c.loop-e.e (omega arith))
+returns g c p k = sym (c.loop-rest.invariant p k ∙ laws.end_none p c.loop-rest.rest.now c.in_default.len_below)

@@ -1,12 +1,13 @@
--- The bytes after the place are all removed; the first from the end that is not removed ends the rest.
+-- What was cut off so far, trimming takes too.
 use mathlib.Core.Path.{◌≡◌}
-use Prim.Native.Nat.{◌≤◌}
-use lib.ListN.{length, take}
-use Rattle.texts.specs.Bytes.{cuts, trim_end}
+use mathlib.Core.Bool.{Bool}
+use Prim.Native.Nat.{ℕ}
+use lib.ListN.{length}
+use Rattle.texts.specs.Bytes.{trim_end}
 use Rattle.texts.proofs.bytes.cut_end.Given as goal
 
-abbrev pub invariant-loop-e : goal.invariant-loop-e
-invariant-loop-e l = (l.e ≤ length l.s) × (trim_end (cuts l.blanks l.c) l.s ≡ trim_end (cuts l.blanks l.c) (take l.e l.s))
+abbrev pub invariant-loop-rest : goal.invariant-loop-rest
+invariant-loop-rest g l = (p : ℕ → Bool) → ((b : ℕ) (r : Bool) → goal.F-post g l.cut b r → r ≡ p b) → trim_end p l.s ≡ trim_end p l.rest
 
-abbrev pub decreases-loop-e : goal.decreases-loop-e
-decreases-loop-e l = l.e
+abbrev pub decreases-loop-rest : goal.decreases-loop-rest
+decreases-loop-rest g l = length l.rest

@@ -1,25 +1,15 @@
--- The bytes before the place are all taken; the first that is not begins the rest.
-use mathlib.Core.Path.{refl, sym, ◌∙◌}
+-- The first byte decides whether more is cut off.
+use mathlib.Core.Path.{sym, ◌∙◌}
 use Rattle.texts.proofs.Cuts as laws
-use Rattle.texts.specs.Bytes.{cuts}
-use borrow.Author.Rules.{rules}
-use native.Mathlib.Omega.{arith}
 use Rattle.texts.proofs.bytes.cut_start.Goals as goal
 
-pub loop-i-init : goal.loop-i-init
-loop-i-init c = (search rules, refl)
+pub returns-then-not-cut : goal.returns-then-not-cut
+returns-then-not-cut g c p k =
+    sym (c.loop-rest.invariant p k ∙ laws.start_keep p c.loop-rest.rest.now c.in-len1-up.len_at_least (sym (k _ _ c.cut.ensures) ∙ c.if-not-cut.true))
 
-pub loop-i-preserved : goal.loop-i-preserved
-loop-i-preserved c =
-    let s = c.args.s.now in
-    (search rules, c.loop-i.invariant.1 ∙ laws.start_cut (cuts c.args.blanks c.args.c) s c.loop-i.i (omega arith) (sym c.is_cut.ensures ∙ c.if-is_cut.true))
-
-pub returns-else-is_cut : goal.returns-else-is_cut
-returns-else-is_cut c =
-    let s = c.args.s.now in
-    laws.rest s c.loop-i.i ∙ sym (c.loop-i.invariant.1 ∙ laws.start_keep (cuts c.args.blanks c.args.c) s c.loop-i.i (omega arith) (sym c.is_cut.ensures ∙ c.if-is_cut.false))
+pub loop-rest-preserved : goal.loop-rest-preserved
+loop-rest-preserved g c p k =
+    c.loop-rest.invariant p k ∙ laws.start_cut p c.loop-rest.rest.now c.in-len1-up.len_at_least (sym (k _ _ c.cut.ensures) ∙ c.if-not-cut.false)
 
 pub returns : goal.returns
-returns c =
-    let s = c.args.s.now in
-    laws.rest s c.loop-i.i ∙ sym (c.loop-i.invariant.1 ∙ laws.start_end (cuts c.args.blanks c.args.c) s c.loop-i.i (omega arith))
+returns g c p k = sym (c.loop-rest.invariant p k ∙ laws.start_end p c.loop-rest.rest.now c.in_default.len_below)

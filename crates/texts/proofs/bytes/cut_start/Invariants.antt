@@ -1,12 +1,13 @@
--- The bytes before the place are all taken; the first that is not begins the rest.
+-- What was cut off so far, trimming takes too.
 use mathlib.Core.Path.{◌≡◌}
-use Prim.Native.Nat.{◌≤◌, ◌-◌}
-use lib.ListN.{length, drop}
-use Rattle.texts.specs.Bytes.{cuts, trim_start}
+use mathlib.Core.Bool.{Bool}
+use Prim.Native.Nat.{ℕ}
+use lib.ListN.{length}
+use Rattle.texts.specs.Bytes.{trim_start}
 use Rattle.texts.proofs.bytes.cut_start.Given as goal
 
-abbrev pub invariant-loop-i : goal.invariant-loop-i
-invariant-loop-i l = (l.i ≤ length l.s) × (trim_start (cuts l.blanks l.c) l.s ≡ trim_start (cuts l.blanks l.c) (drop l.i l.s))
+abbrev pub invariant-loop-rest : goal.invariant-loop-rest
+invariant-loop-rest g l = (p : ℕ → Bool) → ((b : ℕ) (r : Bool) → goal.F-post g l.cut b r → r ≡ p b) → trim_start p l.s ≡ trim_start p l.rest
 
-abbrev pub decreases-loop-i : goal.decreases-loop-i
-decreases-loop-i l = length l.s - l.i
+abbrev pub decreases-loop-rest : goal.decreases-loop-rest
+decreases-loop-rest g l = length l.rest

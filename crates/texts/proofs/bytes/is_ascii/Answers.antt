@@ -1,24 +1,13 @@
--- Every byte before the place was at most 127; the first above it decides.
-use mathlib.Core.Path.{refl, sym, ◌∙◌}
+-- All bytes are looked at.
+use Rattle.std.proofs.Common.{◌≡◌, ◌∙◌, rules, tests}
+use Rattle.std.proofs.lemmas.Iterator.{YieldsList-from_slice}
+use Rattle.std.proofs.lemmas.Iterator.Search.{all_from_yields_List}
+use lib.Dec.{leb}
+use Rattle.core.specs.List.{list_all}
 use Rattle.texts.proofs.Cuts as laws
-use borrow.Author.Rules.{rules}
-use native.Mathlib.Omega.{arith}
 use Rattle.texts.proofs.bytes.is_ascii.Goals as goal
-
-pub loop-i-init : goal.loop-i-init
-loop-i-init c = (search rules, refl)
-
-pub returns-then-s-i-gt127 : goal.returns-then-s-i-gt127
-returns-then-s-i-gt127 c =
-    let s = c.args.s.now in
-    sym (c.loop-i.invariant.1 ∙ laws.ascii_high s c.loop-i.i (omega arith) c.if-s-i-gt127.true)
-
-pub loop-i-preserved : goal.loop-i-preserved
-loop-i-preserved c =
-    let s = c.args.s.now in
-    (search rules, c.loop-i.invariant.1 ∙ laws.ascii_low s c.loop-i.i (omega arith) c.if-s-i-gt127.false)
 
 pub returns : goal.returns
 returns c =
-    let s = c.args.s.now in
-    sym (c.loop-i.invariant.1 ∙ laws.ascii_end s c.loop-i.i (omega arith))
+    let all : c.all.result ≡ list_all (λ b. leb b 127) c.args.s.now = all_from_yields_List (λ b. leb b 127) _ _ c.all.result c.all.ensures.ran (YieldsList-from_slice _ c.iter.ensures.rest) (λ x b q k. search (rules, tests)) in
+    all ∙ laws.all_ascii c.args.s.now

@@ -5,4 +5,4 @@ use Rattle.texts.proofs.bytes.trim.Goals as goal
 
 pub returns : goal.returns
 unfolding trim
-returns c = c.cut_end.ensures ∙ ap (trim_end blank) c.cut_start.ensures
+returns c = c.cut_end.ensures blank (λ b r k. k) ∙ ap (trim_end blank) (c.cut_start.ensures blank (λ b r k. k))

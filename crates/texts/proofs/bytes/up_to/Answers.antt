@@ -1,16 +1,15 @@
--- Before the place that `find` gives.
+-- Before the place that was found; all where there is none.
 use mathlib.Core.Path.{ap, sym, ◌∙◌}
 use Prim.Native.Nat.{ℕ}
 use lib.ListN.{take}
-use lib.Seq.{length-take-le}
+use lib.Seq.{take-length}
 use Rattle.texts.proofs.Cuts as laws
-use native.Mathlib.Omega.{arith}
 use Rattle.texts.proofs.bytes.up_to.Goals as goal
 
-pub slice_bounds-result-end : goal.slice_bounds-result-end
-slice_bounds-result-end c = sym (length-take-le _ _ (omega arith))
+pub returns-in-Some : goal.returns-in-Some
+returns-in-Some c =
+    let s = c.args.s.now in ap (λ (n : ℕ). take n s) c.in-Some.ensures.0 ∙ sym (laws.up_to_is c.args.c s)
 
-pub returns : goal.returns
-returns c =
-    let s = c.args.s.now in
-    ap (λ (n : ℕ). take n s) c.find-n.ensures.0 ∙ sym (laws.up_to_is c.args.c s)
+pub returns-in-None : goal.returns-in-None
+returns-in-None c =
+    let s = c.args.s.now in sym (laws.up_to_is c.args.c s ∙ ap (λ (n : ℕ). take n s) c.in-None.ensures ∙ take-length s)

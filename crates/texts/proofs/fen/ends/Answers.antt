@@ -1,17 +1,19 @@
 -- Each end is a square, or its refusal is passed on.
-use mathlib.Core.Path.{ap}
+use mathlib.Core.Path.{◌≡◌, ap}
+use borrow.Author.Rules.{rules}
+use Rattle.std.specs.Prelude.{Ok, Err}
 use Rattle.texts.proofs.fen.ends.Goals as goal
-use Rattle.std.specs.Prelude.{Ok}
 
 pub range-requires : goal.range-requires
-range-requires c = ((rw c.in-Ok.is at c.requires.0).0, (rw c.in-Ok-to.is at c.requires.1).1)
+range-requires c = ((rw c.in_ok-lo.was at c.requires.0).0, (rw c.in_ok-hi.was at c.requires.1).1)
 
-pub returns-in-Ok-to : goal.returns-in-Ok-to
-returns-in-Ok-to c =
-    rw (c.in-Ok.is, c.in-Ok-to.is, ← c.range.ensures) (ap Ok c.with_squares.ensures)
+pub returns-in_err-lo : goal.returns-in_err-lo
+returns-in_err-lo c =
+    let q : c.from_residual.result ≡ Err c.in_err-lo.field-0.0 = search rules in rw (q, c.in_err-lo.was)
 
-pub returns-in-Err-to : goal.returns-in-Err-to
-returns-in-Err-to c = rw (c.in-Ok.is, c.in-Err-to.is)
+pub returns-in_err-hi : goal.returns-in_err-hi
+returns-in_err-hi c =
+    let q : c.from_residual-in_err-hi.result ≡ Err c.in_err-hi.field-0.0 = search rules in rw (q, c.in_ok-lo.was, c.in_err-hi.was)
 
-pub returns-in-Err : goal.returns-in-Err
-returns-in-Err c = rw c.in-Err.is
+pub returns : goal.returns
+returns c = rw (c.in_ok-lo.was, c.in_ok-hi.was, ← c.range.ensures) (ap Ok c.with_squares.ensures)

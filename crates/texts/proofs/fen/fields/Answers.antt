@@ -1,5 +1,6 @@
 -- One field a turn, as in `items`.
-use mathlib.Core.Path.{refl, sym}
+use mathlib.Core.Path.{◌≡◌, refl, sym, ◌∙◌}
+use Rattle.std.specs.Prelude.{Err}
 use Rattle.texts.proofs.Readers.{turned, none_left}
 use borrow.Author.Rules.{rules}
 use native.Mathlib.Omega.{arith}
@@ -8,9 +9,10 @@ use Rattle.texts.proofs.fen.fields.Goals as goal
 pub loop-at-init : goal.loop-at-init
 loop-at-init c = record { within = search rules; answer = refl }
 
-pub returns-in-Err : goal.returns-in-Err
-returns-in-Err c =
-    sym ((turned _ _ _ c.loop-at.invariant c.up_to-text.ensures c.trim.ensures c.field.ensures (omega arith)).stops c.in-Err.is)
+pub returns-in_err-read : goal.returns-in_err-read
+returns-in_err-read c =
+    let q : c.from_residual.result ≡ Err c.in_err-read.field-0.0 = search rules in
+    q ∙ sym ((turned _ _ _ c.loop-at.invariant c.up_to-text.ensures c.trim.ensures c.field.ensures (omega arith)).stops c.in_err-read.was)
 
 pub overflow_add-at : goal.overflow_add-at
 overflow_add-at c =
@@ -22,7 +24,7 @@ overflow_add-at-in-loop-at c =
 
 pub loop-at-preserved : goal.loop-at-preserved
 loop-at-preserved c =
-    (turned _ _ _ c.loop-at.invariant c.up_to-text.ensures c.trim.ensures c.field.ensures (omega arith)).goes c.in-Ok.is
+    (turned _ _ _ c.loop-at.invariant c.up_to-text.ensures c.trim.ensures c.field.ensures (omega arith)).goes c.in_ok-read.was
 
 pub returns : goal.returns
 returns c = sym (none_left _ _ _ c.loop-at.invariant (omega arith))

@@ -5,7 +5,4 @@ use Rattle.squares.specs.Squares.{run}
 use Rattle.texts.proofs.fen.range.Given as goal
 
 abbrev pub invariant-loop-n : goal.invariant-loop-n
-invariant-loop-n l = (l.lo ≤ l.n) × (l.n - l.lo ≤ l.hi + 1 - l.lo) × (l.set ≡ run l.lo (l.n - l.lo))
-
-abbrev pub decreases-loop-n : goal.decreases-loop-n
-decreases-loop-n l = l.hi + 1 - l.n
+invariant-loop-n l = (l.n - l.lo ≤ l.hi + 1 - l.lo) × (l.set ≡ run l.lo (l.n - l.lo))

@@ -6,7 +6,4 @@ use Rattle.texts.specs.Hub.{hub_from}
 use Rattle.texts.proofs.hub.hub_squares.Given as goal
 
 abbrev pub invariant-loop-n : goal.invariant-loop-n
-invariant-loop-n l = (1 ≤ l.n) × (l.n ≤ 51) × (l.n ≤ length l.s) × (hub_from (51 - l.n) l.n l.p (drop l.n l.s) ≡ hub_from 50 1 l.initial.p (drop 1 l.s))
-
-abbrev pub decreases-loop-n : goal.decreases-loop-n
-decreases-loop-n l = 51 - l.n
+invariant-loop-n l = (l.n ≤ length l.s) × (hub_from (51 - l.n) l.n l.p (drop l.n l.s) ≡ hub_from 50 1 l.initial.p (drop 1 l.s))

@@ -1,5 +1,5 @@
 -- Two digits, or none.
-use mathlib.Core.Path.{sym, ◌∙◌}
+use mathlib.Core.Path.{refl, sym, ◌∙◌}
 use Rattle.wording.proofs.Escaped as laws
 use native.Mathlib.Omega.{arith}
 use Rattle.wording.proofs.escapes.hex_escape.Goals as goal
@@ -7,14 +7,14 @@ use Rattle.wording.proofs.escapes.hex_escape.Goals as goal
 pub returns-then-s-lt2 : goal.returns-then-s-lt2
 returns-then-s-lt2 c = sym (laws.hex_short c.args.s.now c.if-s-lt2.true)
 
-pub returns-then-a-gt15 : goal.returns-then-a-gt15
-returns-then-a-gt15 c =
-    sym (laws.hex_pair c.args.s.now c.high-a.result c.digit-b.result (omega arith) c.high-a.ensures c.digit-b.ensures.value ∙ laws.high_bad c.high-a.result c.digit-b.result _ c.if-a-gt15.true)
+pub returns-in_err-a : goal.returns-in_err-a
+returns-in_err-a c =
+    c.from_residual.ensures ∙ sym (laws.hex_pair c.args.s.now _ _ (omega arith) refl refl ∙ laws.high_bad _ _ _ c.in_err-a.ensures)
 
-pub returns-then-b-gt15 : goal.returns-then-b-gt15
-returns-then-b-gt15 c =
-    sym (laws.hex_pair c.args.s.now c.high-a.result c.digit-b.result (omega arith) c.high-a.ensures c.digit-b.ensures.value ∙ laws.low_bad c.high-a.result c.digit-b.result _ c.if-a-gt15.false c.if-b-gt15.true)
+pub returns-in_err-b : goal.returns-in_err-b
+returns-in_err-b c =
+    c.from_residual-in_err-b.ensures ∙ sym (laws.hex_pair c.args.s.now c.in_ok-a.a _ (omega arith) c.in_ok-a.ensures.0 refl ∙ laws.low_bad c.in_ok-a.a _ _ c.in_ok-a.ensures.1 c.in_err-b.ensures)
 
 pub returns : goal.returns
 returns c =
-    sym (laws.hex_pair c.args.s.now c.high-a.result c.digit-b.result (omega arith) c.high-a.ensures c.digit-b.ensures.value ∙ laws.pair_good c.high-a.result c.digit-b.result _ c.if-a-gt15.false c.if-b-gt15.false)
+    sym (laws.hex_pair c.args.s.now c.in_ok-a.a c.in_ok-b.b (omega arith) c.in_ok-a.ensures.0 c.in_ok-b.ensures.0 ∙ laws.pair_good c.in_ok-a.a c.in_ok-b.b _ c.in_ok-a.ensures.1 c.in_ok-b.ensures.1)

@@ -1,49 +1,45 @@
--- Digit by digit; the limit is tested before the product and the sum are made.
-use mathlib.Core.Path.{sym, ◌∙◌}
+-- Digit by digit; a product or a sum beyond 64 bits is above the limit.
+use mathlib.Core.Path.{◌≡◌, refl, ap, sym, ◌∙◌}
+use Prim.Native.Nat.{ℕ, ◌+◌, ◌*◌}
+use lib.ListN.{drop}
+use Rattle.wording.specs.Numbers.{value_from}
 use Rattle.wording.proofs.Values as laws
-use borrow.Author.Rules.{rules}
+use borrow.Author.Tests.{eqb-true, eqb-false}
 use native.Mathlib.Omega.{arith}
 use Rattle.wording.proofs.numbers.number.Goals as goal
 
-pub returns-then-s-eq0 : goal.returns-then-s-eq0
-returns-then-s-eq0 c =
-    laws.limited c.args.base c.args.limit c.args.s.now _ (sym (laws.number_none c.args.base c.args.limit c.args.s.now c.if-s-eq0.true))
+pub returns-then-is_empty : goal.returns-then-is_empty
+returns-then-is_empty c =
+    laws.limited c.args.base c.args.limit c.args.s.now _ (sym (laws.number_none c.args.base c.args.limit c.args.s.now (eqb-true _ 0 (sym c.if-is_empty.ensures))))
 
-pub loop-i-init : goal.loop-i-init
-loop-i-init c = (search rules, omega arith, laws.number_some c.args.base c.args.limit c.args.s.now c.if-s-eq0.false)
+pub loop-b-init : goal.loop-b-init
+loop-b-init c = (omega arith, laws.number_some c.args.base c.args.limit c.args.s.now (eqb-false _ 0 (sym c.if-is_empty.ensures)))
+
+pub returns-in_err-d : goal.returns-in_err-d
+returns-in_err-d c =
+    laws.limited c.args.base c.args.limit c.args.s.now _ (c.from_residual.ensures ∙ sym (c.loop-b.invariant.1 ∙ laws.no_digit c.args.base c.args.limit c.loop-b.v c.args.s.now c.loop-b.b-index _ (omega arith) refl (omega (arith, c.in_err-d.ensures, c.requires))))
 
 pub returns-then-base-d : goal.returns-then-base-d
 returns-then-base-d c =
-    laws.limited c.args.base c.args.limit c.args.s.now _ (sym (c.loop-i.invariant.2 ∙ laws.no_digit c.args.base c.args.limit c.loop-i.v c.args.s.now c.loop-i.i c.digit-d.result (omega arith) c.digit-d.ensures.value c.if-base-d.true))
+    laws.limited c.args.base c.args.limit c.args.s.now _ (sym (c.loop-b.invariant.1 ∙ laws.no_digit c.args.base c.args.limit c.loop-b.v c.args.s.now c.loop-b.b-index c.in_ok-d.field-0 (omega arith) c.in_ok-d.ensures.0 c.if-base-d.true))
 
-pub returns-then-limit-base : goal.returns-then-limit-base
-returns-then-limit-base c =
-    laws.limited c.args.base c.args.limit c.args.s.now _ (sym (c.loop-i.invariant.2 ∙ laws.past_limit c.args.base c.args.limit c.loop-i.v c.args.s.now c.loop-i.i c.digit-d.result (omega arith) c.digit-d.ensures.value (laws.over c.args.limit c.args.base c.loop-i.v c.digit-d.result c.requires c.if-limit-base.true)))
+pub returns-in_err-checked_mul : goal.returns-in_err-checked_mul
+returns-in_err-checked_mul c =
+    laws.limited c.args.base c.args.limit c.args.s.now _ (c.from_residual-in_err-checked_mul.ensures ∙ sym (c.loop-b.invariant.1 ∙ laws.past_limit c.args.base c.args.limit c.loop-b.v c.args.s.now c.loop-b.b-index c.in_ok-d.field-0 (omega arith) c.in_ok-d.ensures.0 (omega (arith, c.in_err-checked_mul.ensures, c.ranges.limit))))
 
-pub overflow_mul-v : goal.overflow_mul-v
-overflow_mul-v c =
-    omega (arith, laws.under c.args.limit c.args.base c.loop-i.v c.requires c.if-limit-base.false, c.ranges.limit)
-
-pub overflow_sub-limit : goal.overflow_sub-limit
-overflow_sub-limit c = laws.under c.args.limit c.args.base c.loop-i.v c.requires c.if-limit-base.false
+pub returns-in_err-v : goal.returns-in_err-v
+returns-in_err-v c =
+    laws.limited c.args.base c.args.limit c.args.s.now _ (c.from_residual-in_err-v.ensures ∙ sym (c.loop-b.invariant.1 ∙ laws.past_limit c.args.base c.args.limit c.loop-b.v c.args.s.now c.loop-b.b-index c.in_ok-d.field-0 (omega arith) c.in_ok-d.ensures.0 (omega (arith, c.in_err-v.ensures, c.in_ok-checked_mul.ensures.1, c.ranges.limit))))
 
 pub returns-then-limit-v : goal.returns-then-limit-v
 returns-then-limit-v c =
-    laws.limited c.args.base c.args.limit c.args.s.now _ (sym (c.loop-i.invariant.2 ∙ laws.past_limit c.args.base c.args.limit c.loop-i.v c.args.s.now c.loop-i.i c.digit-d.result (omega arith) c.digit-d.ensures.value (omega (arith, laws.under c.args.limit c.args.base c.loop-i.v c.requires c.if-limit-base.false, c.if-limit-v.true))))
+    laws.limited c.args.base c.args.limit c.args.s.now _ (sym (c.loop-b.invariant.1 ∙ laws.past_limit c.args.base c.args.limit c.loop-b.v c.args.s.now c.loop-b.b-index c.in_ok-d.field-0 (omega arith) c.in_ok-d.ensures.0 (omega (arith, c.in_ok-v.ensures.1, c.in_ok-checked_mul.ensures.1, c.if-limit-v.true))))
 
-pub overflow_mul-v-in-loop-i : goal.overflow_mul-v-in-loop-i
-overflow_mul-v-in-loop-i c =
-    omega (arith, laws.under c.args.limit c.args.base c.loop-i.v c.requires c.if-limit-base.false, c.ranges.limit)
-
-pub overflow_add-v : goal.overflow_add-v
-overflow_add-v c =
-    omega (arith, laws.under c.args.limit c.args.base c.loop-i.v c.requires c.if-limit-base.false, c.if-limit-v.false, c.ranges.limit)
-
-pub loop-i-preserved : goal.loop-i-preserved
-loop-i-preserved c =
-    let u = laws.under c.args.limit c.args.base c.loop-i.v c.requires c.if-limit-base.false in
-    (search rules, omega (arith, u, c.if-limit-v.false), c.loop-i.invariant.2 ∙ laws.next_digit c.args.base c.args.limit c.loop-i.v c.args.s.now c.loop-i.i c.digit-d.result (omega arith) c.digit-d.ensures.value c.if-base-d.false (omega (arith, u, c.if-limit-v.false)))
+pub loop-b-preserved : goal.loop-b-preserved
+loop-b-preserved c =
+    let e : c.loop-b.v * c.args.base + c.in_ok-d.field-0 ≡ c.in_ok-v.v = omega (arith, c.in_ok-v.ensures.1, c.in_ok-checked_mul.ensures.1) in
+    (c.if-limit-v.false, c.loop-b.invariant.1 ∙ laws.next_digit c.args.base c.args.limit c.loop-b.v c.args.s.now c.loop-b.b-index c.in_ok-d.field-0 (omega arith) c.in_ok-d.ensures.0 c.if-base-d.false (omega (arith, e, c.if-limit-v.false)) ∙ ap (λ (v : ℕ). value_from c.args.base c.args.limit v (drop (c.loop-b.b-index + 1) c.args.s.now)) e)
 
 pub returns : goal.returns
 returns c =
-    laws.limited c.args.base c.args.limit c.args.s.now _ (sym (c.loop-i.invariant.2 ∙ laws.value_end c.args.base c.args.limit c.loop-i.v c.args.s.now c.loop-i.i (omega arith)))
+    laws.limited c.args.base c.args.limit c.args.s.now _ (sym (c.loop-b.invariant.1 ∙ laws.value_end c.args.base c.args.limit c.loop-b.v c.args.s.now c.loop-b.b-index (omega arith)))
