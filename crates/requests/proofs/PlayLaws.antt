@@ -1,15 +1,13 @@
 -- The words of a line one after another; records and texts; the game after a word.
 use Rattle.std.specs.Prelude.{None, Some, Result, Err}
-use Prim.Native.Nat.{ℕ, ◌-◌, ◌≤◌, ◌<◌}
-use mathlib.Core.Path.{◌≡◌, refl, ap, sym, ◌∙◌}
+use Prim.Native.Nat.{ℕ}
+use mathlib.Core.Path.{◌≡◌, ap, ◌∙◌}
 use mathlib.Core.List.{List, [], ◌∷◌, ◌++◌}
-use mathlib.Core.Bool.{Bool, true, false, cond}
-use native.Mathlib.Omega.{arith}
-use lib.Dec.{eqb}
-use lib.ListN.{length, take, drop, length-drop, drop_of_length-le}
+use mathlib.Core.Bool.{true, false, cond}
+use lib.ListN.{length, take}
 use Rattle.squares.specs.declared.refusal.Refusal.TheVariants.{TextTooLong, BadGame}
 use Rattle.positions.specs.Moves.{move}
-use Rattle.texts.specs.Bytes.{parts_at, up_to, after_or, after_first, cons_head, readable, longest_text}
+use Rattle.texts.specs.Bytes.{up_to, after_first, readable, longest_text}
 use Rattle.notation.specs.Notation.{read_move_of}
 use Rattle.games.specs.Games.{valid}
 use Rattle.games.specs.declared.game.Game.{Game}
@@ -17,12 +15,10 @@ use Rattle.gametexts.specs.Texts.{play_str_of}
 use Rattle.gametexts.specs.declared.game.PlayedText.{PlayedText}
 use Rattle.wording.specs.Escapes.{undone, Undid}
 use Rattle.wording.specs.Numbers.{unsigned_of, set_of}
-use Rattle.wording.specs.Words.{first_word, after_word}
-use Rattle.requests.specs.Plays.{words_of, record_of, is_record_of, all_records, play_text_of, play_word_of, word_told, played_on, game_text}
+use Rattle.requests.specs.Plays.{record_of, is_record_of, all_records, play_text_of, play_word_of, word_told, played_on, game_text}
 use Rattle.replies.specs.States.{end_text}
 use Rattle.requests.specs.declared.plays.Given.{Given}
 use Rattle.requests.proofs.Readings.{cut, cut_part}
-use Rattle.requests.proofs.Suffixes as suffixes
 use Rattle.squares.specs.declared.refusal.Refusal.{Refusal}
 
 -- ---- a word and the words after it

@@ -1,5 +1,5 @@
 -- The requests about games: play and record, which play every word in order on a new game, and outcome.
-use Rattle.std.specs.Prelude.{ℕ, List, [], ◌∷◌, ◌++◌, Bool, true, false, cond, ◌&&◌, Err, None, Ok, Result, Some, is_some}
+use Rattle.std.specs.Prelude.{ℕ, List, [], ◌∷◌, ◌++◌, Bool, true, cond, ◌&&◌, Err, None, Ok, Result, Some, is_some}
 use Prim.Native.Char.{code}
 use Rattle.squares.specs.Refusals.{refusal, answer_number_of}
 use Rattle.positions.specs.Moves.{move}

@@ -1,4 +1,5 @@
 -- Row by row: the text that is left begins with the name of the row.
+use Rattle.std.specs.Prelude.{Some}
 use Prim.Native.Nat.{ℕ, ◌+◌, ◌-◌}
 use mathlib.Core.Path.{sym, ap, ◌∙◌}
 use mathlib.Core.List.{List}
@@ -22,7 +23,7 @@ unfolding help_text
 returns-then-same c =
     let name = c.args.name.now in
     let f = c.first.ensures ∙ ap first_word (cuts.rest help_text c.loop-row.at) in
-    c.request_at.ensures
+    ap Some c.request_at.ensures
     ∙ sym (law.here name help_text c.loop-row.row c.loop-row.at c.loop-row-test.true c.loop-row.invariant.2 (ap (same_text name) (sym f) ∙ sym c.same.ensures ∙ c.if-same.true))
 
 pub overflow_sub-at : goal.overflow_sub-at
