@@ -13,7 +13,6 @@ use Rattle.texts.specs.Bytes.{up_to, after_or, after_first}
 use Rattle.requests.specs.Requests.{Row, requests, rows, help_text, request_of, request_at}
 use Rattle.requests.specs.declared.requests.Request.{Request}
 use Rattle.requests.specs.declared.requests.Request.TheVariants as request
-use Rattle.requests.proofs.Suffixes.{after_place}
 
 -- the rows from this number on, so many of them, which the text t holds
 unfoldable pub rows_of : List ℕ → ℕ → List ℕ → ℕ → Option Request
@@ -25,10 +24,7 @@ unfolding request_of request_at rows_of help_text first_word up_to after_first a
 whole name = refl
 
 -- one row
-module _ (name table : List ℕ) (n i : ℕ) where
-  abbrev left : List ℕ
-  left = drop i table
-
+module _ (name left : List ℕ) (n : ℕ) where
   one : (more : ℕ) → rows - n ≡ suc more → more ≡ rows - (n + 1)
       → rows_of name n left (rows - n) ≡ cond (same_text name (first_word left)) (Some (request_at n)) (rows_of name (n + 1) (after_first 10 left) (rows - (n + 1)))
   unfolding rows_of
@@ -41,8 +37,8 @@ module _ (name table : List ℕ) (n i : ℕ) where
   here h e q = e ∙ row h ∙ rw q
 
   pub next : n < rows → request_of name ≡ rows_of name n left (rows - n) → same_text name (first_word left) ≡ false
-      → request_of name ≡ rows_of name (n + 1) (drop (length table - length (after_first 10 left)) table) (rows - (n + 1))
-  next h e q = e ∙ row h ∙ rw q (ap (λ (t : List ℕ). rows_of name (n + 1) t (rows - (n + 1))) (sym (after_place 10 table i)))
+      → request_of name ≡ rows_of name (n + 1) (after_first 10 left) (rows - (n + 1))
+  next h e q = e ∙ row h ∙ rw q
 
   pub none : n ≡ rows → request_of name ≡ rows_of name n left (rows - n) → request_of name ≡ None
   unfolding rows_of

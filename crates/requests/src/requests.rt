@@ -109,15 +109,12 @@ fn request_of(name: &[u8]) -> Option<Request>
     ensures { result ≡ request_of name.now }
 {
     let table = TABLE;
-    let mut row = 0;
-    let mut at = 0;
-    while row < ROWS {
-        let left = &table[at..];
+    let mut left = &table[..];
+    for row in 0..ROWS {
         if words::same(name, words::first(left)) {
             return Some(request_at(row));
         }
-        at = table.len() - bytes::after_first(left, b'\n').len();
-        row += 1;
+        left = bytes::after_first(left, b'\n');
     }
     None
 }
