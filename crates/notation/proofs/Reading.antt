@@ -5,6 +5,7 @@ use mathlib.Core.Path.{◌≡◌, refl, sym, ap, ap₂, ◌∙◌}
 use mathlib.Core.List.{List, [], ◌∷◌}
 use mathlib.Core.Bool.{Bool, true, false, cond, ◌&&◌, ◌||◌}
 use lib.ListN.{length, take, drop}
+use native.Mathlib.Omega.{arith}
 use lib.Dec.{eqb, leb}
 use lib.Bits.{bit_or}
 use borrow.Author.Tests.{eqb-true, eq-eqb, ne_eqb}
@@ -49,14 +50,19 @@ one_more h n = go (eqb h.count 0) refl (eqb h.count 1) refl
     go false e true f = ap (λ (x : ℕ). x + 1) (sym (eqb-true h.count 1 f))
     go false e false f = refl
 
-pub first_heard : (h : Said) (n : ℕ) → h.count ≡ 0 → as_first h n ≡ heard_square h n
+pub first_heard : (h : Said) (n : ℕ) → h.count ≡ 0
+    → ◌≡◌ {A = Said} (record { capture = h.capture; first = n; second = h.second; last = n; count = h.count + 1; rest = h.rest }) (heard_square h n)
 unfolding heard_square
-first_heard h n e = sym (ap (λ (t : Bool). cond t (as_first h n) (cond (eqb h.count 1) (as_second h n) (as_later h n))) (eq-eqb h.count 0 e))
+first_heard h n e =
+    ap {B = Said} (λ (x : ℕ). record { capture = h.capture; first = n; second = h.second; last = n; count = x + 1; rest = h.rest }) e
+    ∙ sym (ap (λ (t : Bool). cond t (as_first h n) (cond (eqb h.count 1) (as_second h n) (as_later h n))) (eq-eqb h.count 0 e))
 
-pub second_heard : (h : Said) (n : ℕ) → (h.count ≡ 0 → ⊥) → h.count ≡ 1 → as_second h n ≡ heard_square h n
+pub second_heard : (h : Said) (n : ℕ) → h.count ≡ 1
+    → ◌≡◌ {A = Said} (record { capture = h.capture; first = h.first; second = n; last = n; count = h.count + 1; rest = h.rest }) (heard_square h n)
 unfolding heard_square
-second_heard h n z e =
-    sym (ap₂ (λ (s t : Bool). cond s (as_first h n) (cond t (as_second h n) (as_later h n))) (ne_eqb h.count 0 z) (eq-eqb h.count 1 e))
+second_heard h n e =
+    ap {B = Said} (λ (x : ℕ). record { capture = h.capture; first = h.first; second = n; last = n; count = x + 1; rest = h.rest }) e
+    ∙ sym (ap₂ (λ (s t : Bool). cond s (as_first h n) (cond t (as_second h n) (as_later h n))) (ne_eqb h.count 0 (λ z. omega (arith, z, e))) (eq-eqb h.count 1 e))
 
 -- b is the square as a set
 pub later_heard : (h : Said) (n b : ℕ) → (h.count ≡ 0 → ⊥) → (h.count ≡ 1 → ⊥) → b ≡ single n
@@ -86,13 +92,6 @@ unfolding heard_squares
 heard_end c s at h l = ap (heard_squares h) (parts_none (is c) s at l)
 
 -- ---- the form
-
--- t is whether it is of the form
-pub formed : (d : Bool) (a : Result Said Refusal) (h : Said) (t : Bool) → a ≡ Ok h → t ≡ well_formed d h → t ≡ true → Ok h ≡ in_form d a
-formed d a h t e f g = sym (ap (in_form d) e ∙ ap (λ (x : Bool). cond x (Ok h) malformed) (sym f ∙ g))
-
-pub unformed : (d : Bool) (a : Result Said Refusal) (h : Said) (t : Bool) → a ≡ Ok h → t ≡ well_formed d h → t ≡ false → malformed ≡ in_form d a
-unformed d a h t e f g = sym (ap (in_form d) e ∙ ap (λ (x : Bool). cond x (Ok h) malformed) (sym f ∙ g))
 
 -- a capture with a - is malformed, whatever its squares are
 dashed : (h : Said) (fs : List (List ℕ)) → h.capture ≡ true → in_form true (heard_squares h fs) ≡ malformed

@@ -1,7 +1,7 @@
 -- The search for the moves that fit: one entry more a turn; Hub first, then by first and last square.
 use Rattle.std.specs.Prelude.{Err, Ok, Result}
 use mathlib.Core.Path.{◌≡◌, refl, sym, ap, ap₂, ◌∙◌}
-use Prim.Native.Nat.{ℕ, ◌+◌, ◌≤◌, ◌<◌}
+use Prim.Native.Nat.{ℕ, ◌+◌, ◌≤◌, ◌<◌, min}
 use native.Mathlib.Omega.{arith}
 use native.Mathlib.Numerals.{add-one}
 use mathlib.Core.Bool.{Bool, true, false, cond}
@@ -9,7 +9,7 @@ use mathlib.Core.List.{List, [], ◌∷◌, ◌++◌}
 use lib.ListN.{length, take, get_or}
 use lib.Seq.{take-suc, take_all}
 use lib.Dec.{leb}
-use borrow.Author.Tests.{leb-true, lt-ltb, le-ltb}
+use borrow.Author.Tests.{leb-true, leb-false, lt-ltb, le-ltb}
 use Rattle.squares.specs.declared.refusal.Refusal.{Refusal}
 use Rattle.squares.specs.declared.refusal.Refusal.TheVariants.{BadPosition, TooManyMoves}
 use Rattle.positions.specs.Acceptance.{sound}
@@ -52,8 +52,12 @@ unfolding choice_of keep
 search_none p l = refl
 
 -- past the end there is nothing more
-pub search_all : (p : Move → Bool) (l : List Move) (n i : ℕ) → length l ≤ n → length l ≤ i → choice_of (keep p (take i l)) ≡ choice_of (keep p (take n l))
-search_all p l n i h k = ap (λ (x : List Move). choice_of (keep p x)) (take_all i l k ∙ sym (take_all n l h))
+pub search_all : (p : Move → Bool) (l : List Move) (n i : ℕ) → i ≡ min n (length l) → choice_of (keep p (take i l)) ≡ choice_of (keep p (take n l))
+search_all p l n i h = ap (λ (x : List Move). choice_of (keep p x)) (go (leb n (length l)) refl)
+  where
+    go : (t : Bool) → leb n (length l) ≡ t → take i l ≡ take n l
+    go true e = let k : n ≤ length l = leb-true _ _ e in ap (λ (k : ℕ). take k l) (omega (arith, h, k))
+    go false e = let k : length l ≤ n = omega (arith, leb-false _ _ e) in take_all i l (omega (arith, h, k)) ∙ sym (take_all n l k)
 
 -- ---- Hub first
 -- the first choice, the second where the first is none

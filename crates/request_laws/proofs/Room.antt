@@ -33,7 +33,7 @@ use Rattle.replies.specs.Answers.{ok, fen_answer, hub_answer, hash_answer, set_w
 use Rattle.requests.specs.Asked.{on_placed, on_found, on_parsed, on_sided, on_weights, moves_request, atmost_request, parse_request, after_request, perft_request, divide_request, eval_request, weights_of, evalw_request, numbered_word, square_request, side_of, sets_answer, parts_request}
 use Rattle.requests.specs.Plays.{words_of, all_records, game_answer, play_request, record_request, outcome_request}
 use Rattle.requests.specs.Reading.{position_in, move_in, square_in}
-use Rattle.requests.specs.Requests.{whole_position, first_position, request_of, request_answer, longest, answer_room, answer_of}
+use Rattle.requests.specs.Requests.{whole_position, first_position, request_of, request_answer, named_answer, longest, answer_room, answer_of}
 use Rattle.replies.specs.States.{judged_word}
 use Rattle.requests.specs.declared.plays.Given.{Given}
 use Rattle.requests.specs.declared.plays.Given.TheVariants as given
@@ -246,14 +246,17 @@ request_most request.Quiet arg h = omega (arith, about (whole_position arg) (λ 
 request_most request.Play arg h = play_most (first_position arg) (after_word arg) (omega (arith, after_word_lem arg))
 request_most request.Outcome arg h = omega (arith, outcome_most (whole_position arg))
 request_most request.Record arg h = record_most (first_position arg) (after_word arg) (omega (arith, after_word_lem arg))
-request_most request.Unknown arg h = omega (arith, bad_most flaw.Name)
+
+named_most : (r : Option Request) (arg : List ℕ) → length arg ≤ longest → length (named_answer r arg) ≤ 1442469
+named_most (Some r) arg h = request_most r arg h
+named_most None arg h = omega (arith, bad_most flaw.Name)
 
 pub answer_short : (line : List ℕ) → suc (length (answer_of line)) ≤ answer_room
 unfolding answer_of
 answer_short line = go (ltb longest (length line)) refl (is_plain (plain line))
   where
     go : (t : Bool) → ltb longest (length line) ≡ t → (b : Bool)
-        → suc (length (cond t (bad flaw.Length) (cond b (request_answer (request_of (first_word line)) (after_word line)) (bad flaw.Escape)))) ≤ answer_room
+        → suc (length (cond t (bad flaw.Length) (cond b (named_answer (request_of (first_word line)) (after_word line)) (bad flaw.Escape)))) ≤ answer_room
     go true e b = omega (arith, bad_most flaw.Length)
-    go false e true = omega (arith, request_most (request_of (first_word line)) (after_word line) (omega (arith, after_word_lem line, ltb-false longest (length line) e)))
+    go false e true = omega (arith, named_most (request_of (first_word line)) (after_word line) (omega (arith, after_word_lem line, ltb-false longest (length line) e)))
     go false e false = omega (arith, bad_most flaw.Escape)

@@ -1,5 +1,4 @@
 pub mod Readings
-pub mod Suffixes
 pub mod Table
 pub mod Sides
 pub mod PlayLaws

@@ -1,4 +1,6 @@
 -- The table of the requests, row by row: as the program reads it, it is the table of the definitions.
+use Rattle.std.specs.Prelude.{None, Some}
+use Rattle.std.specs.declared.option.Option.{Option}
 use Prim.Native.Nat.{ℕ, zero, suc, ◌<◌, ◌-◌, ◌+◌}
 use mathlib.Core.Path.{◌≡◌, refl, ap, sym, ◌∙◌}
 use mathlib.Core.List.{List, [], ◌∷◌, map}
@@ -11,47 +13,38 @@ use Rattle.texts.specs.Bytes.{up_to, after_or, after_first}
 use Rattle.requests.specs.Requests.{Row, requests, rows, help_text, request_of, request_at}
 use Rattle.requests.specs.declared.requests.Request.{Request}
 use Rattle.requests.specs.declared.requests.Request.TheVariants as request
-use Rattle.requests.proofs.Suffixes.{after_place}
 
 -- the rows from this number on, so many of them, which the text t holds
-unfoldable pub rows_of : List ℕ → ℕ → List ℕ → ℕ → Request
-rows_of name n t zero = request.Unknown
-rows_of name n t (suc left) = cond (same_text name (first_word t)) (request_at n) (rows_of name (suc n) (after_first 10 t) left)
+unfoldable pub rows_of : List ℕ → ℕ → List ℕ → ℕ → Option Request
+rows_of name n t zero = None
+rows_of name n t (suc left) = cond (same_text name (first_word t)) (Some (request_at n)) (rows_of name (suc n) (after_first 10 t) left)
 
 pub whole : (name : List ℕ) → request_of name ≡ rows_of name 0 help_text rows
 unfolding request_of request_at rows_of help_text first_word up_to after_first after_or same_text
 whole name = refl
 
 -- one row
-module _ (name table : List ℕ) (n i : ℕ) where
-  abbrev left : List ℕ
-  left = drop i table
-
+module _ (name left : List ℕ) (n : ℕ) where
   one : (more : ℕ) → rows - n ≡ suc more → more ≡ rows - (n + 1)
-      → rows_of name n left (rows - n) ≡ cond (same_text name (first_word left)) (request_at n) (rows_of name (n + 1) (after_first 10 left) (rows - (n + 1)))
+      → rows_of name n left (rows - n) ≡ cond (same_text name (first_word left)) (Some (request_at n)) (rows_of name (n + 1) (after_first 10 left) (rows - (n + 1)))
   unfolding rows_of
   one more e f = ap (rows_of name n left) e ∙ rw (f, add-one n)
 
-  row : n < rows → rows_of name n left (rows - n) ≡ cond (same_text name (first_word left)) (request_at n) (rows_of name (n + 1) (after_first 10 left) (rows - (n + 1)))
+  row : n < rows → rows_of name n left (rows - n) ≡ cond (same_text name (first_word left)) (Some (request_at n)) (rows_of name (n + 1) (after_first 10 left) (rows - (n + 1)))
   row h = one (rows - (n + 1)) (omega arith) refl
 
-  pub here : n < rows → request_of name ≡ rows_of name n left (rows - n) → same_text name (first_word left) ≡ true → request_of name ≡ request_at n
+  pub here : n < rows → request_of name ≡ rows_of name n left (rows - n) → same_text name (first_word left) ≡ true → request_of name ≡ Some (request_at n)
   here h e q = e ∙ row h ∙ rw q
 
   pub next : n < rows → request_of name ≡ rows_of name n left (rows - n) → same_text name (first_word left) ≡ false
-      → request_of name ≡ rows_of name (n + 1) (drop (length table - length (after_first 10 left)) table) (rows - (n + 1))
-  next h e q = e ∙ row h ∙ rw q (ap (λ (t : List ℕ). rows_of name (n + 1) t (rows - (n + 1))) (sym (after_place 10 table i)))
+      → request_of name ≡ rows_of name (n + 1) (after_first 10 left) (rows - (n + 1))
+  next h e q = e ∙ row h ∙ rw q
 
-  pub none : n ≡ rows → request_of name ≡ rows_of name n left (rows - n) → request_of name ≡ request.Unknown
+  pub none : n ≡ rows → request_of name ≡ rows_of name n left (rows - n) → request_of name ≡ None
   unfolding rows_of
   none h e = e ∙ ap (λ (k : ℕ). rows_of name k left (rows - k)) h
 
 -- ---- the requests alone
-inside : {A : Type 0} (xs : List A) (n : ℕ) (a b : A) → n < length xs → get_or xs n a ≡ get_or xs n b
-inside [] n a b h = absurd (omega arith)
-inside (x ∷ xs) zero a b h = refl
-inside (x ∷ xs) (suc n) a b h = inside xs n a b (omega arith)
-
-pub at : (n : ℕ) → n < rows → get_or (map (λ (r : Row). r.asks) requests) n request.Fen ≡ request_at n
+pub at : (n : ℕ) → get_or (map (λ (r : Row). r.asks) requests) n request.Fen ≡ request_at n
 unfolding request_at
-at n h = inside (map (λ (r : Row). r.asks) requests) n request.Fen request.Unknown h
+at n = refl

@@ -1,5 +1,5 @@
 -- The requests about games: play and record, which play every word in order on a new game, and outcome.
-use Rattle.std.specs.Prelude.{ℕ, List, [], ◌∷◌, ◌++◌, Bool, true, false, cond, ◌&&◌, Err, None, Ok, Result, Some}
+use Rattle.std.specs.Prelude.{ℕ, List, [], ◌∷◌, ◌++◌, Bool, true, cond, ◌&&◌, Err, None, Ok, Result, Some, is_some}
 use Prim.Native.Char.{code}
 use Rattle.squares.specs.Refusals.{refusal, answer_number_of}
 use Rattle.positions.specs.Moves.{move}
@@ -40,12 +40,8 @@ record_of s =
     on_number (unsigned_of (up_to (code ",") (after_first (code ",") s))) (λ t.
     on_number (set_of (after_first (code ",") (after_first (code ",") s))) (λ c. Some (move f t c))))
 
-abbrev pub is_move : Option Move → Bool
-is_move (Some m) = true
-is_move None = false
-
 unfoldable pub is_record_of : List ℕ → Bool
-is_record_of s = is_move (record_of s)
+is_record_of s = is_some (record_of s)
 
 unfoldable pub all_records : List (List ℕ) → Bool
 all_records [] = true

@@ -1,7 +1,8 @@
 -- A request line and its answer (docs/PROTOCOL.md).
-use Rattle.std.specs.Prelude.{ℕ, ◌*◌, List, [], ◌∷◌, ◌++◌, map, cond, length, get_or, ltb, Result}
+use Rattle.std.specs.Prelude.{ℕ, ◌*◌, List, [], ◌∷◌, ◌++◌, map, cond, length, get_or, ltb, None, Result, Some}
 use Prim.Native.Char.{code}
 use Prim.Native.String.{String}
+use Rattle.std.specs.declared.option.Option.{Option}
 use Rattle.scores.specs.Score.{default}
 use Rattle.texts.specs.Bytes.{bytes}
 use Rattle.wording.specs.Escapes.{plain, is_plain}
@@ -68,16 +69,16 @@ row_lines (r ∷ rs) = row_line r ++ row_lines rs
 unfoldable pub help_text : List ℕ
 help_text = row_lines requests
 
--- the request of a row by its number, from 0 on
+-- the request of a row by its number, from 0 on; there are no more rows than `rows`
 unfoldable pub request_at : ℕ → Request
-request_at n = get_or (map (λ r. r.asks) requests) n request.Unknown
+request_at n = get_or (map (λ r. r.asks) requests) n request.Fen
 
--- the request of the row with this name
-abbrev pub named : List ℕ → List Row → Request
-named name [] = request.Unknown
-named name (r ∷ rs) = cond (same_text name (bytes r.name)) r.asks (named name rs)
+-- the request of the row with this name, if there is one
+abbrev pub named : List ℕ → List Row → Option Request
+named name [] = None
+named name (r ∷ rs) = cond (same_text name (bytes r.name)) (Some r.asks) (named name rs)
 
-unfoldable pub request_of : List ℕ → Request
+unfoldable pub request_of : List ℕ → Option Request
 request_of name = named name requests
 
 -- ---- the answers
@@ -113,7 +114,11 @@ request_answer request.Quiet arg = quiet_request (whole_position arg)
 request_answer request.Play arg = play_request (first_position arg) (after_word arg)
 request_answer request.Outcome arg = outcome_request (whole_position arg)
 request_answer request.Record arg = record_request (first_position arg) (after_word arg)
-request_answer request.Unknown arg = bad flaw.Name
+
+-- a name that is in no row is a bad request
+abbrev pub named_answer : Option Request → List ℕ → List ℕ
+named_answer (Some r) arg = request_answer r arg
+named_answer None arg = bad flaw.Name
 
 -- the most bytes that a line may have, and that an answer and its line feed have (law `answer_short`)
 abbrev pub longest : ℕ
@@ -126,4 +131,4 @@ answer_room = 23 * longest
 unfoldable pub answer_of : List ℕ → List ℕ
 answer_of line =
     cond (ltb longest (length line)) (bad flaw.Length)
-    (cond (is_plain (plain line)) (request_answer (request_of (first_word line)) (after_word line)) (bad flaw.Escape))
+    (cond (is_plain (plain line)) (named_answer (request_of (first_word line)) (after_word line)) (bad flaw.Escape))

@@ -18,7 +18,8 @@ use squares::refusal::Refusal;
 use texts::bytes;
 use texts::space::Space;
 use wording::output::Flaw;
-use wording::{escapes, numbers, output, words};
+use wording::words::Words;
+use wording::{escapes, numbers, output};
 
 // How the plays of a game are given.
 #[derive(Clone, Copy)]
@@ -32,40 +33,28 @@ fn read_record(word: &[u8]) -> Option<Move>
     ensures { result ≡ record_of word.now }
 {
     let rest = bytes::after_first(word, b',');
-    let Some(from) = numbers::unsigned(bytes::up_to(word, b',')) else {
-        return None;
-    };
-    let Some(to) = numbers::unsigned(bytes::up_to(rest, b',')) else {
-        return None;
-    };
-    let Some(captured) = numbers::set(bytes::after_first(rest, b',')) else {
-        return None;
-    };
+    let from = numbers::unsigned(bytes::up_to(word, b','))?;
+    let to = numbers::unsigned(bytes::up_to(rest, b','))?;
+    let captured = numbers::set(bytes::after_first(rest, b','))?;
     Some(Move {
-        captured: captured,
+        captured,
         from: from as u32,
         to: to as u32,
     })
 }
 
+#[tactic(auto, unfolding(crate::specs::Plays::is_record_of))]
 fn is_record(word: &[u8]) -> bool
     ensures { result ≡ is_record_of word.now }
 {
-    match read_record(word) {
-        Some(_) => true,
-        None => false,
-    }
+    read_record(word).is_some()
 }
 
 fn all_records(s: &[u8]) -> bool
     ensures { result ≡ all_records (words_of s.now) }
 {
-    let mut i = 0;
-    while i < s.len() {
-        let left = &s[i..];
-        if is_record(words::first(left)) {
-            i = s.len() - words::rest(left).len();
-        } else {
+    for word in Words(s) {
+        if !is_record(word) {
             return false;
         }
     }
@@ -84,13 +73,9 @@ fn play_text(g: Game, word: &[u8]) -> Result<PlayedText, Refusal>
 fn play_record(g: Game, word: &[u8]) -> Result<PlayedText, Refusal>
     ensures { result ≡ play_record_of g word.now }
 {
-    match read_record(word) {
-        Some(mv) => {
-            let game = g.play(mv)?;
-            Ok(PlayedText { game, mv })
-        }
-        None => Err(Refusal::BadMoveText),
-    }
+    let mv = read_record(word).ok_or(Refusal::BadMoveText)?;
+    let game = g.play(mv)?;
+    Ok(PlayedText { game, mv })
 }
 
 fn play_word(given: Given, g: Game, word: &[u8]) -> Result<PlayedText, Refusal>
@@ -150,14 +135,10 @@ fn play_words(given: Given, start: Game, s: &[u8], out: &mut Space)
     ensures { out.new ≡ over (game_text given start (words_of s.now)) out.old }
 {
     let mut g = start;
-    let mut i = 0;
-    while i < s.len() {
-        let left = &s[i..];
-        let word = words::first(left);
+    for word in Words(s) {
         let r = play_word(given, g, word);
         tell_word(given, r, out);
         g = played_on(g, r);
-        i = s.len() - words::rest(left).len();
     }
     states::put_end(out, g);
 }

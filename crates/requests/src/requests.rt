@@ -45,7 +45,7 @@ record FEN FIRST,LAST,SET ..\n";
 // How many requests there are.
 const ROWS: usize = 22;
 
-// The requests in the order of the table, and a name that is in none of its rows.
+// The requests in the order of the table.
 #[derive(Clone, Copy)]
 pub enum Request {
     Fen,
@@ -70,7 +70,6 @@ pub enum Request {
     Play,
     Outcome,
     Record,
-    Unknown,
 }
 
 // The request of this row.
@@ -106,21 +105,18 @@ fn request_at(row: usize) -> Request
 }
 
 // The request with this name.
-fn request_of(name: &[u8]) -> Request
+fn request_of(name: &[u8]) -> Option<Request>
     ensures { result ≡ request_of name.now }
 {
     let table = TABLE;
-    let mut row = 0;
-    let mut at = 0;
-    while row < ROWS {
-        let left = &table[at..];
+    let mut left = &table[..];
+    for row in 0..ROWS {
         if words::same(name, words::first(left)) {
-            return request_at(row);
+            return Some(request_at(row));
         }
-        at = table.len() - bytes::after_first(left, b'\n').len();
-        row += 1;
+        left = bytes::after_first(left, b'\n');
     }
-    Request::Unknown
+    None
 }
 
 // The position that the whole argument means, or its first word alone.
@@ -162,7 +158,6 @@ fn answer_request(request: Request, arg: &[u8], out: &mut Space)
         Request::Play => plays::play(first(arg), words::rest(arg), out),
         Request::Outcome => plays::outcome(whole(arg), out),
         Request::Record => plays::record(first(arg), words::rest(arg), out),
-        Request::Unknown => output::put_bad(out, Flaw::Name),
     }
 }
 
@@ -173,7 +168,10 @@ fn put_answer(line: &[u8], out: &mut Space)
     if LONGEST < line.len() {
         output::put_bad(out, Flaw::Length);
     } else if escapes::is_plain(line) {
-        answer_request(request_of(words::first(line)), words::rest(line), out);
+        match request_of(words::first(line)) {
+            Some(request) => answer_request(request, words::rest(line), out),
+            None => output::put_bad(out, Flaw::Name),
+        }
     } else {
         output::put_bad(out, Flaw::Escape);
     }

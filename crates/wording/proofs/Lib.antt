@@ -1,4 +1,5 @@
 pub mod WordLaws
+pub mod LineWords
 pub mod Values
 pub mod Given
 pub mod GivenTexts

@@ -1,4 +1,5 @@
 pub mod Output
 pub mod Words
+pub mod Steps
 pub mod Numbers
 pub mod Escapes

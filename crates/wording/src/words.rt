@@ -1,7 +1,9 @@
 // The words of a line. Every single space ends a word, so two spaces have an empty word between them, and a line has
 // one word more than it has spaces.
 ghost use Rattle.std.specs.Prelude.{◌≡◌};
+ghost use Rattle.std.specs.Iterator.{YieldsFirstBy, item_count};
 ghost use Rattle.wording.specs.Words.{same_text, first_word, after_word, word_at, blanks_in};
+ghost use Rattle.wording.specs.Steps.{words_left};
 
 use texts::bytes;
 
@@ -25,6 +27,28 @@ pub fn rest(s: &[u8]) -> &[u8]
     ensures { result.now ≡ after_word s.now }
 {
     bytes::after_first(s, b' ')
+}
+
+// The words of a line one after another: `for word in Words(line)`. After a space at the end there is no word.
+#[derive(Clone, Copy)]
+pub struct Words<'a>(pub &'a [u8]);
+
+impl<'a> Iterator for Words<'a> {
+    type Item = &'a [u8];
+
+    ghost next_gives = { YieldsFirstBy (λ word. word.now) words_left };
+
+    ghost remaining = { item_count words_left };
+
+    #[tactic(auto, using(crate::proofs::LineWords::words_first, crate::proofs::LineWords::words_none, crate::proofs::LineWords::fewer))]
+    fn next(&mut self) -> Option<&'a [u8]> {
+        let left = self.0;
+        if left.len() == 0 {
+            return None;
+        }
+        self.0 = rest(left);
+        Some(first(left))
+    }
 }
 
 // The word of this index, from 0 on; empty where there are fewer words.

@@ -1,13 +1,9 @@
 -- Word by word: what is written of the words that are left ends what is written of all.
 use mathlib.Core.Path.{◌≡◌}
-use Prim.Native.Nat.{◌≤◌, ◌-◌}
-use lib.ListN.{length, drop}
-use Rattle.requests.specs.Plays.{game_text, words_of}
 use Rattle.texts.specs.Lent.{over}
+use Rattle.wording.specs.Steps.{words_left}
+use Rattle.requests.specs.Plays.{game_text, words_of}
 use Rattle.requests.proofs.plays.play_words.Given as goal
 
-abbrev pub invariant-loop-i : goal.invariant-loop-i
-invariant-loop-i l = (l.i ≤ length l.s) × (over (game_text l.given l.g (words_of (drop l.i l.s))) l.out ≡ over (game_text l.given l.initial.g (words_of l.s)) l.initial.out)
-
-abbrev pub decreases-loop-i : goal.decreases-loop-i
-decreases-loop-i l = length l.s - l.i
+abbrev pub invariant-loop-word : goal.invariant-loop-word
+invariant-loop-word l = over (game_text l.given l.g (words_left l.word-iterator)) l.out ≡ over (game_text l.given l.initial.g (words_of l.s)) l.initial.out

@@ -1,33 +1,29 @@
 -- Three numbers, the first that is none first.
-use Rattle.std.specs.Prelude.{ℕ}
-use mathlib.Core.Path.{ap, sym, ◌∙◌, subst}
+use Rattle.std.proofs.Common.{rules}
+use Rattle.std.specs.Prelude.{None}
+use Rattle.std.specs.declared.option.Option.{Option}
+use mathlib.Core.Path.{◌≡◌, ap, sym, ◌∙◌}
+use Rattle.positions.specs.declared.moves.Move.{Move}
 use Rattle.requests.proofs.PlayLaws as laws
 use Rattle.texts.specs.Bytes.{up_to, after_first}
-use Rattle.wording.specs.Numbers.{AtMost, unsigned_of, set_of}
-use native.Mathlib.Omega.{arith}
+use Rattle.wording.specs.Numbers.{unsigned_of, set_of}
 use Rattle.requests.proofs.plays.read_record.Goals as goal
-use Rattle.std.specs.declared.option.Option.{Option}
 
-pub returns-in_default : goal.returns-in_default
-returns-in_default c =
-    laws.record_first c.args.word.now (sym (c.unsigned.ensures.0 ∙ ap unsigned_of c.up_to.ensures) ∙ c.in_default.is)
+pub returns-in_err-from : goal.returns-in_err-from
+returns-in_err-from c =
+    let q : ◌≡◌ {A = Option Move} c.from_residual.result None = search rules in
+    q ∙ laws.record_first c.args.word.now (sym (c.in_err-from.ensures.0 ∙ ap unsigned_of c.up_to.ensures))
 
-pub returns-in_default-unsigned : goal.returns-in_default-unsigned
-returns-in_default-unsigned c =
-    laws.record_second c.args.word.now _ (sym (c.unsigned.ensures.0 ∙ ap unsigned_of c.up_to.ensures) ∙ c.in-Some.is) (sym (c.unsigned-2.ensures.0 ∙ ap unsigned_of (c.up_to-2.ensures ∙ ap (up_to 44) c.after_first-rest.ensures)) ∙ c.in_default-unsigned.is)
+pub returns-in_err-to : goal.returns-in_err-to
+returns-in_err-to c =
+    let q : ◌≡◌ {A = Option Move} c.from_residual-in_err-to.result None = search rules in
+    q ∙ laws.record_second c.args.word.now _ (sym (c.in_ok-from.ensures.0 ∙ ap unsigned_of c.up_to.ensures)) (sym (c.in_err-to.ensures.0 ∙ ap unsigned_of (c.up_to-2.ensures ∙ ap (up_to 44) c.after_first-rest.ensures)))
 
-pub returns-in_default-set : goal.returns-in_default-set
-returns-in_default-set c =
-    laws.record_third c.args.word.now _ _ (sym (c.unsigned.ensures.0 ∙ ap unsigned_of c.up_to.ensures) ∙ c.in-Some.is) (sym (c.unsigned-2.ensures.0 ∙ ap unsigned_of (c.up_to-2.ensures ∙ ap (up_to 44) c.after_first-rest.ensures)) ∙ c.in-Some-unsigned.is) (sym (c.set.ensures ∙ ap set_of (c.after_first.ensures ∙ ap (after_first 44) c.after_first-rest.ensures)) ∙ c.in_default-set.is)
-
-pub overflow_cast-result : goal.overflow_cast-result
-overflow_cast-result c =
-    let h = subst (λ (x : Option ℕ). AtMost 4294967295 x) c.in-Some.is c.unsigned.ensures.1 in omega (arith, h)
-
-pub overflow_cast-result-2 : goal.overflow_cast-result-2
-overflow_cast-result-2 c =
-    let h = subst (λ (x : Option ℕ). AtMost 4294967295 x) c.in-Some-unsigned.is c.unsigned-2.ensures.1 in omega (arith, h)
+pub returns-in_err-captured : goal.returns-in_err-captured
+returns-in_err-captured c =
+    let q : ◌≡◌ {A = Option Move} c.from_residual-in_err-captured.result None = search rules in
+    q ∙ laws.record_third c.args.word.now _ _ (sym (c.in_ok-from.ensures.0 ∙ ap unsigned_of c.up_to.ensures)) (sym (c.in_ok-to.ensures.0 ∙ ap unsigned_of (c.up_to-2.ensures ∙ ap (up_to 44) c.after_first-rest.ensures))) (sym (c.in_err-captured.ensures ∙ ap set_of (c.after_first.ensures ∙ ap (after_first 44) c.after_first-rest.ensures)))
 
 pub returns : goal.returns
 returns c =
-    laws.record_whole c.args.word.now _ _ _ (sym (c.unsigned.ensures.0 ∙ ap unsigned_of c.up_to.ensures) ∙ c.in-Some.is) (sym (c.unsigned-2.ensures.0 ∙ ap unsigned_of (c.up_to-2.ensures ∙ ap (up_to 44) c.after_first-rest.ensures)) ∙ c.in-Some-unsigned.is) (sym (c.set.ensures ∙ ap set_of (c.after_first.ensures ∙ ap (after_first 44) c.after_first-rest.ensures)) ∙ c.in-Some-set.is)
+    laws.record_whole c.args.word.now _ _ _ (sym (c.in_ok-from.ensures.0 ∙ ap unsigned_of c.up_to.ensures)) (sym (c.in_ok-to.ensures.0 ∙ ap unsigned_of (c.up_to-2.ensures ∙ ap (up_to 44) c.after_first-rest.ensures))) (sym (c.in_ok-captured.ensures ∙ ap set_of (c.after_first.ensures ∙ ap (after_first 44) c.after_first-rest.ensures)))

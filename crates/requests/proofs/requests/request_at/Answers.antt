@@ -3,4 +3,4 @@ use Rattle.requests.proofs.Table as law
 use Rattle.requests.proofs.requests.request_at.Goals as goal
 
 pub returns : goal.returns
-returns c = law.at _ c.requires
+returns c = law.at _
