@@ -1,5 +1,5 @@
 -- A request line and its answer (docs/PROTOCOL.md).
-use Rattle.std.specs.Prelude.{ℕ, ◌*◌, List, [], ◌∷◌, ◌++◌, map, cond, length, get_or, ltb, None, Result, Some}
+use Rattle.std.specs.Prelude.{ℕ, ◌*◌, List, [], ◌∷◌, ◌++◌, cond, length, ltb, None, Result, Some}
 use Prim.Native.Char.{code}
 use Prim.Native.String.{String}
 use Rattle.std.specs.declared.option.Option.{Option}
@@ -54,10 +54,6 @@ requests =
     ∷ row "record" "FEN FIRST,LAST,SET .." request.Record
     ∷ []
 
--- how many there are
-abbrev pub rows : ℕ
-rows = length requests
-
 -- a row as `dame --help` prints it
 abbrev pub row_line : Row → List ℕ
 row_line r = bytes r.name ++ (code " " ∷ (bytes r.arguments ++ (10 ∷ [])))
@@ -68,10 +64,6 @@ row_lines (r ∷ rs) = row_line r ++ row_lines rs
 
 unfoldable pub help_text : List ℕ
 help_text = row_lines requests
-
--- the request of a row by its number, from 0 on; there are no more rows than `rows`
-unfoldable pub request_at : ℕ → Request
-request_at n = get_or (map (λ r. r.asks) requests) n request.Fen
 
 -- the request of the row with this name, if there is one
 abbrev pub named : List ℕ → List Row → Option Request

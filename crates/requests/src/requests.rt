@@ -1,7 +1,7 @@
 // A request line and its answer. The table holds the requests; the first word of a line picks its row.
-ghost use Rattle.std.specs.Prelude.{◌≡◌, ◌<◌, min, length};
+ghost use Rattle.std.specs.Prelude.{◌≡◌, min, length};
 ghost use Rattle.texts.specs.Lent.{over, written, Adds};
-ghost use Rattle.requests.specs.Requests.{rows, help_text, request_at, request_of, whole_position, first_position, request_answer, answer_of};
+ghost use Rattle.requests.specs.Requests.{help_text, request_of, whole_position, first_position, request_answer, answer_of};
 
 use crate::reading::Form;
 use crate::{asked, plays, reading};
@@ -42,10 +42,7 @@ play FEN TEXT ..\n\
 outcome FEN\n\
 record FEN FIRST,LAST,SET ..\n";
 
-// How many requests there are.
-const ROWS: usize = 22;
-
-// The requests in the order of the table.
+// What a line may ask for.
 #[derive(Clone, Copy)]
 pub enum Request {
     Fen,
@@ -72,37 +69,31 @@ pub enum Request {
     Record,
 }
 
-// The request of this row.
-fn request_at(row: usize) -> Request
-    requires { row < rows }
-    ensures { result ≡ request_at row }
-{
-    let requests = [
-        Request::Fen,
-        Request::Hub,
-        Request::Fen2hub,
-        Request::Hub2fen,
-        Request::Square,
-        Request::Parts,
-        Request::Bits,
-        Request::Moves,
-        Request::Atmost,
-        Request::Parse,
-        Request::After,
-        Request::Perft,
-        Request::Divide,
-        Request::Eval,
-        Request::Evalw,
-        Request::Hash,
-        Request::Flip,
-        Request::Caps,
-        Request::Quiet,
-        Request::Play,
-        Request::Outcome,
-        Request::Record,
-    ];
-    requests[row]
-}
+// The requests in the order of the table.
+const REQUESTS: [Request; 22] = [
+    Request::Fen,
+    Request::Hub,
+    Request::Fen2hub,
+    Request::Hub2fen,
+    Request::Square,
+    Request::Parts,
+    Request::Bits,
+    Request::Moves,
+    Request::Atmost,
+    Request::Parse,
+    Request::After,
+    Request::Perft,
+    Request::Divide,
+    Request::Eval,
+    Request::Evalw,
+    Request::Hash,
+    Request::Flip,
+    Request::Caps,
+    Request::Quiet,
+    Request::Play,
+    Request::Outcome,
+    Request::Record,
+];
 
 // The request with this name.
 fn request_of(name: &[u8]) -> Option<Request>
@@ -110,9 +101,9 @@ fn request_of(name: &[u8]) -> Option<Request>
 {
     let table = TABLE;
     let mut left = &table[..];
-    for row in 0..ROWS {
+    for request in REQUESTS {
         if words::same(name, words::first(left)) {
-            return Some(request_at(row));
+            return Some(request);
         }
         left = bytes::after_first(left, b'\n');
     }
