@@ -12,8 +12,8 @@ use lib.Dec.{leb, ltb, eqb, leb-suc-suc}
 use borrow.Author.Tests.{le-leb, lt-leb, lt-ltb, ne_eqb, leb-true, leb-false, ltb-true, ltb-false}
 use Rattle.texts.specs.Bytes.{ascii, is, holds, trim_start, keep_end, trim_end, cons_head, split_on, up_to, after_or, after_or_all, after_first, starts_with, strip, index_of, parts_from, IsIndex}
 use lib.Pointwise.{pointwise}
-use Rattle.core.specs.List.{list_all, position_or_len}
-use Rattle.core.specs.Option.{unwrap_or}
+use Rattle.std.specs.List.{list_all, position_or_len}
+use Rattle.std.specs.Option.{unwrap_or}
 use Rattle.std.proofs.Common.{Bor}
 use Rattle.std.specs.Prelude.{None, Some, MatchOption}
 use Rattle.std.specs.declared.option.Option.{Option}

@@ -12,7 +12,7 @@ use borrow.Author.Tests.{le-leb, lt-leb, lt-ltb, le-ltb, eq-eqb, ne_eqb, leb-tru
 use Rattle.squares.proofs.Bools.{and_right}
 use Rattle.texts.specs.Bytes.{strip}
 use Rattle.texts.proofs.Cuts.{drop_next}
-use Rattle.core.specs.Char.{digit_value}
+use Rattle.std.specs.Char.{digit_value}
 use Rattle.std.specs.Prelude.{SomeIff}
 use Rattle.wording.specs.Numbers.{IsDigit, AtMost, digit_of, value_from, number_in, without_prefix, positive_of, negative_of, signed_of}
 use Rattle.std.specs.declared.option.Option.{Option}

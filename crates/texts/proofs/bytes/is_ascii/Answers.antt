@@ -3,7 +3,7 @@ use Rattle.std.proofs.Common.{◌≡◌, ◌∙◌, rules, tests}
 use Rattle.std.proofs.lemmas.Iterator.{YieldsList-from_slice}
 use Rattle.std.proofs.lemmas.Iterator.Search.{all_from_yields_List}
 use lib.Dec.{leb}
-use Rattle.core.specs.List.{list_all}
+use Rattle.std.specs.List.{list_all}
 use Rattle.texts.proofs.Cuts as laws
 use Rattle.texts.proofs.bytes.is_ascii.Goals as goal
 
