@@ -26,7 +26,7 @@ const OUTPUT: usize = 1572864;
 
 // The input that is not answered yet: between two reads, the start of a line that is not whole.
 #[derive(Drop)]
-pub struct Unanswered {
+pub(crate) struct Unanswered {
     bytes: [u8; INPUT],
     count: usize,
 }
@@ -43,7 +43,7 @@ impl Model for Unanswered {
 }
 
 impl Unanswered {
-    pub fn new() -> Self
+    pub(crate) fn new() -> Self
         ensures { result ≡ [] }
     {
         Unanswered {
@@ -52,14 +52,14 @@ impl Unanswered {
         }
     }
 
-    pub fn as_slice(&self) -> &[u8]
+    pub(crate) fn as_slice(&self) -> &[u8]
         ensures { result.now ≡ self.now }
     {
         &self.bytes[..self.count]
     }
 
     // Reads once, after the bytes that were carried over. Returns how many bytes that is: 0 is the end of the input.
-    pub fn read_more<R: Read>(&mut self, from: &mut R) -> Result<usize, Failure>
+    pub(crate) fn read_more<R: Read>(&mut self, from: &mut R) -> Result<usize, Failure>
         requires { length self.old ≤ longest + 1 }
         ensures { ReadTo (R.remaining from.old) (R.remaining from.new) self.old self.new result }
     {
@@ -70,7 +70,7 @@ impl Unanswered {
 
     // Carries over the line that is not whole yet, after the bytes of the whole lines: all of it, or one byte more than
     // the longest line has. That is enough to show that the line is too long.
-    pub fn carry(&mut self, whole: usize)
+    pub(crate) fn carry(&mut self, whole: usize)
         requires { whole ≡ whole_of self.old }
         ensures upper_bound { length self.new ≤ longest + 1 }
         ensures carried { self.new ≡ carried_of longest self.old }
@@ -83,7 +83,7 @@ impl Unanswered {
 
 // The answers that are not written yet.
 #[derive(Drop)]
-pub struct Answers {
+pub(crate) struct Answers {
     bytes: [u8; OUTPUT],
     count: usize,
 }
@@ -100,7 +100,7 @@ impl Model for Answers {
 }
 
 impl Answers {
-    pub fn new() -> Self
+    pub(crate) fn new() -> Self
         ensures { result ≡ [] }
     {
         Answers {
@@ -134,7 +134,7 @@ impl Answers {
 
     // Answers whole lines from a place on, as long as there is room for the longest answer. Returns the place after
     // them.
-    pub fn answer_lines(&mut self, s: &[u8], from: usize) -> usize
+    pub(crate) fn answer_lines(&mut self, s: &[u8], from: usize) -> usize
         requires { from ≤ length s.now }
         ensures { Answered answer_of s.now from self.new result (length self.new) }
     {
@@ -154,7 +154,7 @@ impl Answers {
 
     // At the end of the input: answers the last line, which has no line feed, if there is such a line.
     #[tactic(auto, using(crate::proofs::Contents::last_none, crate::proofs::Contents::last_some))]
-    pub fn last_answer(&mut self, line: &[u8])
+    pub(crate) fn last_answer(&mut self, line: &[u8])
         ensures { self.new ≡ last_answer answer_of line.now }
     {
         self.clear();
@@ -166,7 +166,7 @@ impl Answers {
     // Puts what is written for the arguments, given as one line: the help for `--help`, else the answer and a line
     // feed.
     #[tactic(auto, using(crate::proofs::Contents::given_rules))]
-    pub fn given_answer(&mut self, line: &[u8])
+    pub(crate) fn given_answer(&mut self, line: &[u8])
         ensures { self.new ≡ given_output line.now }
     {
         self.clear();
@@ -178,7 +178,7 @@ impl Answers {
     }
 
     // Writes the answers.
-    pub fn write<W: Write>(&self, to: &mut W) -> Result<(), Failure>
+    pub(crate) fn write<W: Write>(&self, to: &mut W) -> Result<(), Failure>
         ensures { Put (W.contents to.old) (W.contents to.new) self.now result }
     {
         output::write(to, &self.bytes[..self.count])
