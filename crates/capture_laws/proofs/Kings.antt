@@ -16,7 +16,8 @@ use Rattle.squares.proofs.Folds.{bit_if}
 use Rattle.squares.proofs.Pointwise.{member_lt}
 use Rattle.squares.proofs.Shifts.{direction_index}
 use Rattle.positions.specs.Boards.{Board, own, enemy, pieces}
-use Rattle.captures.specs.Kings.{skip_of, king_over, king_land, king_jumps, king_endings}
+use Rattle.captures.specs.declared.movegen.Came.TheVariants.{Nowhere, Near, Far}
+use Rattle.captures.specs.Kings.{skip_of, landed_of, king_over, king_land, king_jumps, king_endings}
 use Rattle.captures.specs.Rays.{far, slide_of, landings}
 use Rattle.captures.specs.Record.{Ending}
 use Rattle.rules.specs.Lists.{concat_map, or_end, some}
@@ -113,7 +114,7 @@ module _ (b : Board) (fair : Fair b) (f : ℕ) (mine : has (own b) f ≡ true) w
 
     -- what the code finds from the landing k, and from all of them, where the enemy jumped is p and the first landing j
     abbrev from : ℕ → ℕ → ℕ → List Ending
-    from p j k = king_endings (enemy b) e n k (bit_or t p) (skip_of (eqb k j) (index_of d))
+    from p j k = king_endings (enemy b) e n k (bit_or t p) (skip_of (landed_of j k (index_of d)))
 
     abbrev onward : ℕ → ℕ → List Ending
     onward p j = flat_map (from p j) (landings far (direction_at (index_of d)) e j)
@@ -136,13 +137,13 @@ module _ (b : Board) (fair : Fair b) (f : ℕ) (mine : has (own b) f ≡ true) w
 
       later : (ks : List ℕ) → ((k : ℕ) → Member k ks → Member k (ray e d (next d o)))
           → flat_map (from (2 ^ o) (2 ^ next d o)) (map (λ (k : ℕ). 2 ^ k) ks) ≡ map ended (concat_map (tries n (aside d)) (map (hop w o) ks))
-      unfolding flat_map concat_map
+      unfolding flat_map concat_map landed_of
       later [] s = refl
       later (k ∷ ks) s =
           ap₂ (λ (x y : List Ending). x ++ y)
-          (ap (λ (c : Bool). king_endings (enemy b) e n (2 ^ k) (bit_or t (2 ^ o)) (skip_of c (index_of d)))
+          (ap (λ (c : Bool). king_endings (enemy b) e n (2 ^ k) (bit_or t (2 ^ o)) (skip_of (cond c (Near (index_of d)) (Far (index_of d)))))
           (bits_apart k (next d o) (flight_off e d (small b fair f mine) (next d o) k near flown))
-          ∙ landed k (skip_of false (index_of d)) (aside d) (skips_aside d) (glide_in e d (small b fair f mine) (step flown.near flown.far) near)
+          ∙ landed k (skip_of (Far (index_of d))) (aside d) (skips_aside d) (glide_in e d (small b fair f mine) (step flown.near flown.far) near)
           (tail (s k (head refl))))
           (later ks (λ z m. s z (tail m)))
           ∙ sym (map-append ended (tries n (aside d) (hop w o k)) (concat_map (tries n (aside d)) (map (hop w o) ks)))
@@ -151,7 +152,7 @@ module _ (b : Board) (fair : Fair b) (f : ℕ) (mine : has (own b) f ≡ true) w
           flown = of_ray e d (next d o) k (s k (head refl))
 
       onward_is : onward over land ≡ map ended (tries_along n d (along d i t) false)
-      unfolding flat_map tried
+      unfolding flat_map tried landed_of
       onward_is =
           ap₂ onward (over_at ∙ ap (λ (c : Bool). bit_if c o) u) lands
           ∙ ap (flat_map (from (2 ^ o) (2 ^ next d o)))
@@ -160,8 +161,8 @@ module _ (b : Board) (fair : Fair b) (f : ℕ) (mine : has (own b) f ≡ true) w
           ∙ landings_are e (small b fair f mine) d o (target_lt b fair t o u)
           ∙ ap (map (λ (k : ℕ). 2 ^ k)) (ray_on e d (small b fair f mine) o v))
           ∙ ap₂ (λ (x y : List Ending). x ++ y)
-          (ap (λ (c : Bool). king_endings (enemy b) e n (2 ^ next d o) (bit_or t (2 ^ o)) (skip_of c (index_of d))) (eq-eqb (2 ^ next d o) (2 ^ next d o) refl)
-          ∙ landed (next d o) (skip_of true (index_of d)) (back d) (skips_back d) near (head refl))
+          (ap (λ (c : Bool). king_endings (enemy b) e n (2 ^ next d o) (bit_or t (2 ^ o)) (skip_of (cond c (Near (index_of d)) (Far (index_of d))))) (eq-eqb (2 ^ next d o) (2 ^ next d o) refl)
+          ∙ landed (next d o) (skip_of (Near (index_of d))) (back d) (skips_back d) near (head refl))
           (later (ray e d (next d o)) (λ k m. m))
           ∙ sym (map-append ended (tries n (back d) (hop w o (next d o))) (concat_map (tries n (aside d)) (map (hop w o) (ray e d (next d o)))))
           ∙ ap (λ (ws : List BitMove). map ended (tries_along n d ws false)) (sym q)
@@ -197,7 +198,7 @@ module _ (b : Board) (fair : Fair b) (f : ℕ) (mine : has (own b) f ≡ true) w
   law (suc n) i t code skip rel h g l =
       four ended (king_jumps (enemy b) e (2 ^ i) t code)
       (λ (d : ℕ). cond (code d) [] (flat_map (λ k. king_endings (enemy b) e n k (bit_or t (king_over (enemy b) e (2 ^ i) t d))
-      (skip_of (eqb k (king_land (enemy b) e (2 ^ i) t d)) d)) (landings far (direction_at d) e (king_land (enemy b) e (2 ^ i) t d))))
+      (skip_of (landed_of (king_land (enemy b) e (2 ^ i) t d) k d))) (landings far (direction_at d) e (king_land (enemy b) e (2 ^ i) t d))))
       (λ (d : Direction). tries_along n d (along d i t) (skip d))
       (λ d. ap (λ (x : Bool). not x && not (eqb (king_land (enemy b) e (2 ^ i) t (index_of d)) 0)) (rel d)
       ∙ flag n (law n) i t h g l d (blocker e d i) refl (skip d) (way d i t (blocker e d i) refl))
@@ -208,8 +209,8 @@ module _ (b : Board) (fair : Fair b) (f : ℕ) (mine : has (own b) f ≡ true) w
 
 -- what the code records for the king on i
 pub king_endings_lem : (b : Board) (fair : Fair b) (i : ℕ) → has (pieces b King) i ≡ true
-    → king_endings (enemy b) (space b i) enough (2 ^ i) 0 (skip_of true 4) ≡ map ended (king_tried b i)
+    → king_endings (enemy b) (space b i) enough (2 ^ i) 0 (skip_of Nowhere) ≡ map ended (king_tried b i)
 unfolding king_tried
 king_endings_lem b fair i h =
     let m = piece_own b fair King i h in
-    law b fair i m enough i 0 (skip_of true 4) (λ d. false) skips_none (member_lt 54 (own b) i (own_lt b fair) m) (starts b fair King i h) (fuel b fair i)
+    law b fair i m enough i 0 (skip_of Nowhere) (λ d. false) skips_none (member_lt 54 (own b) i (own_lt b fair) m) (starts b fair King i h) (fuel b fair i)

@@ -1,19 +1,19 @@
 -- A king's rays: a slide of a one-bit set ends beyond the ray of the rules, and its landings are the ray.
 use mathlib.Core.Path.{◌≡◌, refl, sym, ap, ◌∙◌}
-use Prim.Native.Nat.{ℕ, zero, suc, ◌+◌, ◌^◌, ◌<◌}
+use Prim.Native.Nat.{ℕ, zero, suc, ◌^◌, ◌<◌}
 use native.Mathlib.Nat.{add_comm}
-use native.Mathlib.Omega.{arith}
 use mathlib.Core.Bool.{Bool, true, false, ◌||◌, cond}
 use mathlib.Core.List.{List, [], ◌∷◌, map}
 use lib.Bits.{bit_and}
 use lib.Dec.{eqb}
-use borrow.Author.Tests.{eqb-true, eq-eqb, ne_eqb}
+use borrow.Author.Tests.{eqb-true, eq-eqb}
 use Rattle.squares.specs.Directions.{Direction, next, shifted, index_of}
 use Rattle.squares.specs.Sets.{has}
 use Rattle.squares.proofs.Bools.{bool_ext}
 use Rattle.squares.proofs.Folds.{bit_if}
 use Rattle.squares.proofs.Pointwise.{member_lt}
 use Rattle.squares.proofs.Shifts.{step_and}
+use Rattle.captures.specs.declared.movegen.Came.TheVariants.{Nowhere, Near, Far}
 use Rattle.captures.specs.Kings.{skip_of}
 use Rattle.captures.specs.Rays.{far, slide_from, slide_of, landings}
 use Rattle.rules.specs.Ordered.{ahead, ray, last}
@@ -85,17 +85,17 @@ module _ (e : ℕ) (small : e < 2 ^ 54) (d : Direction) where
 eqb_turned : (m n : ℕ) → eqb m n ≡ eqb n m
 eqb_turned m n = bool_ext _ _ (λ p. eq-eqb n m (sym (eqb-true m n p))) (λ p. eq-eqb m n (sym (eqb-true n m p)))
 
-pub skips_back : (d c : Direction) → skip_of true (index_of d) (index_of c) ≡ back d c
+pub skips_back : (d c : Direction) → skip_of (Near (index_of d)) (index_of c) ≡ back d c
 unfolding skip_of back
 skips_back d c = ap (λ (n : ℕ). eqb n 3) (add_comm (index_of c) (index_of d))
 
-pub skips_aside : (d c : Direction) → skip_of false (index_of d) (index_of c) ≡ aside d c
+pub skips_aside : (d c : Direction) → skip_of (Far (index_of d)) (index_of c) ≡ aside d c
 unfolding skip_of aside straight back
 skips_aside d c =
-    ap (λ (x : Bool). x || skip_of true (index_of d) (index_of c)) (eqb_turned (index_of c) (index_of d))
+    ap (λ (x : Bool). x || skip_of (Near (index_of d)) (index_of c)) (eqb_turned (index_of c) (index_of d))
     ∙ ap (λ (x : Bool). eqb (index_of d) (index_of c) || x) (skips_back d c)
 
 -- at the start none
-pub skips_none : (c : Direction) → skip_of true 4 (index_of c) ≡ false
+pub skips_none : (c : Direction) → skip_of Nowhere (index_of c) ≡ false
 unfolding skip_of
-skips_none c = ne_eqb (index_of c + 4) 3 (λ (q : index_of c + 4 ≡ 3). omega (arith, q))
+skips_none c = refl

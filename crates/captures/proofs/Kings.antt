@@ -17,7 +17,7 @@ use Rattle.squares.proofs.Shifts.{shifted_lt}
 use Rattle.captures.specs.Rays.{far, slide_of, landings}
 use Rattle.captures.specs.Record.{Ending, ending}
 use Rattle.captures.specs.Walks.{up_to, any_up_to}
-use Rattle.captures.specs.Kings.{skip_of, king_over, king_land, king_jumps, king_endings, King}
+use Rattle.captures.specs.Kings.{skip_of, landed_of, king_over, king_land, king_jumps, king_endings, King}
 use Rattle.captures.proofs.Steps.{Enough, enough_0, enough_step, enough_and}
 use Rattle.captures.proofs.Rays.{enough_far}
 use Rattle.captures.proofs.Walks.{or_yes, or_no, none_added}
@@ -37,7 +37,7 @@ jumped them empty at c d u x y eu ex ey =
 -- ---- along the landings
 -- the sequences that go on from the landing l, after a jump over o whose first landing is n
 abbrev pub onward : ℕ → ℕ → ℕ → ℕ → ℕ → ℕ → ℕ → ℕ → List Ending
-onward them empty c d o n f l = king_endings them empty f l (bit_or c o) (skip_of (eqb l n) d)
+onward them empty c d o n f l = king_endings them empty f l (bit_or c o) (skip_of (landed_of n l d))
 
 abbrev pub branch : ℕ → ℕ → ℕ → ℕ → (ℕ → Bool) → ℕ → ℕ → List Ending
 branch them empty at c skip f d =
@@ -81,7 +81,7 @@ module _ {S : Type 0} (note : S → Ending → S) (them empty : ℕ) where
     ray_first ne = ⊎_elim (λ v. v.1) (λ v z. ne (v.0 ∙ z)) w.any
 
     pub ray_step : (y : ℕ) (r : S) → size (without them (bit_or c o)) < size (without them c) → (land ≡ 0 → ⊥)
-        → y ≡ shifted (direction_at d) land → King note them empty s land (bit_or c o) (skip_of (eqb land n) d) r → Rayed c d o n s₂ r e₂ true (bit_and y empty)
+        → y ≡ shifted (direction_at d) land → King note them empty s land (bit_or c o) (skip_of (landed_of n land d)) r → Rayed c d o n s₂ r e₂ true (bit_and y empty)
     unfolding landings flat_map
     ray_step y r less ne ey m = go w.fuel w.enough w.same
       where

@@ -13,4 +13,6 @@ pub mod Some
 pub mod Shut
 pub mod Stored
 pub mod Held
+pub mod Absorbed
 pub mod Alike
+pub mod Whole

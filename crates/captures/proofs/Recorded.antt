@@ -1,4 +1,5 @@
 -- What a record is in each of its cases, and that it leaves the board of the search alone.
+use Rattle.std.specs.Prelude.{Option, Some, None}
 use mathlib.Core.Path.{◌≡◌, refl, sym, ap, ◌∙◌}
 use mathlib.Core.Bool.{Bool, true, false, cond, ◌||◌}
 use mathlib.Core.List.{List, [], ◌∷◌, foldl}
@@ -9,7 +10,7 @@ use Rattle.squares.specs.Sets.{size}
 use Rattle.positions.specs.declared.moves.Move.{Move}
 use Rattle.captures.specs.declared.movegen.Captures.{Captures}
 use Rattle.captures.specs.Lists.{listed}
-use Rattle.captures.specs.Record.{Ending, moves_in, move_of, cleared_by, appended, marked, anew_by, more_by, record_of, note_of}
+use Rattle.captures.specs.Record.{Ending, moves_in, move_of, cleared_by, appended, no_room, anew_by, more_at, more_by, record_of, note_of}
 
 module _ {N : ℕ} where
   -- the two ways in which a sequence that ends on `to` is recorded
@@ -67,11 +68,15 @@ module _ {N : ℕ} where
 
   more_kept : (s : Captures N) (m : Move) → Kept s (more_by s m)
   unfolding more_by
-  more_kept s m = go (ltb s.len N)
+  more_kept s m = at s.len
     where
-      go : (b : Bool) → Kept s (cond b (appended s m) (marked s))
-      go true = record { them = refl; empty = refl; from = refl }
-      go false = record { them = refl; empty = refl; from = refl }
+      go : (n : ℕ) (b : Bool) → Kept s (cond b (appended s n m) (no_room s))
+      go n true = record { them = refl; empty = refl; from = refl }
+      go n false = record { them = refl; empty = refl; from = refl }
+
+      at : (o : Option ℕ) → Kept s (more_at s m o)
+      at None = kept_refl s
+      at (Some n) = go n (ltb n N)
 
   pub record_kept : (s : Captures N) (to c : ℕ) → Kept s (record_of s to c)
   record_kept s to c =

@@ -1,11 +1,12 @@
 -- A piece without a jump records nothing.
 use mathlib.Core.Path.{◌≡◌, refl, sym, ap, ◌∙◌}
-use mathlib.Core.Bool.{true, false}
+use mathlib.Core.Bool.{false}
 use mathlib.Core.List.{foldl}
 use Prim.Native.Nat.{ℕ, ◌^◌}
 use lib.Bits.{bit_or}
 use Rattle.squares.proofs.Members.{without_none}
 use Rattle.squares.proofs.Sizes.{size_zero}
+use Rattle.captures.specs.declared.movegen.Came.TheVariants.{Nowhere}
 use Rattle.captures.specs.declared.movegen.Captures.{Captures}
 use Rattle.captures.specs.Open.{man_jump, king_jump}
 use Rattle.captures.specs.Record.{note_of, record_of}
@@ -23,13 +24,13 @@ module _ (them empty at : ℕ) where
   unfolding any_up_to man_jump
   man_first = rw (without_none them) refl
 
-  pub king_first : any_up_to (king_jumps them empty at 0 (skip_of true 4)) 4 ≡ any_up_to (king_jump at them empty) 4
+  pub king_first : any_up_to (king_jumps them empty at 0 (skip_of Nowhere)) 4 ≡ any_up_to (king_jump at them empty) 4
   unfolding any_up_to king_jump skip_of
   king_first = rw (without_none them) refl
 
 -- the search set onto a piece
 abbrev pub set_onto : {N : ℕ} → ℕ → Captures N → ℕ → Captures N
-set_onto empty s at = record { moves = s.moves; len = s.len; them = s.them; empty = bit_or empty at; from = at; best = s.best; overflow = s.overflow }
+set_onto empty s at = record { moves = s.moves; len = s.len; them = s.them; empty = bit_or empty at; from = at; best = s.best }
 
 pub man_shut : {N : ℕ} (empty : ℕ) (s : Captures N) (at i : ℕ) → at ≡ 2 ^ i → any_up_to (man_jump at s.them (bit_or empty at)) 4 ≡ false → set_onto empty s at ≡ man_captures empty s i
 unfolding man_captures man_endings
@@ -41,4 +42,4 @@ pub king_shut : {N : ℕ} (empty : ℕ) (s : Captures N) (at i : ℕ) → at ≡
 unfolding king_captures king_endings
 king_shut empty s at i q e =
     sym (rw (king_first s.them (bit_or empty at) at ∙ e) (record_none (set_onto empty s at) at))
-    ∙ ap (λ (a : ℕ). foldl note_of (set_onto empty s a) (king_endings s.them (bit_or empty a) 65 a 0 (skip_of true 4))) q
+    ∙ ap (λ (a : ℕ). foldl note_of (set_onto empty s a) (king_endings s.them (bit_or empty a) 65 a 0 (skip_of Nowhere))) q

@@ -4,7 +4,7 @@ use Prim.Native.Nat.{ℕ, zero, suc, ◌-◌, ◌≤◌, ◌<◌, min}
 use native.Mathlib.Omega.{arith}
 use mathlib.Core.Bool.{Bool, true, false, cond}
 use mathlib.Core.List.{List, [], ◌∷◌, ◌++◌, append-nil}
-use lib.ListN.{length, take, drop, set, replicate, length-take}
+use lib.ListN.{length, take, drop, set, replicate}
 use lib.Seq.{take-append-le, take-append_seam, take_all, take-take}
 use lib.Dec.{ltb}
 use borrow.Author.Tests.{ltb-true, ltb-false}
@@ -40,18 +40,6 @@ module _ {A : Type 0} (x : A) where
   store (suc n) (suc k) [] m h q =
       ap (λ (l : List A). m ∷ l) (take_replicate n k (omega arith) ∙ sym (take_replicate n (suc k) (omega arith)))
   store (suc n) k (y ∷ xs) m h q = ap (λ (l : List A). y ∷ l) (store n k xs m (omega arith) (omega arith))
-
-  pub cut : (n : ℕ) (xs : List A) → filled n (take n xs) ≡ filled n xs
-  cut n xs = go (ltb (length xs) n) refl
-    where
-      go : (t : Bool) → ltb (length xs) n ≡ t → filled n (take n xs) ≡ filled n xs
-      go true e =
-          let h = ltb-true (length xs) n e in
-          ap (filled n) (take_all n xs (omega arith))
-      go false e =
-          let h = ltb-false (length xs) n e in
-          take-append-le n (take n xs) (replicate n x) (omega (arith, length-take n xs)) ∙ take-take n n xs (omega arith)
-          ∙ sym (take-append-le n xs (replicate n x) h)
 
   -- ---- n entries moved into k
   more_filler : (k r q : ℕ) → k ≤ q → take k (replicate r x ++ replicate q x) ≡ replicate k x

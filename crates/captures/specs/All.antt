@@ -1,5 +1,5 @@
 -- The captures of all pieces in a list with room for N moves (docs/RULES.md, "Captures", "Order of the list"): men by
--- bit, then kings by bit. Where it is not marked, it holds all longest captures.
+-- bit, then kings by bit. Where it has a length, it holds all longest captures.
 use Rattle.std.specs.Prelude.{ℕ}
 use Rattle.captures.specs.declared.movegen.Captures.{Captures}
 use Rattle.captures.specs.Record.{start_of}

@@ -1,5 +1,5 @@
 -- Lists of at most 256 moves by value: the moves, then blanks (docs/RULES.md, "Limits and lent space").
-use Rattle.std.specs.Prelude.{ℕ, ◌+◌, min, Bool, false, cond, ◌||◌, List, [], ◌∷◌, ◌++◌, ltb, length, get_or, set, take, replicate}
+use Rattle.std.specs.Prelude.{ℕ, ◌+◌, min, Bool, false, cond, ◌||◌, Option, Some, None, List, [], ◌∷◌, ◌++◌, leb, ltb, length, get_or, set, take, replicate}
 use Rattle.positions.specs.declared.moves.Move.{Move}
 use Rattle.positions.specs.Moves.{move, same}
 use Rattle.captures.specs.declared.moves.MoveList.{MoveList}
@@ -32,3 +32,7 @@ get_of l i = get_or l.moves i blank
 -- the list of these moves: as many as there is room for, then blanks
 unfoldable pub list_of : List Move → MoveList
 list_of xs = record { moves = take 256 (xs ++ replicate 256 blank); len = min 256 (length xs) }
+
+-- the same, where there is room for all
+unfoldable pub whole_list : List Move → Option MoveList
+whole_list xs = cond (leb (length xs) 256) (Some (list_of xs)) None

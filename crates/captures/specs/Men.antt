@@ -38,7 +38,7 @@ pub record Man {S : Type 0} (note : S → Ending → S) (them empty : ℕ) (s : 
 
 -- the search s turned to the piece at bit i, whose square counts as empty
 abbrev pub onto : {N : ℕ} → ℕ → Captures N → ℕ → Captures N
-onto empty s i = record { moves = s.moves; len = s.len; them = s.them; empty = bit_or empty (2 ^ i); from = 2 ^ i; best = s.best; overflow = s.overflow }
+onto empty s i = record { moves = s.moves; len = s.len; them = s.them; empty = bit_or empty (2 ^ i); from = 2 ^ i; best = s.best }
 
 -- s after the search from the man at bit i; 65 is above any number of enemies
 unfoldable pub man_captures : {N : ℕ} → ℕ → Captures N → ℕ → Captures N

@@ -1,6 +1,6 @@
 -- How a finished sequence is recorded: those that take the most are kept, each once (docs/RULES.md, "Captures"). A list
--- has room for N moves, in a list of legal moves 256; a mark says that there were more.
-use Rattle.std.specs.Prelude.{ℕ, ◌+◌, Bool, true, false, List, ◌++◌, cond, ◌||◌, eqb, ltb, set, take, replicate}
+-- has room for N moves, in a list of legal moves 256; where there are more, it has no length.
+use Rattle.std.specs.Prelude.{ℕ, ◌+◌, Option, Some, None, unwrap_or, option_map, List, ◌++◌, cond, ◌||◌, eqb, ltb, set, take, replicate}
 use Rattle.squares.specs.Sets.{size}
 use Rattle.squares.specs.Squares.{first_of}
 use Rattle.positions.specs.declared.moves.Move.{Move}
@@ -19,42 +19,51 @@ ending at c = record { to = at; taken = c }
 
 -- the search that has found nothing yet
 abbrev pub start_of : (N them empty : ℕ) → Captures N
-start_of N them empty = record { moves = replicate N blank; len = 0; them = them; empty = empty; from = 0; best = 0; overflow = false }
+start_of N them empty = record { moves = replicate N blank; len = Some 0; them = them; empty = empty; from = 0; best = 0 }
+
+-- these entries, and blanks, as a list of n moves
+abbrev pub entered : List Move → ℕ → MoveList
+entered ms n = record { moves = take 256 (ms ++ replicate 256 blank); len = n }
 
 module _ {N : ℕ} where
-  -- the moves that a search holds
+  -- the moves that a search holds; none where it had no room for all
   abbrev pub moves_in : Captures N → List Move
-  moves_in s = take s.len s.moves
+  moves_in s = take (unwrap_or s.len 0) s.moves
 
-  -- the list that a search holds, which has 256 entries
-  unfoldable pub list_in : Captures N → MoveList
-  list_in s = record { moves = take 256 (s.moves ++ replicate 256 blank); len = s.len }
+  -- the list that a search holds, where it had room for all
+  unfoldable pub list_in : Captures N → Option MoveList
+  list_in s = option_map (entered s.moves) s.len
 
   -- the move of a sequence that ends on `to` and has taken c
   abbrev pub move_of : Captures N → ℕ → ℕ → Move
   move_of s to c = move (first_of s.from) (first_of to) c
 
-  -- the search s with other entries, another number of moves, of pieces taken, and another mark
-  abbrev pub holding : Captures N → List Move → ℕ → ℕ → Bool → Captures N
-  holding s moves len best overflow = record { moves = moves; len = len; them = s.them; empty = s.empty; from = s.from; best = best; overflow = overflow }
+  -- the search s with other entries, another number of moves, of pieces taken
+  abbrev pub holding : Captures N → List Move → Option ℕ → ℕ → Captures N
+  holding s moves len best = record { moves = moves; len = len; them = s.them; empty = s.empty; from = s.from; best = best }
 
-  -- no list and no mark; the moves to come take `best` pieces
+  -- no move; the moves to come take `best` pieces
   abbrev pub cleared_by : Captures N → ℕ → Captures N
-  cleared_by s best = holding s (replicate N blank) 0 best false
+  cleared_by s best = holding s (replicate N blank) (Some 0) best
 
-  -- one more move at the end
-  abbrev pub appended : Captures N → Move → Captures N
-  appended s m = holding s (set s.moves s.len m) (s.len + 1) s.best s.overflow
+  -- one more move at the end, after n of them
+  abbrev pub appended : Captures N → ℕ → Move → Captures N
+  appended s n m = holding s (set s.moves n m) (Some (n + 1)) s.best
 
   -- there was no room
-  abbrev pub marked : Captures N → Captures N
-  marked s = holding s s.moves s.len s.best true
+  abbrev pub no_room : Captures N → Captures N
+  no_room s = holding s s.moves None s.best
 
-  -- one more capture of the largest number; a full list is marked
+  -- one more move after n of them, where there is room; a list that had no room stays so
+  abbrev pub more_at : Captures N → Move → Option ℕ → Captures N
+  more_at s m None = s
+  more_at s m (Some n) = cond (ltb n N) (appended s n m) (no_room s)
+
+  -- one more capture of the largest number
   unfoldable pub more_by : Captures N → Move → Captures N
-  more_by s m = cond (ltb s.len N) (appended s m) (marked s)
+  more_by s m = more_at s m s.len
 
-  -- a longer capture clears the list and the mark, and is its first move
+  -- a longer capture clears the list, and is its first move
   abbrev pub anew_by : Captures N → Move → Captures N
   anew_by s m = more_by (cleared_by s (size m.captured)) m
 

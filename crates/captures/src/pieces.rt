@@ -1,12 +1,12 @@
 // The captures of all pieces, men by bit, then kings by bit, in a list with room for `N` moves. A short list is quicker
-// to make. Where it has no room for all captures it is marked, and the caller takes a longer one.
+// to make. Where it has no room for all captures it has no length, and the caller takes a longer one.
 ghost use Rattle.std.specs.Prelude.{◌≡◌};
 ghost use Rattle.captures.specs.Men.{men_captures_of};
 ghost use Rattle.captures.specs.Kings.{kings_captures_of};
 ghost use Rattle.captures.specs.All.{all_captures_of};
 ghost use Rattle.captures.specs.View.{own_men_of, own_kings_of, empty_of};
 
-use crate::movegen::{Captures, king_open, man_open};
+use crate::movegen::{Came, Captures, king_open, man_open};
 use crate::view::View;
 use squares::bitboard::{Bitboard, Members};
 
@@ -28,7 +28,7 @@ fn men_captures<const N: usize>(s: &mut Captures<N>, men: Bitboard, empty: Bitbo
     }
 }
 
-// The captures of all kings, by bit.
+// The captures of all kings, by bit. Test and search differ from the men's, so this is a loop of its own.
 fn kings_captures<const N: usize>(s: &mut Captures<N>, kings: Bitboard, empty: Bitboard)
     ensures { s.new ≡ kings_captures_of s.old kings empty }
 {
@@ -37,12 +37,12 @@ fn kings_captures<const N: usize>(s: &mut Captures<N>, kings: Bitboard, empty: B
         s.from = at;
         s.empty = empty | at;
         if king_open(at, s.them, empty | at) {
-            s.king(at, 0, 4);
+            s.king(at, 0, Came::Nowhere);
         }
     }
 }
 
-// The longest captures of all pieces. A list that has no room for them is marked.
+// The longest captures of all pieces. A list that has no room for them has no length.
 pub fn all_captures<const N: usize>(v: View) -> Captures<N>
     ensures { result ≡ all_captures_of N (own_men_of v) (own_kings_of v) v.them (empty_of v) }
 {

@@ -24,7 +24,7 @@ impl View {
         let side = p.side;
         View {
             us: p.pieces(side),
-            them: p.pieces(side.not()),
+            them: p.pieces(!side),
             kings: p.kings,
             side: side,
         }

@@ -1,76 +1,77 @@
 -- One word more is joined to those before it.
-use Prim.Native.Nat.{ℕ, ◌+◌, ◌<◌}
-use mathlib.Core.Path.{◌≡◌, refl, ap, sym, ◌∙◌, subst}
+use Prim.Native.Nat.{ℕ, ◌<◌}
+use mathlib.Core.Path.{◌≡◌, refl, ap, sym, ◌∙◌}
 use mathlib.Core.List.{List, [], ◌∷◌, ◌++◌, append_assoc}
-use mathlib.Core.Bool.{Bool}
 use native.Mathlib.Omega.{arith}
-use lib.Dec.{eqb}
 use lib.ListN.{length, drop, length-append}
 use lib.Seq.{take_all}
-use borrow.Author.Tests.{ne_eqb}
 use Rattle.texts.specs.Bytes.{joined}
 use Rattle.texts.specs.Lent.{over, written}
 use Rattle.texts.specs.declared.space.Space.{Space}
-use Rattle.texts.proofs.Overs.{over_none, over_then, over_as, over_lent, same_name}
+use Rattle.texts.proofs.Overs.{over_then, over_as, over_lent, same_name}
 use Rattle.texts.proofs.Pieces.{start, holds_length}
-use Rattle.frame.specs.Arguments.{next_word, Joined}
+use Rattle.frame.specs.Arguments.{Joined}
 
--- the words before number i were joined over the space o
-pub record Joining (o new : Space) (i : ℕ) : Type 0 where
+-- one or more words were joined over the lent bytes old; first is the space after the first of them
+pub record Joining (old : List ℕ) (first new : Space) : Type 0 where
+  pub start : Space
+  pub lent : start.bytes.now ≡ old
+  pub none : start.at ≡ 0
+  pub named : start.bytes.ghost_name ≡ first.bytes.ghost_name
   pub words : List (List ℕ)
-  pub count : i ≡ length words + 1
-  pub held : new ≡ over (joined 32 words) o
+  pub some : 0 < length words
+  pub held : new ≡ over (joined 32 words) start
 
-pub none_yet : (o : Space) → Joining o o 1
+pub one_word : (old w : List ℕ) (o first : Space) → o.bytes.now ≡ old → o.at ≡ 0 → first ≡ over w o → Joining old first first
 unfolding joined
-none_yet o = record { words = []; count = refl; held = sym (over_none o) }
+one_word old w o first b z e =
+    record {
+      start = o;
+      lent = b;
+      none = z;
+      named = sym (same_name w o first e);
+      words = w ∷ [];
+      some = omega arith;
+      held = e;
+    }
 
 joined_more : (p : List ℕ) (ws : List (List ℕ)) (w : List ℕ) → joined 32 (p ∷ (ws ++ (w ∷ []))) ≡ joined 32 (p ∷ ws) ++ (32 ∷ w)
 unfolding joined
 joined_more p [] w = refl
 joined_more p (q ∷ ws) w = ap (λ (x : List ℕ). p ++ (32 ∷ x)) (joined_more q ws w) ∙ sym (append_assoc p (32 ∷ joined 32 (q ∷ ws)) (32 ∷ w))
 
-joined_next : (ws : List (List ℕ)) (w : List ℕ) → joined 32 (ws ++ (w ∷ [])) ≡ joined 32 ws ++ next_word (eqb (length ws + 1) 1) w
-unfolding joined
-joined_next [] w = refl
-joined_next (p ∷ ws) w = joined_more p ws w ∙ ap (λ (q : Bool). joined 32 (p ∷ ws) ++ next_word q w) (sym (ne_eqb (length (p ∷ ws) + 1) 1 (λ e. omega (arith, e))))
+joined_next : (ws : List (List ℕ)) (w : List ℕ) → 0 < length ws → joined 32 (ws ++ (w ∷ [])) ≡ joined 32 ws ++ (32 ∷ w)
+joined_next [] w h = absurd (omega arith)
+joined_next (p ∷ ws) w h = joined_more p ws w
 
-pub one_more : {o new : Space} {i : ℕ} (w : List ℕ) (last : Space) → Joining o new i → last ≡ over (next_word (eqb i 1) w) new → Joining o last (i + 1)
-one_more {o} {new} {i} w last j a =
+-- a space and the word w
+pub one_more : {old : List ℕ} {first new : Space} (w : List ℕ) (mid last : Space) → Joining old first new → mid ≡ over (32 ∷ []) new → last ≡ over w mid → Joining old first last
+one_more {old} {first} {new} w mid last j m e =
     let ws = j.words in
     record {
+      start = j.start;
+      lent = j.lent;
+      none = j.none;
+      named = j.named;
       words = ws ++ (w ∷ []);
-      count = omega (arith, j.count, length-append ws (w ∷ []));
-      held =
-          over_as _ _ o last
-          (ap (λ (k : ℕ). joined 32 ws ++ next_word (eqb k 1) w) j.count ∙ sym (joined_next ws w))
-          (over_then _ _ o new last j.held a);
+      some = omega (arith, j.some, length-append ws (w ∷ []));
+      held = over_as _ _ j.start last (sym (joined_next ws w j.some)) (over_then _ _ j.start new last j.held (over_then _ _ new mid last m e));
     }
 
--- ---- the last word was joined: o began at the start of the lent bytes
-pub kept_name : {o new : Space} {i : ℕ} → Joining o new i → new.bytes.ghost_name ≡ o.bytes.ghost_name
-kept_name {o} {new} j = same_name _ o new j.held
+-- ---- the last word was joined
+pub kept_name : {old : List ℕ} {first new : Space} → Joining old first new → new.bytes.ghost_name ≡ first.bytes.ghost_name
+kept_name {old} {first} {new} j = same_name _ j.start new j.held ∙ j.named
 
-no_words : (ws : List (List ℕ)) → length ws ≡ 0 → joined 32 ws ≡ []
-unfolding joined
-no_words [] e = refl
-no_words (w ∷ ws) e = absurd (omega arith)
-
-pub none_given : {o new : Space} {i : ℕ} (old : List ℕ) → o.bytes.now ≡ old → Joining o new i → i ≡ 1 → new.bytes.now ≡ old
-none_given {o} old b j e =
-    ap (λ (x : Space). x.bytes.now) (j.held ∙ ap (λ (t : List ℕ). over t o) (no_words j.words (omega (arith, j.count))) ∙ over_none o) ∙ b
-
-pub all_given : {o new : Space} {i : ℕ} (old : List ℕ) → o.bytes.now ≡ old → o.at ≡ 0 → Joining o new i → (i ≡ 1 → ⊥) → (new.at ≡ length new.bytes.now → ⊥)
-    → Joined old new.bytes.now new.at
+pub all_given : {old : List ℕ} {first new : Space} → Joining old first new → (new.at ≡ length new.bytes.now → ⊥) → Joined old new.bytes.now new.at
 unfolding written
-all_given {o} {new} {i} old b z j some room =
+all_given {old} {first} {new} j room =
     let t = joined 32 j.words in
-    let h = (over_lent t old o new b z j.held).held old [] (start old) in
+    let h = (over_lent t old j.start new j.lent j.none j.held).held old [] (start old) in
     let free : new.at < length old = omega (arith, room, holds_length h, h.place) in
     let p : new.at ≡ length t = omega (arith, free, h.place) in
     record {
       words = j.words;
-      some = omega (arith, some, j.count);
+      some = j.some;
       place = p;
       free = free;
       bytes =

@@ -1,13 +1,8 @@
 -- Arguments joined by single spaces.
-use Rattle.std.specs.Prelude.{ℕ, ◌≤◌, ◌<◌, ◌≡◌, List, ◌∷◌, ◌++◌, Bool, true, false, length, drop, Option, Some, None, Result, Ok, Err}
+use Rattle.std.specs.Prelude.{ℕ, ◌≤◌, ◌<◌, ◌≡◌, List, ◌++◌, length, drop, Option, Some, None, Result, Ok, Err}
 use Prim.Native.Char.{code}
 use Rattle.texts.specs.Bytes.{joined}
 use Rattle.frame.specs.declared.arguments.TooLong.{TooLong}
-
--- what a word adds to the line: a space, unless it is the first word, and its bytes
-abbrev pub next_word : Bool → List ℕ → List ℕ
-next_word true w = w
-next_word false w = code " " ∷ w
 
 -- the bytes have room
 abbrev pub WordIn : List ℕ → Result (Option ℕ) TooLong → Type 0

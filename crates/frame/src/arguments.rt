@@ -1,11 +1,10 @@
 // The program's arguments, without its name, as one line: joined by single spaces.
 //
-// No contract says which arguments there are, since that of the library's `arg` does not. `join` only fills a buffer,
-// and its contract says which bytes it adds. Only the code shows that the words joined are the arguments, in order.
+// No contract says which arguments there are, since that of the library's `arg` does not. The contract of `arguments`
+// says that the bytes are words joined by single spaces. Only the code shows that these are the arguments, in order.
 // An argument need not be UTF-8: its bytes are passed on as they are.
 ghost use Rattle.std.specs.Prelude.{◌≡◌, length};
-ghost use Rattle.texts.specs.Lent.{over};
-ghost use Rattle.frame.specs.Arguments.{next_word, WordIn, GivenIn};
+ghost use Rattle.frame.specs.Arguments.{WordIn, GivenIn};
 
 use std::env::{Env, FillError};
 use texts::space::Space;
@@ -13,17 +12,6 @@ use texts::space::Space;
 // The arguments, or one of them, have no room: at least one byte of the buffer would have to be free.
 #[derive(Clone, Copy)]
 pub struct TooLong;
-
-// Puts a word after what was put before, after a space unless it is the first word. What has no room is left out.
-#[tactic(auto, using(texts::proofs::Overs::over_append), unfolding(texts::specs::Lent::over))]
-fn join(out: &mut Space, first: bool, word: &[u8])
-    ensures { out.new ≡ over (next_word first word.now) out.old }
-{
-    if !first {
-        out.put_byte(b' ');
-    }
-    out.put(word);
-}
 
 // Puts the argument of this number at the start of the word. Returns how many bytes it has, or nothing where there is
 // no argument of this number.
@@ -45,16 +33,16 @@ pub fn arguments<E: Env>(rt: &E, buf: &mut [u8]) -> Result<Option<usize>, TooLon
     // Linux passes no argument of more bytes.
     let mut word = [0u8; 131072];
     let mut space = Space::new(buf);
-    let mut i = 1;
-    while i < usize::MAX {
+    let Some(n) = read_word(rt, 1, &mut word)? else {
+        return Ok(None);
+    };
+    space.put(&word[..n]);
+    for i in 2..usize::MAX {
         let Some(n) = read_word(rt, i, &mut word)? else {
             break;
         };
-        join(&mut space, i == 1, &word[..n]);
-        i += 1;
-    }
-    if i == 1 {
-        return Ok(None);
+        space.put_byte(b' ');
+        space.put(&word[..n]);
     }
     if space.at == space.bytes.len() {
         return Err(TooLong);

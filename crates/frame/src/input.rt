@@ -39,6 +39,7 @@ fn read_byte<R: Read>(from: &mut R) -> Result<Option<u8>, Failure>
 // Reads byte by byte up to a line feed, the end of the input or the end of the buffer. Returns how many bytes the line
 // has: the line feed is not put into the buffer. A full buffer may be the start of a longer line. The bytes of the
 // buffer after the line stay.
+#[tactic(auto, using(crate::proofs::Taking::line_start, crate::proofs::Taking::none_taken))]
 pub fn read_line<R: Read>(from: &mut R, buf: &mut [u8]) -> Result<usize, Failure>
     ensures line { TakenLine buf.old buf.new result }
     ensures line_from { LineFrom (R.remaining from.old) (R.remaining from.new) buf.new result }
@@ -61,6 +62,7 @@ pub fn read_all<R: Read>(from: &mut R, buf: &mut [u8]) -> Result<usize, Failure>
     ensures taken_from { TakenFrom (R.remaining from.old) (R.remaining from.new) buf.new result }
 {
     let mut n = 0;
+    // A read takes as many bytes as it likes, so the place goes on by what it took.
     while n < buf.len() {
         let k = read_once(from, &mut buf[n..])?;
         if k == 0 {

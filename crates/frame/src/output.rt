@@ -17,10 +17,12 @@ pub enum Failure {
 }
 
 // Writes the bytes, all of them unless it fails.
+#[tactic(auto, using(crate::proofs::Putting::put_inside, crate::proofs::Putting::put_more))]
 pub fn write<W: Write>(to: &mut W, out: &[u8]) -> Result<(), Failure>
     ensures { Put (W.contents to.old) (W.contents to.new) out.now result }
 {
     let mut done = 0;
+    // A write takes as many bytes as it likes. Of what was written the library's `write_all` says nothing where it fails.
     while done < out.len() {
         match to.write(&out[done..]) {
             Ok(0) | Err(_) => return Err(Failure::Write),

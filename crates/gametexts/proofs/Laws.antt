@@ -31,7 +31,7 @@ use Rattle.notation.proofs.MoveTrip.{listed_squares, move_back}
 use Rattle.games.specs.Games.{last_of, valid, judged_of, ended}
 use Rattle.games.specs.Play.{moved_of, reached_of, play_of}
 use Rattle.games.specs.declared.game.Game.{Game}
-use Rattle.gametexts.specs.Texts.{beside, play_said, play_heard, play_str_of}
+use Rattle.gametexts.specs.Texts.{beside, play_said, play_heard, play_str_of, played_on}
 use Rattle.gametexts.specs.declared.game.PlayedText.{PlayedText}
 
 -- a listed move of a sound position with at most 256 moves
@@ -93,6 +93,10 @@ accepted_says g text r e = go (valid g) refl (read_move_of text) refl
     go false v a s = not_ok BadGame (rw v at e)
     go true v (Err x) s = not_ok x (rw (v, s) at e)
     go true v (Ok h) s = at h s v (ended (judged_of g)) refl (fit_of (last_of g) h) refl
+
+-- ---- a refused text: the game goes on as it was handed in
+pub refused_says : (g : Game) (text : List ℕ) (e : Refusal) → play_str_of g text ≡ Err e → played_on g (play_str_of g text) ≡ g
+refused_says g text e r = ap (played_on g) r
 
 -- ---- Hub's text of a legal move
 

@@ -44,3 +44,8 @@ play_heard g (Err e) = Err e
 -- 13, then 1 and 9 of reading
 unfoldable pub play_str_of : Game → List ℕ → Result PlayedText Refusal
 play_str_of g text = cond (valid g) (play_heard g (read_move_of text)) (Err (refusal 13))
+
+-- the game that a player goes on with after a text: a refused one changes nothing
+abbrev pub played_on : Game → Result PlayedText Refusal → Game
+played_on g (Ok r) = r.game
+played_on g (Err e) = g

@@ -107,8 +107,8 @@ fn of_game(rt: &impl Print, entry: u64, n: u64, g: Game, m: Move) -> io::Result<
 
 // Reads the numbers of a list. They come after the first three words of the line.
 fn listed(s: &[u8], list: &mut [u64]) {
-    for i in 0..list.len() {
-        list[i] = given::number(s, i + 3);
+    for (i, number) in list.iter_mut().enumerate() {
+        *number = given::number(s, i + 3);
     }
 }
 

@@ -26,21 +26,6 @@ fn blank_positions(g: Game) -> u64 {
     n
 }
 
-// Whether the two games have the same 51 entries.
-fn same_entries(g: Game, h: Game) -> bool {
-    for i in 0..51 {
-        if g.kept[i] != h.kept[i] {
-            return false;
-        }
-    }
-    true
-}
-
-fn same(g: Game, h: Game) -> bool {
-    let counters = (g.reversible == h.reversible) & (g.material == h.material);
-    same_entries(g, h) & (counters & (g.len == h.len))
-}
-
 fn game(rt: &impl Print, g: Game) -> io::Result<()> {
     write_numbers(rt, g.len, g.reversible, g.material)?;
     print!(rt; ", {} blank", blank_positions(g))
@@ -85,7 +70,7 @@ fn after_play(rt: &impl Print, came: Game, r: Result<Game, Refusal>) -> io::Resu
     show::answer(rt, &r)?;
     let g = r.unwrap_or(came);
     game(rt, g)?;
-    if same(came, g) {
+    if came == g {
         print!(rt; ", as it came")
     } else {
         print!(rt; ", ")?;

@@ -1,21 +1,24 @@
 -- What the buffers contain: an answer after those before it, the help, and the start of a line that was carried over.
 use Prim.Native.Nat.{ℕ, zero, suc, ◌+◌, ◌-◌, ◌≤◌, ◌<◌, min}
-use mathlib.Core.Path.{◌≡◌, refl, ap, sym, ◌∙◌}
+use mathlib.Core.Path.{◌≡◌, refl, ap, sym, ◌∙◌, subst}
 use mathlib.Core.List.{List, [], ◌∷◌, ◌++◌, append_assoc}
 use mathlib.Core.Bool.{Bool, true, false, true≢false}
 use native.Mathlib.Omega.{arith}
 use lib.Dec.{leb}
 use lib.ListN.{length, take, drop, set, length-append, length-drop, take-append-drop}
-use lib.Seq.{take_all, take_at, take-suc-set, take-append-add, take-append-le, drop-append-le, length-take-le, paste, take-paste}
+use lib.Seq.{take-length, take_all, take_at, take-suc-set, take-append-add, take-append-le, drop-append-le, length-take-le, paste, take-paste}
 use borrow.Author.Tests.{leb-true, leb-false}
 use borrow.Rule.Slice.PartMut.{put_mid, post_of, same_len_mid}
 use Rattle.texts.proofs.Cuts.{rest}
-use Rattle.texts.specs.Bytes.{bytes}
+use Rattle.texts.specs.Bytes.{bytes, is, index_of}
 use Rattle.texts.specs.Lent.{written}
 use Rattle.wording.specs.Words.{same_text}
 use Rattle.texts.proofs.Pieces.{written_length, starts}
 use Rattle.requests.specs.Requests.{help_text, longest, answer_room, answer_of}
+use Rattle.request_laws.proofs.Room.{answer_short}
 use Rattle.line_laws.specs.Lines.{whole_of, open_line, carried_of, last_answer}
+use Rattle.line_laws.proofs.LineLaws.{whole_le}
+use Rattle.line_laws.proofs.StepLaws.{Answering, start, answered, finished, full}
 use Rattle.std.specs.Prelude.{Option, IsTrue, ◌↔◌}
 use Rattle.std.specs.Io.KnownBytes.{Consumes, IsAtEnd}
 use Rattle.lines.specs.Contents.{output_size, Grew}
@@ -79,6 +82,27 @@ module _ (out t part : List ℕ) (at n m : ℕ) (long : length out ≡ m) (fits 
       ∙ ap (λ (y : List ℕ). y ++ (10 ∷ [])) (ap (take (at + n)) put_is ∙ take_at (take at out ++ t) after (at + n) l)
       ∙ append_assoc (take at out) t (10 ∷ [])
 
+-- what shows that an answer has room, and where it is
+pub ruleset answer_rules = (seen, put_all, put_answer, answer_short)
+
+-- ---- the lines of s from a place on, answered one after another
+module _ (s : List ℕ) (from : ℕ) where
+  pub lines_none : (new : List ℕ) → from ≤ length s → new ≡ [] → Answering answer_of s from new from (length new)
+  lines_none new h e = subst (λ (n : ℕ). Answering answer_of s from new from n) (sym (ap length e)) (start answer_of s from new h)
+
+  pub lines_next : (old new : List ℕ) (at n : ℕ) → Answering answer_of s from old at (length old)
+      → n ≡ index_of (is 10) (take (length s - at) (drop at s)) → n ≤ length (take (length s - at) (drop at s))
+      → (n ≡ length (take (length s - at) (drop at s)) → ⊥)
+      → new ≡ old ++ (answer_of (take n (take (length s - at) (drop at s))) ++ (10 ∷ [])) → Answering answer_of s from new (at + (n + 1)) (length new)
+  lines_next old new at n g e h f a =
+      let t = take (length s - at) (drop at s) in
+      subst (λ (k : ℕ). Answering answer_of s from new k (length new)) (omega arith)
+      (answered answer_of s from old at (length old) g t (rest s at) n e new (length new) (omega (arith, h, f)) (omega arith)
+      (take-length new ∙ a ∙ ap (λ (x : List ℕ). x ++ (answer_of (take n t) ++ (10 ∷ []))) (sym (take-length old))))
+
+-- what shows which lines were answered
+pub ruleset line_rules = (lines_none, finished, full, rest, some_put)
+
 -- ---- a read into the buffer after the bytes that were carried over
 module _ (buf part now : List ℕ) (count m : ℕ) (long : length buf ≡ m) (h : count < m) (v : take count buf ≡ now)
     (e : length part ≡ length (take (m - count) (drop count buf))) where
@@ -92,6 +116,9 @@ module _ (buf part now : List ℕ) (count m : ℕ) (long : length buf ≡ m) (h 
         taken = came.0;
         end = λ z. came.1 z (omega (arith, e, lent buf part count m long));
       }
+
+-- what shows what a read added
+pub ruleset read_rules = (seen, came_more)
 
 -- ---- the last line
 pub last_none : (l : List ℕ) → length l ≡ 0 → [] ≡ last_answer answer_of l
@@ -130,24 +157,31 @@ take_min n l = go (leb n (length l)) refl
         let h = leb-false n (length l) q in
         take_all (min n (length l)) l (omega arith) ∙ sym (take_all n l (omega arith))
 
-module _ (buf new : List ℕ) (used full r : ℕ) (in-buf : full ≤ length buf) (e : used ≡ whole_of (take full buf)) (low : used ≤ full) (k : r ≡ min (longest + 1) (full - used)) where
+module _ (buf new now : List ℕ) (used full r : ℕ) (v : take full buf ≡ now) (in-buf : full ≤ length buf) (e : used ≡ whole_of now)
+    (k : r ≡ min (full - used) (longest + 1)) where
+  low : used ≤ full
+  low = omega (arith, e, whole_le now, ap length v, length-take-le full buf in-buf)
+
   kept_length : length (drop used (take full buf)) ≡ full - used
   kept_length = length-drop used (take full buf) ∙ ap (λ (n : ℕ). n - used) (length-take-le full buf in-buf)
 
   kept_part : drop used buf ≡ drop used (take full buf) ++ drop full buf
   kept_part =
       ap (drop used) (sym (take-append-drop full buf))
-      ∙ drop-append-le used (take full buf) (drop full buf) (omega (arith, length-take-le full buf in-buf))
+      ∙ drop-append-le used (take full buf) (drop full buf) (omega (arith, low, length-take-le full buf in-buf))
 
-  pub carried : new ≡ paste buf 0 (drop used buf) (used + r - used) → take r new ≡ carried_of longest (take full buf)
+  pub carried : new ≡ paste buf 0 (drop used buf) (used + r - used) → take r new ≡ carried_of longest now
   unfolding carried_of open_line
   carried m =
       let z : used + r - used ≡ r = omega arith in
       let d = drop used (take full buf) in
-      let j : r ≡ min (longest + 1) (length d) = omega (arith, kept_length) in
+      let j : r ≡ min (longest + 1) (length d) = omega (arith, k, kept_length) in
       let o : 0 + r ≡ r = omega arith in
       ap (take r) (m ∙ ap (paste buf 0 (drop used buf)) z) ∙ ap (λ (n : ℕ). take n (paste buf 0 (drop used buf) r)) (sym o)
-      ∙ take-paste buf 0 (drop used buf) r (omega arith) (omega (arith, length-drop used buf))
-      ∙ ap (take r) kept_part ∙ take-append-le r d (drop full buf) (omega (arith, kept_length))
+      ∙ take-paste buf 0 (drop used buf) r (omega arith) (omega (arith, k, low, length-drop used buf))
+      ∙ ap (take r) kept_part ∙ take-append-le r d (drop full buf) (omega (arith, k, low, kept_length))
       ∙ ap (λ (n : ℕ). take n d) j ∙ take_min (longest + 1) d
-      ∙ ap (λ (n : ℕ). take (longest + 1) (drop n (take full buf))) e
+      ∙ ap (take (longest + 1)) (ap (drop used) v ∙ ap (λ (n : ℕ). drop n now) e)
+
+-- what shows what is carried over
+pub ruleset carry_rules = (seen, whole_le, carried)

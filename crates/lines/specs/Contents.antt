@@ -1,11 +1,8 @@
--- The sizes of the buffers, and what a read adds.
+-- How many bytes of answers there may be, and what a read adds.
 use Rattle.std.specs.Prelude.{ℕ, ◌≡◌, List, ◌++◌, length, Option, Result, Ok, Err}
 use Rattle.std.specs.Io.KnownBytes.{Consumes, Keeps, IsAtEnd}
 use Rattle.frame.specs.declared.output.Failure.{Failure}
 use Rattle.frame.specs.declared.output.Failure.TheVariants as failure
-
-abbrev pub input_size : ℕ
-input_size = 131072
 
 abbrev pub output_size : ℕ
 output_size = 1572864

@@ -24,30 +24,29 @@ const INPUT: usize = 131072;
 
 const OUTPUT: usize = 1572864;
 
-// The input that is not answered yet: between two reads, the start of a line that is not whole.
+// Bytes in an array of N: the first `count` of them.
 #[derive(Drop)]
-pub(crate) struct Unanswered {
-    bytes: [u8; INPUT],
+pub(crate) struct Buffer<const N: usize> {
+    bytes: [u8; N],
     count: usize,
 }
 
-impl Model for Unanswered {
+impl<const N: usize> Model for Buffer<N> {
     ghost use Rattle.std.specs.Prelude.{List, ℕ, ◌≤◌, take};
-    ghost use Rattle.lines.specs.Contents.{input_size};
 
     ghost Value = { List ℕ };
 
-    ghost view = { λ u. take u.count u.bytes };
+    ghost view = { λ b. take b.count b.bytes };
 
-    ghost invariant = { λ u. u.count ≤ input_size };
+    ghost invariant = { λ b. b.count ≤ N };
 }
 
-impl Unanswered {
+impl<const N: usize> Buffer<N> {
     pub(crate) fn new() -> Self
         ensures { result ≡ [] }
     {
-        Unanswered {
-            bytes: [0; INPUT],
+        Buffer {
+            bytes: [0; N],
             count: 0,
         }
     }
@@ -58,7 +57,19 @@ impl Unanswered {
         &self.bytes[..self.count]
     }
 
+    fn clear(&mut self)
+        ensures { self.new ≡ [] }
+    {
+        self.count = 0;
+    }
+}
+
+// The input that is not answered yet: between two reads, the start of a line that is not whole.
+pub(crate) type Unanswered = Buffer<INPUT>;
+
+impl Unanswered {
     // Reads once, after the bytes that were carried over. Returns how many bytes that is: 0 is the end of the input.
+    #[tactic(auto, using(crate::proofs::Contents::read_rules))]
     pub(crate) fn read_more<R: Read>(&mut self, from: &mut R) -> Result<usize, Failure>
         requires { length self.old ≤ longest + 1 }
         ensures { ReadTo (R.remaining from.old) (R.remaining from.new) self.old self.new result }
@@ -70,6 +81,7 @@ impl Unanswered {
 
     // Carries over the line that is not whole yet, after the bytes of the whole lines: all of it, or one byte more than
     // the longest line has. That is enough to show that the line is too long.
+    #[tactic(auto, using(crate::proofs::Contents::carry_rules))]
     pub(crate) fn carry(&mut self, whole: usize)
         requires { whole ≡ whole_of self.old }
         ensures upper_bound { length self.new ≤ longest + 1 }
@@ -82,39 +94,9 @@ impl Unanswered {
 }
 
 // The answers that are not written yet.
-#[derive(Drop)]
-pub(crate) struct Answers {
-    bytes: [u8; OUTPUT],
-    count: usize,
-}
-
-impl Model for Answers {
-    ghost use Rattle.std.specs.Prelude.{List, ℕ, ◌≤◌, take};
-    ghost use Rattle.lines.specs.Contents.{output_size};
-
-    ghost Value = { List ℕ };
-
-    ghost view = { λ a. take a.count a.bytes };
-
-    ghost invariant = { λ a. a.count ≤ output_size };
-}
+pub(crate) type Answers = Buffer<OUTPUT>;
 
 impl Answers {
-    pub(crate) fn new() -> Self
-        ensures { result ≡ [] }
-    {
-        Answers {
-            bytes: [0; OUTPUT],
-            count: 0,
-        }
-    }
-
-    fn clear(&mut self)
-        ensures { self.new ≡ [] }
-    {
-        self.count = 0;
-    }
-
     // Is there room for the longest answer?
     fn has_room(&self) -> bool
         ensures { IsTrue result ↔ (length self.now + answer_room ≤ output_size) }
@@ -123,6 +105,7 @@ impl Answers {
     }
 
     // Puts the answer to a line and its line feed.
+    #[tactic(auto, using(crate::proofs::Contents::answer_rules))]
     fn answer(&mut self, line: &[u8])
         requires { length self.old + answer_room ≤ output_size }
         ensures { self.new ≡ self.old ++ (answer_of line.now ++ (10 ∷ [])) }
@@ -134,12 +117,14 @@ impl Answers {
 
     // Answers whole lines from a place on, as long as there is room for the longest answer. Returns the place after
     // them.
+    #[tactic(auto, using(crate::proofs::Contents::line_rules))]
     pub(crate) fn answer_lines(&mut self, s: &[u8], from: usize) -> usize
         requires { from ≤ length s.now }
         ensures { Answered answer_of s.now from self.new result (length self.new) }
     {
         self.clear();
         let mut at = from;
+        // The place goes on by whole lines, until there is none or no more room. It is the result.
         while self.has_room() {
             let rest = &s[at..];
             let n = bytes::find(rest, b'\n');

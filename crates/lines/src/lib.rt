@@ -41,6 +41,7 @@ fn write_answers<W: Write>(to: &mut W, s: &[u8], answers: &mut Answers) -> Resul
     ensures sent_to { SentTo (W.contents to.old) (W.contents to.new) s.now result }
 {
     let mut at = 0;
+    // The place goes on by the lines whose answers had room in the buffer.
     loop {
         let next = answers.answer_lines(s, at);
         if next == at {
@@ -61,6 +62,7 @@ fn write_last<W: Write>(to: &mut W, line: &[u8], answers: &mut Answers) -> Resul
 
 // Each turn reads once and answers the lines that are whole then. After a read or a write that fails, nothing more is
 // answered or written. After u64::MAX turns, which no run reaches, it ends as if a read had failed.
+#[tactic(auto, using(crate::proofs::Turns::none_fed, crate::proofs::Turns::turn_more))]
 fn feed<R: Read, W: Write>(from: &mut R, to: &mut W, answers: &mut Answers) -> Result<(), Failure>
     ensures { FedTo (R.remaining from.old) (R.remaining from.new) (W.contents to.old) (W.contents to.new) result }
 {

@@ -1,5 +1,5 @@
 -- Sums of counts along a list: each count fits below 2 ^ 48, so a list of at most 256 fits a word; the walk comes to the whole.
-use Rattle.std.specs.Prelude.{Err, Ok, Result}
+use Rattle.std.specs.Prelude.{Some, None, Err, Ok, Result}
 use mathlib.Core.Path.{◌≡◌, refl, sym, ap, ap₂, ◌∙◌}
 use Prim.Native.Nat.{ℕ, zero, suc, ◌+◌, ◌-◌, ◌*◌, ◌^◌, ◌≤◌, ◌<◌}
 use native.Mathlib.Nat.{suc-mul, mul-le-mul_right}
@@ -12,7 +12,7 @@ use mathlib.Core.List.{List, [], ◌∷◌, Memᴰ as Member}
 use lib.ListN.{length, drop, get_or, drop_of_length-le}
 use lib.Seq.{drop-cons, get_or-take}
 use lib.Dec.{ltb}
-use borrow.Author.Tests.{le-ltb, ltb-false}
+use borrow.Author.Tests.{le-ltb, lt-ltb, ltb-false}
 use Rattle.squares.specs.declared.refusal.Refusal.{Refusal}
 use Rattle.squares.specs.declared.refusal.Refusal.TheVariants.{TooManyMoves}
 use Rattle.positions.specs.Acceptance.{Accepted}
@@ -20,16 +20,16 @@ use Rattle.positions.specs.Boards.{Board}
 use Rattle.positions.specs.Successor.{successor, Playable}
 use Rattle.positions.specs.declared.moves.Move.{Move}
 use Rattle.positions.proofs.Kept.{successor_accepted}
-use Rattle.captures.specs.Lists.{blank, entries}
+use Rattle.captures.specs.Lists.{blank, entries, list_of}
 use Rattle.rules.specs.Ordered.{legal}
 use Rattle.rules.proofs.Laws.{fair_of_accepted, legal_playable}
 use Rattle.rules.proofs.Numbered.{member_sound}
-use Rattle.quiets.specs.declared.quiets.Listing.{Listing}
+use Rattle.captures.specs.declared.moves.MoveList.{MoveList}
+use Rattle.captures.proofs.Whole.{few_whole, many_whole}
 use Rattle.movegen.specs.Counts.{then_count, sum_from, depth_count}
 use Rattle.movegen.specs.Generate.{seen, generate_of, next_of}
 use Rattle.captures.specs.declared.view.View.{View}
 use Rattle.capture_laws.proofs.Stored.{few_len, few_entries}
-use Rattle.quiet_laws.proofs.Filled.{filled}
 use Rattle.movegen.proofs.Generated.{generated, view_seen, next_is}
 
 -- ---- sums
@@ -129,30 +129,30 @@ unfolding depth_count
 depth_none d b e = ap (λ (n : ℕ). depth_count n b) (sym e)
 
 -- ---- the code's list of an accepted board
-pub record Short (b : Board) (l : Listing) : Type 0 where
-  pub moves : (i : ℕ) → i < l.list.len → get_or l.list.moves i blank ≡ get_or (legal b) i blank
+pub record Short (b : Board) (l : MoveList) : Type 0 where
+  pub moves : (i : ℕ) → i < l.len → get_or l.moves i blank ≡ get_or (legal b) i blank
   pub few : length (legal b) ≤ 256
-  pub len : l.list.len ≡ length (legal b)
-  pub whole : l ≡ filled (legal b)
+  pub len : l.len ≡ length (legal b)
+  pub whole : l ≡ list_of (legal b)
 
-module _ (v : View) (a : Accepted (seen v)) (l : Listing) (e : l ≡ generate_of v) where
+-- there is none only where there are more than 256 moves
+pub many : (v : View) → Accepted (seen v) → None ≡ generate_of v → ltb 256 (length (legal (seen v))) ≡ true
+many v a e =
+    lt-ltb 256 (length (legal (seen v)))
+    (many_whole (legal (seen v)) (e ∙ ap generate_of (sym (view_seen v)) ∙ generated (seen v) (fair_of_accepted (seen v) a)))
+
+module _ (v : View) (a : Accepted (seen v)) (l : MoveList) (e : Some l ≡ generate_of v) where
   -- the list of the rules
-  full : l ≡ filled (legal (seen v))
-  full = e ∙ ap generate_of (sym (view_seen v)) ∙ generated (seen v) (fair_of_accepted (seen v) a)
+  full : (length (legal (seen v)) ≤ 256) × (l ≡ list_of (legal (seen v)))
+  full = few_whole (legal (seen v)) l (e ∙ ap generate_of (sym (view_seen v)) ∙ generated (seen v) (fair_of_accepted (seen v) a))
 
-  pub many : l.overflow ≡ true → ltb 256 (length (legal (seen v))) ≡ true
-  many o = sym (ap (λ (l : Listing). l.overflow) full) ∙ o
-
-  pub short : l.overflow ≡ false → Short (seen v) l
-  short o = record {
-    moves = λ i h. sym (get_or-take l.list.len l.list.moves i blank h) ∙ ap (λ (xs : List Move). get_or xs i blank) (ap (λ (l : Listing). entries l.list) full ∙ few_entries (legal (seen v)) h256);
-    few = h256;
-    len = ap (λ (l : Listing). l.list.len) full ∙ few_len (legal (seen v)) h256;
-    whole = full;
+  pub short : Short (seen v) l
+  short = record {
+    moves = λ i h. sym (get_or-take l.len l.moves i blank h) ∙ ap (λ (xs : List Move). get_or xs i blank) (ap entries full.1 ∙ few_entries (legal (seen v)) full.0);
+    few = full.0;
+    len = ap (λ (l : MoveList). l.len) full.1 ∙ few_len (legal (seen v)) full.0;
+    whole = full.1;
   }
-    where
-      h256 : length (legal (seen v)) ≤ 256
-      h256 = ltb-false 256 (length (legal (seen v))) (sym (ap (λ (l : Listing). l.overflow) full) ∙ o)
 
   -- the step to an entry of it is the successor, which is accepted
   at_member : (xs : List Move) (i : ℕ) → i < length xs → Member (get_or xs i blank) xs
@@ -160,37 +160,37 @@ module _ (v : View) (a : Accepted (seen v)) (l : Listing) (e : l ≡ generate_of
   at_member (x ∷ xs) zero h = head refl
   at_member (x ∷ xs) (suc i) h = tail (at_member xs i (omega arith))
 
-  module _ (w : Short (seen v) l) (i : ℕ) (h : i < l.list.len) where
+  module _ (w : Short (seen v) l) (i : ℕ) (h : i < l.len) where
     playable : Playable (seen v) (get_or (legal (seen v)) i blank)
     playable =
         let fair = fair_of_accepted (seen v) a in
         legal_playable (seen v) fair _ (member_sound (seen v) fair _ (at_member (legal (seen v)) i (omega (arith, w.len))))
 
-    stepped : (next : View) → next ≡ next_of v (get_or l.list.moves i blank) → seen next ≡ successor (seen v) (get_or (legal (seen v)) i blank)
+    stepped : (next : View) → next ≡ next_of v (get_or l.moves i blank) → seen next ≡ successor (seen v) (get_or (legal (seen v)) i blank)
     stepped next q =
         ap seen (q ∙ ap₂ next_of (sym (view_seen v)) (w.moves i h)) ∙ next_is (seen v) (get_or (legal (seen v)) i blank) a playable
 
-    pub step_accepted : (next : View) → next ≡ next_of v (get_or l.list.moves i blank) → Accepted (seen next)
+    pub step_accepted : (next : View) → next ≡ next_of v (get_or l.moves i blank) → Accepted (seen next)
     step_accepted next q = rw (stepped next q) (successor_accepted (seen v) (get_or (legal (seen v)) i blank) a playable)
 
     -- what a count below it says
-    pub counted : (n : ℕ) (next : View) (res c : Result ℕ Refusal) → next ≡ next_of v (get_or l.list.moves i blank) → res ≡ depth_count n (seen next) → res ≡ c
+    pub counted : (n : ℕ) (next : View) (res c : Result ℕ Refusal) → next ≡ next_of v (get_or l.moves i blank) → res ≡ depth_count n (seen next) → res ≡ c
         → below n (seen v) (get_or (legal (seen v)) i blank) ≡ c
     counted n next res c q r s = ap (depth_count n) (sym (stepped next q)) ∙ sym r ∙ s
 
 -- ---- the loop of a count, at any turn: n plies below each move, s counted before entry i
-module _ (v : View) (a : Accepted (seen v)) (l : Listing) (e : l ≡ generate_of v) (o : l.overflow ≡ false) (n s i : ℕ) (c : Counting n (seen v) s i) where
+module _ (v : View) (a : Accepted (seen v)) (l : MoveList) (e : Some l ≡ generate_of v) (n s i : ℕ) (c : Counting n (seen v) s i) where
   pub listing_short : Short (seen v) l
-  listing_short = short v a l e o
+  listing_short = short v a l e
 
   -- an entry of the list lies in the array
-  pub in_array : i < l.list.len → i < 256
+  pub in_array : i < l.len → i < 256
   in_array h = omega (arith, listing_short.len, listing_short.few)
 
-  pub sum_done : l.list.len ≤ i → Ok s ≡ depth_count (suc n) (seen v)
+  pub sum_done : l.len ≤ i → Ok s ≡ depth_count (suc n) (seen v)
   sum_done h = counting_done n (seen v) s i (omega (arith, listing_short.len)) c ∙ depth_more n (seen v) listing_short.few
 
-  module _ (h : i < l.list.len) (next : View) (q : next ≡ next_of v (get_or l.list.moves i blank)) where
+  module _ (h : i < l.len) (next : View) (q : next ≡ next_of v (get_or l.moves i blank)) where
     pub next_accepted : Accepted (seen next)
     next_accepted = step_accepted v a l e listing_short i h next q
 

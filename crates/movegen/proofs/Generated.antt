@@ -1,6 +1,7 @@
 -- What the generator makes of an accepted board is the list of the rules; a board seen by its side is the board; the step of
 -- a depth count is the successor.
-use mathlib.Core.Path.{◌≡◌, refl, sym, ap, ap₂, ◌∙◌}
+use Rattle.std.specs.Prelude.{Option}
+use mathlib.Core.Path.{◌≡◌, refl, sym, ap, ◌∙◌}
 use Prim.Native.Nat.{ℕ}
 use mathlib.Core.Bool.{Bool, true, false, cond}
 use lib.Bits.{bit_and, bit_or, or_comm}
@@ -21,14 +22,14 @@ use Rattle.positions.proofs.Hashes.{play_is}
 use Rattle.rules.specs.Ordered.{legal}
 use Rattle.rules.specs.Rules.{Fair}
 use Rattle.rules.proofs.Laws.{fair_of_accepted}
-use Rattle.quiets.specs.Quiets.{listing, quiet_moves_of}
+use Rattle.quiets.specs.Quiets.{quiet_moves_of}
 use Rattle.quiets.specs.Tests.{has_capture_of}
-use Rattle.quiets.specs.declared.quiets.Listing.{Listing}
 use Rattle.captures.specs.View.{view_of}
+use Rattle.captures.specs.Lists.{whole_list}
+use Rattle.captures.specs.declared.moves.MoveList.{MoveList}
 use Rattle.movegen.specs.Generate.{facing, seen, capture_moves_of, moves_by_sets, generate_of, next_of}
 use Rattle.captures.specs.declared.view.View.{View}
 use Rattle.capture_laws.proofs.Laws.{captures_open}
-use Rattle.quiet_laws.proofs.Filled.{filled}
 use Rattle.quiet_laws.proofs.Laws.{capture_open, legal_filled}
 
 -- ---- a board and what its side sees of it
@@ -56,18 +57,23 @@ sets_are b = ap (λ (s : ℕ). moves_by_sets (without (own b) b.kings) (bit_and 
     both White = refl
     both Black = or_comm b.black b.white
 
--- the legal moves, as many as there is room for, then blanks; and whether there are more
-pub generated : (b : Board) → Fair b → generate_of (view_of b) ≡ filled (legal b)
-unfolding moves_by_sets capture_moves_of
+-- where a jump is open the captures are the legal moves
+pub captures_are : (b : Board) → Fair b → has_capture_of (pieces b Man) (pieces b King) (enemy b) (empty b) ≡ true
+    → capture_moves_of (pieces b Man) (pieces b King) (enemy b) (empty b) ≡ whole_list (legal b)
+unfolding capture_moves_of
+captures_are b fair e = captures_open b fair ((capture_open b fair).0 e)
+
+-- the legal moves as a list, where there are at most 256
+pub generated : (b : Board) → Fair b → generate_of (view_of b) ≡ whole_list (legal b)
+unfolding moves_by_sets
 generated b fair = sets_are b ∙ go (has_capture_of (pieces b Man) (pieces b King) (enemy b) (empty b)) refl
   where
     go : (t : Bool) → has_capture_of (pieces b Man) (pieces b King) (enemy b) (empty b) ≡ t
         → cond (has_capture_of (pieces b Man) (pieces b King) (enemy b) (empty b)) (capture_moves_of (pieces b Man) (pieces b King) (enemy b) (empty b)) (quiet_moves_of (pieces b Man) (pieces b King) (empty b) b.side)
-        ≡ filled (legal b)
+        ≡ whole_list (legal b)
     go true e =
-        let f = captures_open b fair ((capture_open b fair).0 e) in
         ap (λ (t : Bool). cond t (capture_moves_of (pieces b Man) (pieces b King) (enemy b) (empty b)) (quiet_moves_of (pieces b Man) (pieces b King) (empty b) b.side)) e
-        ∙ ap₂ listing f.0 f.1
+        ∙ captures_are b fair e
     go false e =
         ap (λ (t : Bool). cond t (capture_moves_of (pieces b Man) (pieces b King) (enemy b) (empty b)) (quiet_moves_of (pieces b Man) (pieces b King) (empty b) b.side)) e
         ∙ legal_filled b fair e
@@ -99,5 +105,5 @@ module _ (p : Position) (s : sound p ≡ true) (v : View) (e : v ≡ view_of (bo
   pub seen_accepted : Accepted (seen v)
   seen_accepted = rw seen_is (sound_says p s).accepted
 
-  pub generated_is : (l : Listing) → l ≡ generate_of v → l ≡ filled (legal (board_of p))
+  pub generated_is : (l : Option MoveList) → l ≡ generate_of v → l ≡ whole_list (legal (board_of p))
   generated_is l q = q ∙ ap generate_of e ∙ generated (board_of p) (fair_of_accepted (board_of p) (sound_says p s).accepted)

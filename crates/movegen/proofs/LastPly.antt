@@ -1,14 +1,14 @@
 -- On a fair board the last ply's number is the depth count 1: the number of legal moves, or 17.
 use Rattle.std.specs.Prelude.{Err, Ok}
 use mathlib.Core.Path.{◌≡◌, refl, sym, ap, ◌∙◌}
-use Prim.Native.Nat.{ℕ, ◌+◌, min}
+use Prim.Native.Nat.{ℕ, ◌+◌}
 use native.Mathlib.Omega.{arith}
 use mathlib.Core.Bool.{Bool, true, false, cond}
 use mathlib.Core.List.{List, [], ◌∷◌}
 use lib.Bits.{bit_and, bit_or, or_comm}
 use lib.Dec.{ltb}
 use lib.ListN.{length}
-use borrow.Author.Tests.{ltb-false}
+use borrow.Author.Tests.{ltb-true, ltb-false}
 use Rattle.squares.specs.Sets.{without}
 use Rattle.squares.specs.Squares.{all}
 use Rattle.squares.specs.Pieces.{other}
@@ -19,20 +19,21 @@ use Rattle.squares.specs.declared.refusal.Refusal.TheVariants.{TooManyMoves}
 use Rattle.positions.specs.Acceptance.{Accepted}
 use Rattle.positions.specs.Boards.{Board, colored, own, enemy, empty, of_kind, pieces}
 use Rattle.positions.specs.declared.moves.Move.{Move}
-use Rattle.captures.specs.Lists.{list_of}
+use Rattle.captures.specs.Lists.{whole_list}
+use Rattle.captures.proofs.Whole.{whole_few, whole_many}
 use Rattle.quiets.specs.Tests.{has_capture_of}
 use Rattle.quiets.specs.Quiets.{all_quiets}
 use Rattle.rules.specs.Ordered.{legal}
 use Rattle.rules.specs.Rules.{Fair}
 use Rattle.rules.proofs.Laws.{fair_of_accepted}
-use Rattle.capture_laws.proofs.Laws.{captures_open}
-use Rattle.quiet_laws.proofs.Laws.{capture_open, legal_number}
+use Rattle.capture_laws.proofs.Stored.{few_len}
+use Rattle.quiet_laws.proofs.Laws.{legal_number}
 use Rattle.movegen.specs.Counts.{then_count, sum_from, depth_count}
 use Rattle.captures.specs.View.{view_of}
 use Rattle.movegen.specs.Generate.{seen, capture_moves_of}
 use Rattle.movegen.specs.LastPly.{limited_count, listed_count, count_by_sets, last_ply_of}
 use Rattle.captures.specs.declared.view.View.{View}
-use Rattle.movegen.proofs.Generated.{view_seen}
+use Rattle.movegen.proofs.Generated.{captures_are, view_seen}
 
 -- ---- depth 1
 ones : (l : List Move) (s : ℕ) → sum_from (λ m. Ok 1) s l ≡ Ok (s + length l)
@@ -49,25 +50,26 @@ depth_one b = go (ltb 256 (length (legal b)))
     go false = ones (legal b) 0 ∙ ap Ok (omega arith)
 
 -- ---- the formula
--- a list with its mark, and its number
-marked : (n k : ℕ) (o : Bool) → o ≡ ltb 256 n → k ≡ min 256 n → cond o (Err TooManyMoves) (Ok k) ≡ limited_count n
-unfolding limited_count
-marked n k o e q = ap (λ (t : Bool). cond t (Err TooManyMoves) (Ok k)) e ∙ go (ltb 256 n) refl
+-- the number of a list, where there is room for all
+whole_count : (xs : List Move) → listed_count (whole_list xs) ≡ limited_count (length xs)
+unfolding listed_count limited_count
+whole_count xs = go (ltb 256 (length xs)) refl
   where
-    go : (t : Bool) → ltb 256 n ≡ t → cond t (Err TooManyMoves) (Ok k) ≡ cond t (Err TooManyMoves) (Ok n)
-    go true p = refl
-    go false p = ap Ok (omega (arith, q, ltb-false 256 n p))
+    go : (t : Bool) → ltb 256 (length xs) ≡ t → listed_count (whole_list xs) ≡ cond (ltb 256 (length xs)) (Err TooManyMoves) (Ok (length xs))
+    go true e = ap listed_count (whole_many xs (ltb-true 256 (length xs) e)) ∙ sym (ap (λ (t : Bool). cond t (Err TooManyMoves) (Ok (length xs))) e)
+    go false e =
+        let h = ltb-false 256 (length xs) e in
+        ap listed_count (whole_few xs h) ∙ ap Ok (few_len xs h) ∙ sym (ap (λ (t : Bool). cond t (Err TooManyMoves) (Ok (length xs))) e)
 
 by_sets : (b : Board) → Fair b → count_by_sets (pieces b Man) (pieces b King) (enemy b) (empty b) b.side ≡ limited_count (length (legal b))
-unfolding count_by_sets listed_count capture_moves_of list_of
+unfolding count_by_sets
 by_sets b fair = go (has_capture_of (pieces b Man) (pieces b King) (enemy b) (empty b)) refl
   where
     go : (t : Bool) → has_capture_of (pieces b Man) (pieces b King) (enemy b) (empty b) ≡ t
         → cond t (listed_count (capture_moves_of (pieces b Man) (pieces b King) (enemy b) (empty b))) (limited_count (length (all_quiets (pieces b Man) (pieces b King) (empty b) b.side)))
         ≡ limited_count (length (legal b))
     go true e =
-        let f = captures_open b fair ((capture_open b fair).0 e) in
-        marked (length (legal b)) _ _ f.1 (ap (λ l. l.len) f.0)
+        ap listed_count (captures_are b fair e) ∙ whole_count (legal b)
     go false e = ap limited_count (legal_number b fair e)
 
 -- the sets that the code makes are those of the board

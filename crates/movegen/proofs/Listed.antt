@@ -1,14 +1,14 @@
 -- The list within a limit, the search in it, the position after a move of it.
-use Rattle.std.specs.Prelude.{Err, Ok, Result}
+use Rattle.std.specs.Prelude.{Some, None, Err, Ok}
 use mathlib.Core.Path.{◌≡◌, refl, sym, ap, ap₂, ◌∙◌}
 use Prim.Native.Nat.{ℕ, ◌≤◌}
 use native.Mathlib.Omega.{arith}
-use mathlib.Core.Bool.{Bool, true, false, cond, ◌||◌}
+use mathlib.Core.Bool.{Bool, true, false, cond}
 use mathlib.Core.List.{List}
 use lib.Bits.{bit_or, or_comm}
 use lib.ListN.{length}
 use lib.Dec.{leb, ltb}
-use borrow.Author.Tests.{ltb-true, ltb-false, lt-leb, le-leb}
+use borrow.Author.Tests.{lt-ltb, le-ltb, lt-leb}
 use Rattle.squares.specs.declared.refusal.Refusal.TheVariants.{TooManyMoves, NoMoveFits, NoSuchSquare, BadPosition}
 use Rattle.positions.specs.Acceptance.{sound, Sound}
 use Rattle.positions.specs.Boards.{Board, board_of, colored, enemy, of_kind, pieces, empty}
@@ -28,19 +28,17 @@ use Rattle.squares.specs.declared.piece.Color.TheVariants.{White, Black}
 use Rattle.captures.specs.View.{view_of, own_men_of, own_kings_of, empty_of}
 use Rattle.captures.specs.declared.view.View.{View}
 use Rattle.captures.specs.Lists as codes
-use Rattle.captures.specs.Lists.{list_of, entries}
+use Rattle.captures.specs.Lists.{list_of, whole_list, entries}
+use Rattle.captures.proofs.Whole.{few_whole, many_whole}
 use Rattle.rules.specs.Lists.{some}
 use Rattle.rules.specs.Ordered.{captures, quiets, legal, listed}
 use Rattle.rules.specs.Rules.{Fair}
 use Rattle.rules.proofs.Laws.{fair_of_accepted, listed_legal, legal_playable}
 use Rattle.quiets.specs.Tests.{has_quiet_of, has_capture_of}
-use Rattle.quiets.specs.declared.quiets.Listing.{Listing}
-use Rattle.movegen.specs.Lists.{listed_of, within_of, has_captures_of, has_quiet_moves_of, played_of, after_of}
+use Rattle.movegen.specs.Lists.{listed_of, has_captures_of, has_quiet_moves_of, played_of, after_of}
 use Rattle.captures.specs.declared.moves.MoveList.{MoveList}
-use Rattle.squares.specs.declared.refusal.Refusal.{Refusal}
 use Rattle.capture_laws.proofs.Recorded.{listed_is}
 use Rattle.capture_laws.proofs.Stored.{few_len, few_entries}
-use Rattle.quiet_laws.proofs.Filled.{filled}
 use Rattle.quiet_laws.proofs.Laws.{has_quiet_law, has_capture_law}
 
 -- a position that passes the test of refusal 12 stands on a fair board
@@ -48,34 +46,30 @@ pub fair_of : (p : Position) → sound p ≡ true → Fair (board_of p)
 fair_of p e = fair_of_accepted (board_of p) (sound_says p e).accepted
 
 -- ---- the limit
-pub within_law : (xs : List Move) (limit : ℕ) → limit ≤ 256 → within_of (filled xs) limit ≡ listed_of limit xs
-unfolding within_of listed_of
-within_law xs limit h = go (ltb 256 (length xs)) refl
-  where
-    told : Bool → Result MoveList Refusal
-    told t = cond t (Err TooManyMoves) (Ok (list_of xs))
+module _ (xs : List Move) (limit : ℕ) where
+  pub limit_none : limit ≤ 256 → None ≡ whole_list xs → Err TooManyMoves ≡ listed_of limit xs
+  unfolding listed_of
+  limit_none h e = sym (ap (λ (t : Bool). cond t (Ok (list_of xs)) (Err TooManyMoves)) (lt-leb (length xs) limit (omega (arith, many_whole xs e))))
 
-    done : Bool → Result MoveList Refusal
-    done t = cond t (Ok (list_of xs)) (Err TooManyMoves)
+  pub limit_some : (l : MoveList) → Some l ≡ whole_list xs → cond (leb l.len limit) (Ok l) (Err TooManyMoves) ≡ listed_of limit xs
+  unfolding listed_of
+  limit_some l e =
+      let w = few_whole xs l e in
+      ap₂ (λ (n : ℕ) (k : MoveList). cond (leb n limit) (Ok k) (Err TooManyMoves)) (ap (λ (k : MoveList). k.len) w.1 ∙ few_len xs w.0) w.1
 
-    short : (t : Bool) → ltb limit (length xs) ≡ t → told (ltb limit (length xs)) ≡ done (leb (length xs) limit)
-    short true e = ap told e ∙ sym (ap done (lt-leb (length xs) limit (ltb-true limit (length xs) e)))
-    short false e = ap told e ∙ sym (ap done (le-leb (length xs) limit (ltb-false limit (length xs) e)))
+-- ---- the room for a list
+pub many_ltb : (xs : List Move) → None ≡ whole_list xs → ltb 256 (length xs) ≡ true
+many_ltb xs e = lt-ltb 256 (length xs) (many_whole xs e)
 
-    go : (t : Bool) → ltb 256 (length xs) ≡ t → told (ltb 256 (length xs) || ltb limit (list_of xs).len) ≡ done (leb (length xs) limit)
-    go true e =
-        let k = ltb-true 256 (length xs) e in
-        ap (λ (t : Bool). told (t || ltb limit (list_of xs).len)) e ∙ sym (ap done (lt-leb (length xs) limit (omega arith)))
-    go false e =
-        ap₂ (λ (t : Bool) (n : ℕ). told (t || ltb limit n)) e (few_len xs (ltb-false 256 (length xs) e)) ∙ short (ltb limit (length xs)) refl
+pub few_ltb : (xs : List Move) (l : MoveList) → Some l ≡ whole_list xs → ltb 256 (length xs) ≡ false
+few_ltb xs l e = le-ltb 256 (length xs) (few_whole xs l e).0
 
 -- ---- the search
-pub found_law : (l : Listing) (xs : List Move) (m : Move) → l ≡ filled xs → l.overflow ≡ false → codes.listed (entries l.list) m ≡ listed xs m
+pub found_law : (l : MoveList) (xs : List Move) (m : Move) → Some l ≡ whole_list xs → codes.listed (entries l) m ≡ listed xs m
 unfolding listed
-found_law l xs m e o =
-    ap (λ (l : Listing). codes.listed (entries l.list) m) e
-    ∙ ap (λ (ys : List Move). codes.listed ys m) (few_entries xs (ltb-false 256 (length xs) (sym (ap (λ (l : Listing). l.overflow) e) ∙ o)))
-    ∙ listed_is xs m
+found_law l xs m e =
+    let w = few_whole xs l e in
+    ap (λ (l : MoveList). codes.listed (entries l) m) w.1 ∙ ap (λ (ys : List Move). codes.listed ys m) (few_entries xs w.0) ∙ listed_is xs m
 
 -- ---- the position after a move
 pub played_many : (p : Position) (m : Move) → ltb 256 (length (legal (board_of p))) ≡ true → Err TooManyMoves ≡ played_of p m

@@ -1,34 +1,48 @@
 -- A short list that had room for all captures gives the list of the search, and its number.
-use Rattle.std.specs.Prelude.{Err, Ok}
-use mathlib.Core.Path.{◌≡◌, sym, ap, ap₂, ◌∙◌, subst}
-use mathlib.Core.Bool.{Bool, false, cond}
-use Prim.Native.Nat.{ℕ}
-use native.Mathlib.Omega.{arith}
+use Rattle.std.specs.Prelude.{Option, Some, None, is_some, option_map, ok_or, Ok}
 use Rattle.squares.specs.declared.refusal.Refusal.TheVariants.{TooManyMoves}
+use mathlib.Core.List.{List}
+use Rattle.positions.specs.declared.moves.Move.{Move}
+use mathlib.Core.Path.{◌≡◌, refl, sym, ap, ap₂, ◌∙◌, subst}
+use mathlib.Core.Bool.{true, false≢true}
+use Prim.Native.Nat.{ℕ, ◌≤◌}
+use native.Mathlib.Omega.{arith}
 use Rattle.captures.specs.declared.movegen.Captures.{Captures}
 use Rattle.captures.specs.All.{all_captures_of}
 use Rattle.captures.specs.Lists.{list_of}
-use Rattle.captures.specs.Record.{list_in}
-use Rattle.captures.proofs.Alike.{Alike, few_alike, listed_all}
-use Rattle.quiets.specs.Quiets.{listing}
-use Rattle.movegen.specs.Generate.{listing_of, long_captures_of, capture_moves_of}
+use Rattle.captures.specs.Record.{moves_in, entered, list_in}
+use Rattle.captures.proofs.Alike.{Same, Alike, few_alike, listed_all}
+use Rattle.movegen.specs.Generate.{long_captures_of, capture_moves_of}
 use Rattle.movegen.specs.LastPly.{listed_count}
 
+-- the number of a search's moves is that of its list
+pub counted : {N : ℕ} (s : Captures N) → listed_count (list_in s) ≡ ok_or s.len TooManyMoves
+unfolding listed_count list_in
+counted s = go s.len
+  where
+    go : (o : Option ℕ) → listed_count (option_map (entered s.moves) o) ≡ ok_or o TooManyMoves
+    go None = refl
+    go (Some n) = refl
+
 module _ (men kings them empty : ℕ) (t : Captures 14) (q : t ≡ all_captures_of 14 men kings them empty) where
-  alike : Alike (long_captures_of men kings them empty) t
-  alike = subst (λ (x : Captures 14). Alike (long_captures_of men kings them empty) x) (sym q) (few_alike 14 256 (omega arith) men kings them empty)
+  room : (n : ℕ) → t.len ≡ Some n → Same (long_captures_of men kings them empty) t
+  room = (subst (λ (x : Captures 14). Alike (long_captures_of men kings them empty) x) (sym q) (few_alike 14 256 (omega arith) men kings them empty)).same
 
-  pub spread_is : t.overflow ≡ false → listing_of t ≡ capture_moves_of men kings them empty
+  -- the list of a search of all captures
+  listed : (N : ℕ) → N ≤ 256 → (s : Captures N) → s ≡ all_captures_of N men kings them empty → list_in s ≡ option_map (λ n. list_of (moves_in s)) s.len
+  listed N h s e = subst (λ (x : Captures N). list_in x ≡ option_map (λ n. list_of (moves_in x)) x.len) (sym e) (listed_all N h men kings them empty)
+
+  pub spread_is : is_some t.len ≡ true → list_in t ≡ capture_moves_of men kings them empty
   unfolding capture_moves_of
-  spread_is o =
-      let w = few_alike 14 256 (omega arith) men kings them empty in
-      let s = w.same (ap (λ (x : Captures 14). x.overflow) (sym q) ∙ o) in
-      ap₂ listing
-      (ap list_in q ∙ listed_all 14 (omega arith) men kings them empty ∙ ap list_of (sym s.moves) ∙ sym (listed_all 256 (omega arith) men kings them empty))
-      (o ∙ sym s.overflow)
+  spread_is e = go t.len refl e
+    where
+      go : (o : Option ℕ) → t.len ≡ o → is_some o ≡ true → list_in t ≡ list_in (long_captures_of men kings them empty)
+      go None p r = absurd (false≢true r)
+      go (Some n) p r =
+          let s = room n p in
+          listed 14 (omega arith) t q ∙ ap₂ (λ (ms : List Move) (k : Option ℕ). option_map (λ n. list_of ms) k) (sym s.moves) (sym s.len)
+          ∙ sym (listed 256 (omega arith) (long_captures_of men kings them empty) refl)
 
-  pub as_many : t.overflow ≡ false → Ok t.len ≡ listed_count (capture_moves_of men kings them empty)
-  unfolding listed_count capture_moves_of list_in
-  as_many o =
-      let s = alike.same o in
-      sym (ap₂ (λ (x : Bool) (n : ℕ). cond x (Err TooManyMoves) (Ok n)) s.overflow s.len)
+  pub as_many : (n : ℕ) → t.len ≡ Some n → Ok n ≡ listed_count (capture_moves_of men kings them empty)
+  unfolding capture_moves_of
+  as_many n o = sym (counted (long_captures_of men kings them empty) ∙ ap (λ (k : Option ℕ). ok_or k TooManyMoves) ((room n o).len ∙ o))

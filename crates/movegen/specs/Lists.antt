@@ -1,6 +1,6 @@
 -- What the list call, the two tests and the successor answer, refused calls too (docs/RULES.md, "Legal moves"). The
 -- order of refusals (docs/RULES.md, "Refusals"): lists 12, 10, 17; tests 12; a move record 12, 11, 17, 15.
-use Rattle.std.specs.Prelude.{ℕ, cond, ◌||◌, List, leb, ltb, length, Bool, Err, Ok, Result}
+use Rattle.std.specs.Prelude.{ℕ, cond, List, leb, ltb, length, Bool, Err, Ok, Result}
 use Rattle.squares.specs.declared.refusal.Refusal.{Refusal}
 use Rattle.squares.specs.Refusals.{refusal}
 use Rattle.positions.specs.Acceptance.{sound}
@@ -12,7 +12,6 @@ use Rattle.positions.specs.declared.moves.Move.{Move}
 use Rattle.positions.specs.declared.position.Position.{Position}
 use Rattle.captures.specs.Lists.{list_of}
 use Rattle.rules.specs.Ordered.{captures, quiets, legal, listed}
-use Rattle.quiets.specs.declared.quiets.Listing.{Listing}
 use Rattle.rules.specs.Lists.{some}
 use Rattle.captures.specs.declared.moves.MoveList.{MoveList}
 
@@ -25,10 +24,6 @@ legal_moves_of p limit =
     cond (sound p)
     (cond (leb limit 256) (listed_of limit (legal (board_of p))) (Err (refusal 10)))
     (Err (refusal 12))
-
--- the same as the code tests it: the mark for more than 256 moves, or a length above the limit
-unfoldable pub within_of : Listing → ℕ → Result MoveList Refusal
-within_of l limit = cond (l.overflow || ltb limit l.list.len) (Err (refusal 17)) (Ok l.list)
 
 unfoldable pub has_captures_of : Position → Result Bool Refusal
 has_captures_of p = cond (sound p) (Ok (some (captures (board_of p)))) (Err (refusal 12))

@@ -15,73 +15,55 @@
 // - Quiet moves: all men's steps in the first forward direction by rising bit, then those in the second. Then the
 //   kings by rising bit, each by direction and distance.
 ghost use Rattle.std.specs.Prelude.{◌≡◌};
-ghost use Rattle.movegen.specs.Generate.{listing_of, generate_of};
-ghost use Rattle.movegen.specs.Lists.{within_of, legal_moves_of, has_captures_of, has_quiet_moves_of, after_of};
+ghost use Rattle.movegen.specs.Generate.{generate_of};
+ghost use Rattle.movegen.specs.Lists.{legal_moves_of, has_captures_of, has_quiet_moves_of, after_of};
 
 use crate::moves::{MAX_MOVES, MoveList};
 use crate::position;
-use captures::movegen::Captures;
 use captures::pieces::{ROOM, all_captures};
 use captures::view::View;
 use positions::moves::Move;
 use positions::position::Position;
-use quiets::quiets::Listing;
 use squares::bitboard;
 use squares::refusal::Refusal;
 
 // A side with more kings than this skips the short list of captures.
 const FEW_KINGS: u32 = 3;
 
-// What a search found, as a list.
-fn listing<const N: usize>(found: &Captures<N>) -> Listing
-    ensures { result ≡ listing_of found.now }
-{
-    Listing {
-        list: found.list(),
-        overflow: found.overflow,
-    }
-}
-
-// All legal moves. A test on sets says first whether a jump is open; if so, only captures are listed. The short list
-// of captures is tried first, and the long one where the short one is too small. Many kings often have more captures
-// than the short list holds, so for them the long one is used at once.
-pub(crate) fn generate(v: View) -> Listing
+// All legal moves, where there are at most 256. A test on sets says first whether a jump is open; if so, only captures
+// are listed. The short list of captures is tried first, and the long one where the short one is too small. Many kings
+// often have more captures than the short list holds, so for them the long one is used at once.
+pub(crate) fn generate(v: View) -> Option<MoveList>
     ensures { result ≡ generate_of v }
 {
     if quiets::quiets::has_capture(v) {
         if bitboard::count(v.own_kings()) <= FEW_KINGS {
             let few = all_captures::<ROOM>(v);
-            if !few.overflow {
-                return listing(&few);
+            if few.len.is_some() {
+                return few.list();
             }
         }
-        return listing(&all_captures::<MAX_MOVES>(v));
+        return all_captures::<MAX_MOVES>(v).list();
     }
     quiets::quiets::quiet_moves(v)
 }
 
-// The list if it has at most `limit` moves, else 17.
-fn within(l: Listing, limit: usize) -> Result<MoveList, Refusal>
-    ensures { result ≡ within_of l limit }
-{
-    let list = l.list;
-    if l.overflow | (limit < list.len) {
-        Err(Refusal::TooManyMoves)
-    } else {
-        Ok(list)
-    }
-}
-
 // All legal moves, at most `limit` of them. Refusals: 12, 10, 17.
+#[tactic(auto, unfolding(crate::specs::Lists::legal_moves_of))]
 pub fn legal_moves(p: Position, limit: usize) -> Result<MoveList, Refusal>
     ensures { result ≡ legal_moves_of p limit }
 {
     Refusal::BadPosition.unless(p.sound())?;
     Refusal::BeyondLimit.unless(limit <= MAX_MOVES)?;
-    within(generate(View::of(p)), limit)
+    let Some(list) = generate(View::of(p)) else {
+        return Err(Refusal::TooManyMoves);
+    };
+    Refusal::TooManyMoves.unless(list.len <= limit)?;
+    Ok(list)
 }
 
 // Whether the side to move has a capture. Refusal: 12.
+#[tactic(auto, unfolding(crate::specs::Lists::has_captures_of))]
 pub fn has_captures(p: Position) -> Result<bool, Refusal>
     ensures { result ≡ has_captures_of p }
 {
@@ -90,6 +72,7 @@ pub fn has_captures(p: Position) -> Result<bool, Refusal>
 }
 
 // Whether the side to move has a quiet move, even where it must capture. Refusal: 12.
+#[tactic(auto, unfolding(crate::specs::Lists::has_quiet_moves_of))]
 pub fn has_quiet_moves(p: Position) -> Result<bool, Refusal>
     ensures { result ≡ has_quiet_moves_of p }
 {
@@ -98,14 +81,15 @@ pub fn has_quiet_moves(p: Position) -> Result<bool, Refusal>
 }
 
 // The position after a legal move, with its hash. Refusals: 12, 11, 17, 15.
+#[tactic(auto, unfolding(crate::specs::Lists::after_of))]
 pub fn after(p: Position, m: Move) -> Result<Position, Refusal>
     ensures { result ≡ after_of p m }
 {
     Refusal::BadPosition.unless(p.sound())?;
     Refusal::NoSuchSquare.unless(m.on_board())?;
-    let l = generate(View::of(p));
-    Refusal::TooManyMoves.unless(!l.overflow)?;
-    let list = l.list;
+    let Some(list) = generate(View::of(p)) else {
+        return Err(Refusal::TooManyMoves);
+    };
     Refusal::NoMoveFits.unless(list.contains(m))?;
     Ok(position::play(p, m))
 }

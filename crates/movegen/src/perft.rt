@@ -15,13 +15,12 @@ ghost use Rattle.std.specs.Int.Bits.{bit_xor};
 ghost use Rattle.squares.specs.Squares.{single};
 ghost use Rattle.positions.specs.Acceptance.{Accepted};
 ghost use Rattle.captures.specs.View.{own_men_of, own_kings_of, empty_of};
-ghost use Rattle.movegen.specs.Generate.{seen, listing_of, capture_moves_of, next_of};
+ghost use Rattle.movegen.specs.Generate.{seen, capture_moves_of, next_of};
 ghost use Rattle.movegen.specs.LastPly.{limited_count, listed_count, last_ply_of};
 ghost use Rattle.movegen.specs.Counts.{depth_count, perft_of, divided_of, divide_of};
 
 use crate::moves::{MAX_MOVES, MoveList};
 use crate::{movegen, playing};
-use captures::movegen::Captures;
 use captures::pieces::{ROOM, all_captures};
 use captures::view::View;
 use positions::moves::Move;
@@ -49,6 +48,7 @@ fn moved(set: Bitboard, from: Square, to: Square) -> Bitboard
 }
 
 // The board after a move, as the other side sees it.
+#[tactic(auto, unfolding(crate::specs::Generate::next_of))]
 fn next(v: View, mv: Move) -> View
     ensures { result ≡ next_of v mv }
 {
@@ -58,11 +58,12 @@ fn next(v: View, mv: Move) -> View
         us: bitboard::difference(v.them, mv.captured),
         them: moved(v.us, mv.from, mv.to),
         kings: playing::kings_played(side, kept, mv.from, mv.to),
-        side: side.not(),
+        side: !side,
     }
 }
 
 // A number of moves, or 17 where it is above 256.
+#[tactic(auto, unfolding(crate::specs::LastPly::limited_count))]
 fn limited(moves: u32) -> Result<u64, Refusal>
     ensures { result ≡ limited_count moves }
 {
@@ -73,27 +74,18 @@ fn limited(moves: u32) -> Result<u64, Refusal>
     }
 }
 
-// The number of moves that a search found, or 17 where it found more than 256.
-#[tactic(auto, unfolding(crate::specs::LastPly::listed_count, captures::specs::Record::list_in))]
-fn listed(found: &Captures<256>) -> Result<u64, Refusal>
-    ensures { result ≡ listed_count (listing_of found.now) }
-{
-    if found.overflow {
-        Err(Refusal::TooManyMoves)
-    } else {
-        Ok(found.len as u64)
-    }
-}
-
-// The number of captures, from a short list, or from the long one where the short one is too small.
+// The number of captures, or 17 where there are more than 256: from a short list, or from the long one where the short
+// one is too small.
 fn captures_count(v: View) -> Result<u64, Refusal>
     ensures { result ≡ listed_count (capture_moves_of (own_men_of v) (own_kings_of v) v.them (empty_of v)) }
 {
     let few = all_captures::<ROOM>(v);
-    if !few.overflow {
-        return Ok(few.len as u64);
+    if let Some(len) = few.len {
+        return Ok(len as u64);
     }
-    listed(&all_captures::<MAX_MOVES>(v))
+    let all = all_captures::<MAX_MOVES>(v);
+    let len = all.len.ok_or(Refusal::TooManyMoves)?;
+    Ok(len as u64)
 }
 
 // The number of legal moves: the last ply of a count needs no more. Where no jump is open no list is made, and the long
@@ -119,11 +111,9 @@ fn count(v: View, depth: u32) -> Result<u64, Refusal>
     if depth == 1 {
         return last_ply(v);
     }
-    let l = movegen::generate(v);
-    if l.overflow {
+    let Some(list) = movegen::generate(v) else {
         return Err(Refusal::TooManyMoves);
-    }
-    let list = l.list;
+    };
     let mut sum: u64 = 0;
     for i in 0..list.len {
         sum += count(next(v, list.moves[i]), depth - 1)?;
@@ -132,6 +122,7 @@ fn count(v: View, depth: u32) -> Result<u64, Refusal>
 }
 
 // The depth count of a position. Refusals: 12, 10, 17.
+#[tactic(auto, unfolding(crate::specs::Counts::perft_of))]
 pub fn perft(p: Position, depth: u32) -> Result<u64, Refusal>
     ensures { result ≡ perft_of p depth }
 {
@@ -145,11 +136,9 @@ fn split(v: View, plies: u32) -> Result<Divided, Refusal>
     requires { Accepted (seen v) × (plies ≤ 6) }
     ensures { result ≡ divided_of plies (seen v) }
 {
-    let l = movegen::generate(v);
-    if l.overflow {
+    let Some(list) = movegen::generate(v) else {
         return Err(Refusal::TooManyMoves);
-    }
-    let list = l.list;
+    };
     let mut counts = [0u64; 256];
     for i in 0..list.len {
         counts[i] = count(next(v, list.moves[i]), plies)?;
@@ -158,6 +147,7 @@ fn split(v: View, plies: u32) -> Result<Divided, Refusal>
 }
 
 // The depth count split by first move. Depth 0 is read as 1. Refusals: 12, 10, 17.
+#[tactic(auto, unfolding(crate::specs::Counts::divide_of))]
 pub fn divide(p: Position, depth: u32) -> Result<Divided, Refusal>
     ensures { result ≡ divide_of p depth }
 {

@@ -11,11 +11,12 @@ use squares::{bitboard, square, zobrist};
 // The hash is updated, not computed afresh, as in the Rust. For a move that can be played the result is the successor
 // with its own hash (`play_is` in crates/positions/proofs/Plays.antt); for any other move it is what the formulas
 // give.
+#[tactic(auto, unfolding(positions::specs::Successor::play_of))]
 pub(crate) fn play(p: Position, mv: Move) -> Position
     ensures { result ≡ play_of p mv }
 {
     let us = p.side;
-    let them = us.not();
+    let them = !us;
     let from = mv.from;
     let to = mv.to;
     let captured = mv.captured;

@@ -1,17 +1,16 @@
--- Reading a move's text: one separator is enough to split at; one square more a turn.
+-- Reading a move's text: one separator is enough to split at; one square more.
 use Rattle.std.specs.Prelude.{Err, Ok, Result}
-use Prim.Native.Nat.{ℕ, ◌+◌, ◌-◌, ◌≤◌, ◌<◌}
+use Rattle.std.specs.List.{list_any}
+use Prim.Native.Nat.{ℕ, ◌+◌}
 use mathlib.Core.Path.{◌≡◌, refl, sym, ap, ap₂, ◌∙◌}
 use mathlib.Core.List.{List, [], ◌∷◌}
 use mathlib.Core.Bool.{Bool, true, false, cond, ◌&&◌, ◌||◌}
-use lib.ListN.{length, take, drop}
 use native.Mathlib.Omega.{arith}
 use lib.Dec.{eqb, leb}
 use lib.Bits.{bit_or}
 use borrow.Author.Tests.{eqb-true, eq-eqb, ne_eqb}
 use Rattle.squares.specs.Squares.{single}
-use Rattle.texts.specs.Bytes.{is, holds, split_on, up_to, read_square, parts_from}
-use Rattle.texts.proofs.Cuts.{parts_start, part_step, parts_none}
+use Rattle.texts.specs.Bytes.{is, holds, split_on, read_square}
 use Rattle.texts.proofs.ListLaws.{lacks_held, split_agree}
 use Rattle.notation.specs.Notation.{at_cut, malformed, unsaid, as_first, as_second, as_later, heard_square, on_square, heard_squares, well_formed, in_form, heard_trimmed}
 use Rattle.notation.specs.declared.notation.Said.{Said}
@@ -29,6 +28,12 @@ split_dash s h = split_agree at_cut (is 45) (is 120) (λ b e. ap (λ (x : Bool).
 pub split_cross : (s : List ℕ) → holds 45 s ≡ false → split_on at_cut s ≡ split_on (is 120) s
 unfolding at_cut
 split_cross s h = split_agree at_cut (is 120) (is 45) (λ b e. ap (λ (x : Bool). x || is 120 b) e) s (lacks_held 45 s h)
+
+-- a byte is held where some byte equals it
+pub holds_any : (c : ℕ) (s : List ℕ) → list_any (λ b. eqb b c) s ≡ holds c s
+unfolding holds
+holds_any c [] = refl
+holds_any c (b ∷ s) = ap (λ (t : Bool). eqb b c || t) (holds_any c s)
 
 -- ---- one square more
 pub kept : (h : Said) (n : ℕ) → (heard_square h n).capture ≡ h.capture
@@ -71,25 +76,6 @@ unfolding heard_square
 later_heard h n b z o e =
     ap {B = Said} (λ (x : ℕ). record { capture = h.capture; first = h.first; second = h.second; last = n; count = h.count + 1; rest = bit_or h.rest x }) e
     ∙ sym (ap₂ (λ (s t : Bool). cond s (as_first h n) (cond t (as_second h n) (as_later h n))) (ne_eqb h.count 0 z) (ne_eqb h.count 1 o))
-
-pub none : (x : Bool) → (unsaid x).count ≡ 0
-unfolding unsaid
-none x = refl
-
--- from the start
-pub opened : (c : ℕ) (s : List ℕ) (h : Said) (x : Bool) → h ≡ unsaid x → heard_squares (unsaid x) (split_on (is c) s) ≡ heard_squares h (parts_from (is c) s 0)
-opened c s h x e = ap₂ heard_squares (sym e) (sym (parts_start (is c) s))
-
--- u is what stands before the next separator, a what it says
-pub heard_turn : (c : ℕ) (s : List ℕ) (at : ℕ) (u : List ℕ) (h : Said) (a : Result ℕ Refusal) → at ≤ length s
-    → u ≡ up_to c (take (length s - at) (drop at s)) → a ≡ read_square u
-    → heard_squares h (parts_from (is c) s at) ≡ on_square a (λ n. heard_squares (heard_square h n) (parts_from (is c) s (at + length u + 1)))
-unfolding heard_squares
-heard_turn c s at u h a l e f = ap (heard_squares h) (part_step c s at u l e) ∙ rw (← f)
-
-pub heard_end : (c : ℕ) (s : List ℕ) (at : ℕ) (h : Said) → length s < at → heard_squares h (parts_from (is c) s at) ≡ Ok h
-unfolding heard_squares
-heard_end c s at h l = ap (heard_squares h) (parts_none (is c) s at l)
 
 -- ---- the form
 

@@ -26,7 +26,7 @@ use Rattle.movegen.specs.Lists.{listed_of, legal_moves_of}
 use Rattle.notation.specs.Choice.{as_hub, by_ends, or_else, fitting, only, choice_of, answered, fit_of, one_more}
 use Rattle.notation.specs.declared.notation.Said.{Said}
 use Rattle.notation.specs.declared.notation.Choice.{Choice}
-use Rattle.notation.specs.declared.notation.Choice.TheVariants.{Nothing, One, Several}
+use Rattle.notation.specs.declared.notation.Choice.TheVariants.{Nothing}
 
 -- ---- one entry more
 choice_snoc : (l : List Move) (m : Move) → choice_of (l ++ (m ∷ [])) ≡ one_more (choice_of l) m
@@ -51,30 +51,33 @@ pub search_none : (p : Move → Bool) (l : List Move) → Nothing ≡ choice_of 
 unfolding choice_of keep
 search_none p l = refl
 
--- past the end there is nothing more
-pub search_all : (p : Move → Bool) (l : List Move) (n i : ℕ) → i ≡ min n (length l) → choice_of (keep p (take i l)) ≡ choice_of (keep p (take n l))
-search_all p l n i h = ap (λ (x : List Move). choice_of (keep p x)) (go (leb n (length l)) refl)
+-- past the end there is nothing more; m is at most 256
+pub search_all : (p : Move → Bool) (l : List Move) (n m i : ℕ) → m ≡ min n 256 → length l ≡ 256 → length (take m l) ≤ i → choice_of (keep p (take i (take m l))) ≡ choice_of (keep p (take n l))
+search_all p l n m i h k e = ap (λ (x : List Move). choice_of (keep p x)) (take_all i (take m l) e ∙ go (leb n 256) refl)
   where
-    go : (t : Bool) → leb n (length l) ≡ t → take i l ≡ take n l
-    go true e = let k : n ≤ length l = leb-true _ _ e in ap (λ (k : ℕ). take k l) (omega (arith, h, k))
-    go false e = let k : length l ≤ n = omega (arith, leb-false _ _ e) in take_all i l (omega (arith, h, k)) ∙ sym (take_all n l k)
+    go : (t : Bool) → leb n 256 ≡ t → take m l ≡ take n l
+    go true e = let k : n ≤ 256 = leb-true _ _ e in ap (λ (k : ℕ). take k l) (omega (arith, h, k))
+    go false e = let j : 256 ≤ n = omega (arith, leb-false _ _ e) in take_all m l (omega (arith, h, j, k)) ∙ sym (take_all n l (omega (arith, j, k)))
 
 -- ---- Hub first
--- the first choice, the second where the first is none
-abbrev pub or_choice : Choice → Choice → Choice
-or_choice Nothing d = d
-or_choice (One m) d = One m
-or_choice Several d = Several
+-- a move fits as Hub
+pub choose_hub : (h : Said) (l : List Move) (a : Choice) → 2 < h.count → a ≡ choice_of (keep (as_hub h) l) → (a ≡ Nothing → ⊥) → a ≡ choice_of (fitting h l)
+unfolding fitting choice_of or_else
+choose_hub h l a c e n = rw (lt-ltb 2 h.count c) (go (keep (as_hub h) l) e)
+  where
+    go : (k : List Move) → a ≡ choice_of k → a ≡ choice_of (or_else k (keep (by_ends h) l))
+    go [] e = absurd (n e)
+    go (x ∷ k) e = e
 
-choice_or : (k l : List Move) → choice_of (or_else k l) ≡ or_choice (choice_of k) (choice_of l)
-unfolding choice_of or_else
-choice_or [] l = refl
-choice_or (x ∷ []) l = refl
-choice_or (x ∷ (y ∷ k)) l = refl
-
-pub choose_hub : (h : Said) (l : List Move) (a : Choice) → 2 < h.count → a ≡ choice_of (keep (as_hub h) l) → choice_of (fitting h l) ≡ or_choice a (choice_of (keep (by_ends h) l))
-unfolding fitting
-choose_hub h l a c e = rw (lt-ltb 2 h.count c, e) (choice_or (keep (as_hub h) l) (keep (by_ends h) l))
+-- none does
+pub choose_none : (h : Said) (l : List Move) → 2 < h.count → Nothing ≡ choice_of (keep (as_hub h) l) → choice_of (fitting h l) ≡ choice_of (keep (by_ends h) l)
+unfolding fitting choice_of or_else
+choose_none h l c e = rw (lt-ltb 2 h.count c) (go (keep (as_hub h) l) e)
+  where
+    go : (k : List Move) → Nothing ≡ choice_of k → choice_of (or_else k (keep (by_ends h) l)) ≡ choice_of (keep (by_ends h) l)
+    go [] e = refl
+    go (x ∷ []) e = absurd (let z : ◌≡◌ {A = ℕ} 0 1 = cc in omega arith)
+    go (x ∷ (y ∷ k)) e = absurd (let z : ◌≡◌ {A = ℕ} 0 1 = cc in omega arith)
 
 pub choose_ends : (h : Said) (l : List Move) → h.count ≤ 2 → choice_of (fitting h l) ≡ choice_of (keep (by_ends h) l)
 unfolding fitting

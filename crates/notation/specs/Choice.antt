@@ -1,7 +1,7 @@
 -- Which legal move a text means (docs/RULES.md, "Move texts"). It must be of the text's kind, capture or not, and
 -- begin on its first square. A text of three or more squares is tried as Hub text first: first square, last square,
 -- taken squares. If no move fits so, and for a text of two squares, the first and the last square decide.
-use Rattle.std.specs.Prelude.{ℕ, List, [], ◌∷◌, Bool, true, false, cond, ◌&&◌, eqb, leb, ltb, length, Err, Ok, Result}
+use Rattle.std.specs.Prelude.{◌≡◌, ℕ, List, [], ◌∷◌, Bool, cond, ◌&&◌, eqb, leb, ltb, length, Err, Ok, Result}
 use Rattle.std.specs.Bool.{beq}
 use Rattle.squares.specs.Refusals.{refusal}
 use Rattle.positions.specs.Acceptance.{sound}
@@ -62,16 +62,15 @@ parse_move_of p s = cond (sound p) (fit_heard p (read_move_of s)) (Err (refusal 
 
 -- ---- the same as the code computes it
 
--- as Hub text, or by first and last square
-abbrev pub fits : Said → Bool → Move → Bool
-fits h true = as_hub h
-fits h false = by_ends h
-
 -- no move, one, or several
 unfoldable pub choice_of : List Move → Choice
 choice_of [] = Nothing
 choice_of (m ∷ []) = One m
 choice_of (m ∷ (n ∷ l)) = Several
+
+-- where the test computes p, c is the choice among the moves for which p holds
+abbrev pub Chooses : (Move → Bool → Type 0) → List Move → Choice → Type 0
+Chooses test l c = (p : Move → Bool) → ((m : Move) (r : Bool) → test m r → r ≡ p m) → c ≡ choice_of (keep p l)
 
 -- one more move fits
 abbrev pub one_more : Choice → Move → Choice

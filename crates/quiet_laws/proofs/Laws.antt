@@ -4,18 +4,16 @@ use mathlib.Core.Bool.{true, false, false≢true}
 use mathlib.Core.List.{◌++◌, map}
 use mathlib.Core.Logic.{◌↔◌}
 use lib.ListN.{length}
-use lib.Dec.{ltb}
 use Rattle.squares.specs.declared.piece.PieceKind.TheVariants.{Man, King}
 use Rattle.squares.proofs.Bools.{not_so}
 use Rattle.positions.specs.Boards.{Board, enemy, empty, pieces}
-use Rattle.captures.specs.Lists.{list_of}
+use Rattle.captures.specs.Lists.{whole_list}
 use Rattle.rules.specs.Ordered.{captures, quiets, legal}
 use Rattle.rules.specs.Rules.{numbered, Open, NoJump, Fair}
 use Rattle.rules.proofs.Laws.{quiet_list}
-use Rattle.quiets.specs.Quiets.{listing, men_quiets, king_quiets, all_quiets, quiet_moves_of}
+use Rattle.quiets.specs.Quiets.{men_quiets, king_quiets, all_quiets, quiet_moves_of}
 use Rattle.quiets.specs.Tests.{has_quiet_of, has_capture_of}
 use Rattle.rules.specs.Lists.{some}
-use Rattle.quiet_laws.proofs.Filled.{filled, fill_law}
 use Rattle.quiet_laws.proofs.HasCapture.{open_tested, capture_test}
 use Rattle.quiet_laws.proofs.HasQuiet.{quiet_test}
 use Rattle.quiet_laws.proofs.Lists.{lists_law}
@@ -46,10 +44,9 @@ module _ (b : Board) (fair : Fair b) where
 
   -- the quiet list is the list of legal moves
   pub legal_filled : has_capture_of (pieces b Man) (pieces b King) (enemy b) (empty b) ≡ false
-      → quiet_moves_of (pieces b Man) (pieces b King) (empty b) b.side ≡ listing (list_of (legal b)) (ltb 256 (length (legal b)))
+      → quiet_moves_of (pieces b Man) (pieces b King) (empty b) b.side ≡ whole_list (legal b)
   unfolding quiet_moves_of all_quiets
-  legal_filled e =
-      fill_law (men_quiets (pieces b Man) (empty b) b.side ++ king_quiets (pieces b King) (empty b)) ∙ ap filled (quiet_moves ∙ sym (quiets_legal e))
+  legal_filled e = ap whole_list (quiet_moves ∙ sym (quiets_legal e))
 
   -- and their number, for which no list is needed
   pub legal_number : has_capture_of (pieces b Man) (pieces b King) (enemy b) (empty b) ≡ false

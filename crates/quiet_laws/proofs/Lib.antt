@@ -1,6 +1,5 @@
 pub mod Some
 pub mod Walks
-pub mod Filled
 pub mod Lists
 pub mod HasQuiet
 pub mod HasCapture

@@ -1,4 +1,5 @@
 pub mod Some
 pub mod Added
+pub mod Filled
 pub mod Forward
 pub mod Counts

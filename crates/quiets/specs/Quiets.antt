@@ -1,7 +1,7 @@
 -- The quiet moves in the order of the list (docs/RULES.md, "Quiet moves", "Order of the list"): the men's by direction,
 -- then by the bit reached; then the kings' by bit, by direction, near to far.
-use Rattle.std.specs.Prelude.{Bool, false, ◌||◌, ℕ, ◌+◌, ◌-◌, ◌^◌, leb}
-use mathlib.Core.List.{List, ◌++◌, map, foldl, flat_map}
+use Rattle.std.specs.Prelude.{ℕ, ◌+◌, ◌-◌, ◌^◌, cond, Option, Some, None, option_and_then, ltb, set}
+use mathlib.Core.List.{List, [], ◌∷◌, ◌++◌, map, flat_map}
 use Rattle.std.specs.Int.Bits.{bit_and}
 use Rattle.squares.specs.Sets.{members}
 use Rattle.squares.specs.Squares.{first_of}
@@ -10,18 +10,24 @@ use Rattle.squares.specs.declared.piece.Color.{Color}
 use Rattle.positions.specs.declared.moves.Move.{Move}
 use Rattle.positions.specs.Moves.{move}
 use Rattle.captures.specs.declared.moves.MoveList.{MoveList}
-use Rattle.captures.specs.Lists.{no_moves, push_of}
+use Rattle.captures.specs.Lists.{whole_list}
 use Rattle.captures.specs.Rays.{far, landings}
 use Rattle.captures.specs.Walks.{up_to}
-use Rattle.quiets.specs.declared.quiets.Listing.{Listing}
 use Rattle.quiets.specs.Tests.{forward_of}
 
-abbrev pub listing : MoveList → Bool → Listing
-listing l o = record { list = l; overflow = o }
+-- the list, where the moves put in had room
+abbrev pub kept : MoveList → Option Unit → Option MoveList
+kept l None = None
+kept l (Some u) = Some l
 
--- one more move where there is room; a full list is marked
-abbrev pub add_of : Listing → Move → Listing
-add_of l m = listing (push_of l.list m) (l.overflow || leb 256 l.list.len)
+-- one more move at the end, where there is room
+unfoldable pub put_of : MoveList → Move → Option MoveList
+put_of l m = cond (ltb l.len 256) (Some (record { moves = set l.moves l.len m; len = l.len + 1 })) None
+
+-- more moves, one after the other, where there is room for all
+unfoldable pub put_all : MoveList → List Move → Option MoveList
+put_all l [] = Some l
+put_all l (m ∷ ms) = option_and_then (λ k. put_all k ms) (put_of l m)
 
 -- the quiet move between two squares, each given as a set of one bit
 abbrev pub quiet_move : ℕ → ℕ → Move
@@ -55,6 +61,6 @@ king_quiets kings empty = flat_map (flights empty) (members kings)
 unfoldable pub all_quiets : ℕ → ℕ → ℕ → Color → List Move
 all_quiets men kings empty side = men_quiets men empty side ++ king_quiets kings empty
 
--- the same as a list of at most 256, with the mark
-unfoldable pub quiet_moves_of : ℕ → ℕ → ℕ → Color → Listing
-quiet_moves_of men kings empty side = foldl add_of (listing no_moves false) (all_quiets men kings empty side)
+-- the same as a list, where there are at most 256
+unfoldable pub quiet_moves_of : ℕ → ℕ → ℕ → Color → Option MoveList
+quiet_moves_of men kings empty side = whole_list (all_quiets men kings empty side)

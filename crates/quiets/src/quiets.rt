@@ -11,22 +11,25 @@ ghost use Rattle.std.specs.Prelude.{◌≡◌, ◌<◌, length};
 ghost use Rattle.squares.specs.Sets.{members};
 ghost use Rattle.captures.specs.View.{own_men_of, own_kings_of, empty_of};
 ghost use Rattle.quiets.specs.Tests.{forward_of, steps_open, has_quiet_of, men_jump, king_open, any_in, has_capture_of};
-ghost use Rattle.quiets.specs.Quiets.{quiet_moves_of, flight_of, flights, king_quiets, all_quiets};
+ghost use Rattle.quiets.specs.Quiets.{
+  kept,
+  put_of,
+  put_all,
+  men_steps,
+  flight_of,
+  flights,
+  king_quiets,
+  all_quiets,
+  quiet_moves_of,
+};
 
 use captures::movegen;
-use captures::moves::{BLANK, MAX_MOVES, MoveList};
+use captures::moves::{MAX_MOVES, MoveList};
 use captures::view::View;
 use positions::moves::Move;
 use squares::bitboard;
 use squares::bitboard::{Bitboard, Members};
 use squares::piece::Color;
-
-// A list of moves, and whether there were more than it has room for.
-#[derive(Clone, Copy)]
-pub struct Listing {
-    pub list: MoveList,
-    pub overflow: bool,
-}
 
 // The index of the first of a man's two forward directions; the other has the next index. White goes up, Black down.
 fn forward(side: Color) -> usize
@@ -96,64 +99,97 @@ pub fn has_capture(v: View) -> bool
     c | kings_open(v)
 }
 
-// All quiet moves: the men's by direction, then by the bit reached; then the kings' by bit, by direction, near to far.
-// It is one function with a local array: a list handed from one function to the next would be copied each time.
-pub fn quiet_moves(v: View) -> Listing
+// One more move at the end of the list, where there is room.
+#[tactic(auto, unfolding(crate::specs::Quiets::put_of))]
+#[inline(always)]
+fn put(list: &mut MoveList, mv: Move) -> Option<()>
+    ensures { kept list.new result ≡ put_of list.old mv }
+{
+    let len = list.len;
+    if len < MAX_MOVES {
+        list.moves[len] = mv;
+        list.len = len + 1;
+        Some(())
+    } else {
+        None
+    }
+}
+
+// The men's steps in direction `d`, by the bit reached.
+#[inline(always)]
+fn put_steps(list: &mut MoveList, men: Bitboard, empty: Bitboard, d: usize) -> Option<()>
+    requires { d < 4 }
+    ensures { kept list.new result ≡ put_all list.old (men_steps men empty d) }
+{
+    for bit in Members(bitboard::shift(men, d) & empty) {
+        let at = 1u64 << bit;
+        let back = bitboard::shift(at, 3 - d);
+        let mv = Move {
+            captured: 0,
+            from: bitboard::first(back),
+            to: bitboard::first(at),
+        };
+        put(list, mv)?;
+    }
+    Some(())
+}
+
+// The moves of the king on `at` in direction `d`, near to far.
+#[inline(always)]
+fn put_flight(list: &mut MoveList, at: Bitboard, empty: Bitboard, d: usize) -> Option<()>
+    ensures { kept list.new result ≡ put_all list.old (flight_of at empty d) }
+{
+    let from = bitboard::first(at);
+    let mut land = bitboard::shift(at, d) & empty;
+    // The loop shifts a set until it is empty: there is no range to go over.
+    while land != 0 {
+        let mv = Move {
+            captured: 0,
+            from: from,
+            to: bitboard::first(land),
+        };
+        put(list, mv)?;
+        land = bitboard::shift(land, d) & empty;
+    }
+    Some(())
+}
+
+// The moves of the king at this bit, by direction.
+#[inline(always)]
+fn put_king(list: &mut MoveList, bit: u32, empty: Bitboard) -> Option<()>
+    requires { bit < 64 }
+    ensures { kept list.new result ≡ put_all list.old (flights empty bit) }
+{
+    let at = 1u64 << bit;
+    for d in 0..4 {
+        put_flight(list, at, empty, d)?;
+    }
+    Some(())
+}
+
+// The moves of all kings, by bit.
+#[inline(always)]
+fn put_kings(list: &mut MoveList, kings: Bitboard, empty: Bitboard) -> Option<()>
+    ensures { kept list.new result ≡ put_all list.old (king_quiets kings empty) }
+{
+    for bit in Members(kings) {
+        put_king(list, bit, empty)?;
+    }
+    Some(())
+}
+
+// All quiet moves, where there are at most 256: the men's by direction, then the kings'. The list is filled in place.
+pub fn quiet_moves(v: View) -> Option<MoveList>
     ensures { result ≡ quiet_moves_of (own_men_of v) (own_kings_of v) (empty_of v) v.side }
 {
     let men = v.men();
     let empty = v.empty();
     let first = forward(v.side);
-    let mut moves = [BLANK; 256];
-    let mut len: usize = 0;
-    let mut overflow = false;
-    for k in 0..2 {
-        let d = first + k;
-        for bit in Members(bitboard::shift(men, d) & empty) {
-            let at = 1u64 << bit;
-            let back = bitboard::shift(at, 3 - d);
-            let mv = Move {
-                captured: 0,
-                from: bitboard::first(back),
-                to: bitboard::first(at),
-            };
-            if len < MAX_MOVES {
-                moves[len] = mv;
-                len += 1;
-            } else {
-                overflow = true;
-            }
-        }
-    }
-    for bit in Members(v.own_kings()) {
-        let king = 1u64 << bit;
-        let from = bitboard::first(king);
-        for dir in 0..4 {
-            let mut land = bitboard::shift(king, dir) & empty;
-            while land != 0 {
-                let mv = Move {
-                    captured: 0,
-                    from: from,
-                    to: bitboard::first(land),
-                };
-                if len < MAX_MOVES {
-                    moves[len] = mv;
-                    len += 1;
-                } else {
-                    overflow = true;
-                }
-                land = bitboard::shift(land, dir) & empty;
-            }
-        }
-    }
-    let list = MoveList {
-        moves: moves,
-        len: len,
-    };
-    Listing {
-        list: list,
-        overflow: overflow,
-    }
+    let mut list = MoveList::new();
+    put_steps(&mut list, men, empty, first)?;
+    put_steps(&mut list, men, empty, first + 1)?;
+    put_kings(&mut list, v.own_kings(), empty)?;
+    Some(list)
 }
 
 // The number of squares that a king on `at` can reach in direction `d`.
@@ -162,6 +198,7 @@ fn flight_count(at: Bitboard, empty: Bitboard, d: usize) -> u32
 {
     let mut n = 0u32;
     let mut to = bitboard::shift(at, d) & empty;
+    // As in `put_flight`, there is no range to go over.
     while to != 0 {
         n += 1;
         to = bitboard::shift(to, d) & empty;

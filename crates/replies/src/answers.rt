@@ -15,6 +15,7 @@ use texts::space::Space;
 use texts::{fen, hub};
 use wording::output;
 
+#[tactic(auto, using(crate::proofs::Told::fen_rules))]
 pub fn put_fen(out: &mut Space, p: Position)
     ensures { out.new ≡ over (fen_word p) out.old }
 {
@@ -25,6 +26,7 @@ pub fn put_fen(out: &mut Space, p: Position)
     }
 }
 
+#[tactic(auto, using(crate::proofs::Told::hub_rules))]
 fn put_hub(out: &mut Space, p: Position)
     ensures { out.new ≡ over (hub_word p) out.old }
 {
@@ -105,6 +107,7 @@ pub fn tell_scored(out: &mut Space, s: Result<i32, Refusal>)
     }
 }
 
+#[tactic(auto, unfolding(crate::specs::Answers::yes_no))]
 fn yes_no(yes: bool) -> u8
     ensures { result ≡ yes_no yes }
 {
@@ -136,6 +139,7 @@ pub fn tell_counted(out: &mut Space, c: Result<u64, Refusal>)
 }
 
 // A move's Hub text.
+#[tactic(auto, using(crate::proofs::Told::move_rules))]
 pub fn put_move(out: &mut Space, m: Move)
     ensures { out.new ≡ over (move_word m) out.old }
 {
@@ -147,11 +151,11 @@ pub fn put_move(out: &mut Space, m: Move)
 }
 
 // The moves of a list, a space before each.
+#[tactic(auto, using(crate::proofs::Listing::moves_none, crate::proofs::Listing::moves_next))]
 fn put_moves(out: &mut Space, list: MoveList)
     ensures { out.new ≡ over (moves_text list.moves (min list.len 256)) out.old }
 {
-    for i in 0..list.len.min(MAX_MOVES) {
-        let m = list.moves[i];
+    for &m in &list.moves[..list.len.min(MAX_MOVES)] {
         out.put_byte(b' ');
         put_move(out, m);
     }
@@ -172,15 +176,15 @@ pub fn tell_list(out: &mut Space, l: Result<MoveList, Refusal>)
 }
 
 // The moves of a list, each with its count.
+#[tactic(auto, using(crate::proofs::Listing::counts_none, crate::proofs::Listing::counts_next))]
 fn put_counts(out: &mut Space, list: MoveList, counts: [u64; 256])
     ensures { out.new ≡ over (counts_text list.moves counts (min list.len 256)) out.old }
 {
-    for i in 0..list.len.min(MAX_MOVES) {
-        let m = list.moves[i];
+    for (&m, &count) in list.moves[..list.len.min(MAX_MOVES)].iter().zip(&counts) {
         out.put_byte(b' ');
         put_move(out, m);
         out.put_byte(b'=');
-        output::put_decimal(out, counts[i]);
+        output::put_decimal(out, count);
     }
 }
 

@@ -18,11 +18,11 @@ use Rattle.games.proofs.Laws.{demand3}
 use Rattle.notation.specs.Choice.{fit_of}
 use Rattle.notation.specs.Notation.{read_move_of}
 use Rattle.notation.specs.declared.notation.Said.{Said}
-use Rattle.gametexts.specs.Texts.{beside, play_found, play_said, play_heard, play_str_of}
+use Rattle.gametexts.specs.Texts.{beside, play_found, play_said, play_heard, play_str_of, played_on}
 use Rattle.gametexts.specs.declared.game.PlayedText.{PlayedText}
 use Rattle.wording.specs.Escapes.{undone}
 use Rattle.wording.specs.Output.{decimal}
-use Rattle.requests.specs.Plays.{record_of, play_text_of, play_record_of, text_told, record_told, played_on, game_text}
+use Rattle.requests.specs.Plays.{record_of, play_text_of, play_record_of, text_told, record_told, game_text}
 use Rattle.replies.specs.States.{end_text}
 use Rattle.requests.specs.declared.plays.Given.TheVariants as given
 use Rattle.squares.specs.declared.refusal.Refusal.{Refusal}

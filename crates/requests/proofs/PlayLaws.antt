@@ -11,11 +11,11 @@ use Rattle.texts.specs.Bytes.{up_to, after_first, readable, longest_text}
 use Rattle.notation.specs.Notation.{read_move_of}
 use Rattle.games.specs.Games.{valid}
 use Rattle.games.specs.declared.game.Game.{Game}
-use Rattle.gametexts.specs.Texts.{play_str_of}
+use Rattle.gametexts.specs.Texts.{play_str_of, played_on}
 use Rattle.gametexts.specs.declared.game.PlayedText.{PlayedText}
 use Rattle.wording.specs.Escapes.{undone, Undid}
 use Rattle.wording.specs.Numbers.{unsigned_of, set_of}
-use Rattle.requests.specs.Plays.{record_of, is_record_of, all_records, play_text_of, play_word_of, word_told, played_on, game_text}
+use Rattle.requests.specs.Plays.{record_of, is_record_of, all_records, play_text_of, play_word_of, word_told, game_text}
 use Rattle.replies.specs.States.{end_text}
 use Rattle.requests.specs.declared.plays.Given.{Given}
 use Rattle.requests.proofs.Readings.{cut, cut_part}

@@ -8,7 +8,7 @@ use Rattle.texts.specs.Bytes.{bytes, parts_at, up_to, after_first}
 use Rattle.games.specs.Play.{new_of, play_of, outcome_of}
 use Rattle.games.specs.declared.game.Game.{Game}
 use Rattle.games.specs.Demand3.{game_of}
-use Rattle.gametexts.specs.Texts.{beside, play_str_of}
+use Rattle.gametexts.specs.Texts.{beside, play_str_of, played_on}
 use Rattle.gametexts.specs.declared.game.PlayedText.{PlayedText}
 use Rattle.wording.specs.Output.{decimal, number_word, bad}
 use Rattle.wording.specs.Numbers.{unsigned_of, set_of}
@@ -80,11 +80,6 @@ record_told r = code " " ∷ decimal (answer_number_of r)
 abbrev pub word_told : Given → Result PlayedText Refusal → List ℕ
 word_told given.Text r = text_told r
 word_told given.Record r = record_told r
-
--- the game that is played on: a refused word changes nothing
-abbrev pub played_on : Game → Result PlayedText Refusal → Game
-played_on g (Ok r) = r.game
-played_on g (Err e) = g
 
 -- each play gets the game that the plays before it led to
 unfoldable pub game_text : Given → Game → List (List ℕ) → List ℕ

@@ -6,7 +6,8 @@
 // ` | FEN OUTCOME COUNT1 COUNT2 TIMES MOVES`.
 ghost use Rattle.std.specs.Prelude.{◌≡◌};
 ghost use Rattle.texts.specs.Lent.{over};
-ghost use Rattle.requests.specs.Plays.{record_of, is_record_of, all_records, words_of, play_text_of, play_record_of, play_word_of, text_told, record_told, word_told, played_on, game_text, game_answer, play_request, record_request, outcome_request};
+ghost use Rattle.gametexts.specs.Texts.{played_on};
+ghost use Rattle.requests.specs.Plays.{record_of, is_record_of, all_records, words_of, play_text_of, play_record_of, play_word_of, text_told, record_told, word_told, game_text, game_answer, play_request, record_request, outcome_request};
 
 use games::game::Game;
 use gametexts::game::PlayedText;

@@ -33,6 +33,7 @@ pub fn wrapping_mul(a: u64, b: u64) -> u64
 }
 
 // Draws once from a state.
+#[tactic(auto, unfolding(crate::specs::Keys::splitmix64_of, crate::specs::Keys::advance, crate::specs::Keys::scramble, crate::specs::Keys::output))]
 pub fn splitmix64(state: u64) -> Drawn
     ensures { result ≡ splitmix64_of state }
 {
@@ -308,6 +309,7 @@ const PIECE_KEYS: [u64; 256] = [
 // Part of the hash while Black is to move: the first output from the start value with all bits inverted.
 const SIDE_KEY: u64 = 0x0E3C_8F96_18B7_3E59;
 
+#[tactic(auto, unfolding(crate::specs::Computed::computed))]
 pub fn side_key() -> u64
     ensures { result ≡ side_key }
 {
@@ -332,6 +334,7 @@ pub(crate) fn index(color: Color, kind: PieceKind) -> usize
 
 // The exclusive or of the keys of such pieces on the squares of the set. Only this function reads PIECE_KEYS: a lookup
 // rebuilds the table on the stack, so it is copied once before the loop, and not at all for an empty set.
+#[tactic(auto, unfolding(crate::proofs::zobrist::set_key::Invariants::keyed, crate::specs::Keys::keys, crate::specs::Keys::outputs, crate::specs::Keys::output, crate::specs::Keys::advance, crate::specs::Keys::scramble))]
 pub fn set_key(color: Color, kind: PieceKind, set: Bitboard) -> u64
     ensures { result ≡ set_key_of color kind set }
 {
@@ -348,6 +351,7 @@ pub fn set_key(color: Color, kind: PieceKind, set: Bitboard) -> u64
 }
 
 // The key of one such piece on a square; 0 where there is no such square.
+#[tactic(auto, unfolding(crate::specs::Keys::piece_key_of))]
 pub fn piece_key(color: Color, kind: PieceKind, square: Square) -> u64
     ensures { result ≡ piece_key_of color kind square }
 {

@@ -1,16 +1,15 @@
 -- What the byte loops find, place by place: trimming, finding, splitting at a place, a square's digits.
 use Prim.Native.Nat.{ℕ, suc, ◌+◌, ◌-◌, ◌≤◌, ◌<◌}
-use mathlib.Core.Path.{◌≡◌, refl, ap, ap₂, sym, subst, ◌∙◌}
+use mathlib.Core.Path.{◌≡◌, refl, ap, sym, subst, ◌∙◌}
 use mathlib.Core.List.{List, [], ◌∷◌, ◌++◌}
 use mathlib.Core.Bool.{Bool, true, false, cond, not, ◌||◌, ◌&&◌}
 use native.Mathlib.Omega.{arith}
 use native.Mathlib.Numerals.{add-one}
-use native.Mathlib.Nat.{add_assoc}
 use lib.ListN.{length, take, drop, get_or, length-drop, drop_of_length-le}
-use lib.Seq.{drop-cons, take-suc, take_all, drop-drop, length-take-le, take-length}
+use lib.Seq.{drop-cons, take-suc, take_all, take-length}
 use lib.Dec.{leb, ltb, eqb, leb-suc-suc}
-use borrow.Author.Tests.{le-leb, lt-leb, lt-ltb, ne_eqb, leb-true, leb-false, ltb-true, ltb-false}
-use Rattle.texts.specs.Bytes.{ascii, is, holds, trim_start, keep_end, trim_end, cons_head, split_on, up_to, after_or, after_or_all, after_first, starts_with, strip, index_of, parts_from, IsIndex}
+use borrow.Author.Tests.{lt-ltb, ltb-true, ltb-false}
+use Rattle.texts.specs.Bytes.{ascii, is, holds, trim_start, keep_end, trim_end, up_to, after_or, after_or_all, after_first, strip, index_of, IsIndex}
 use lib.Pointwise.{pointwise}
 use Rattle.std.specs.List.{list_all, position_or_len}
 use Rattle.std.specs.Option.{unwrap_or}
@@ -127,6 +126,12 @@ up_to_is c (b ∷ s) = go (eqb b c) (up_to_is c s)
     go true e = refl
     go false e = ap (λ (x : List ℕ). b ∷ x) e
 
+pub up_to_hit : (c : ℕ) (s : List ℕ) (n : ℕ) → n ≡ index_of (is c) s → take n s ≡ up_to c s
+up_to_hit c s n e = ap (λ (k : ℕ). take k s) e ∙ sym (up_to_is c s)
+
+pub up_to_none : (c : ℕ) (s : List ℕ) → index_of (is c) s ≡ length s → s ≡ up_to c s
+up_to_none c s e = sym (take-length s) ∙ ap (λ (k : ℕ). take k s) (sym e) ∙ sym (up_to_is c s)
+
 after_in : (t : List ℕ) (c : ℕ) (s : List ℕ) → index_of (is c) s < length s → after_or t c s ≡ drop (suc (index_of (is c) s)) s
 unfolding after_or index_of is
 after_in t c [] h = absurd (omega arith)
@@ -137,9 +142,10 @@ after_in t c (b ∷ s) h = go (eqb b c) (after_in t c s) h
     go true e l = refl
     go false e l = e (omega arith)
 
-pub after_all_hit : (c : ℕ) (s : List ℕ) → index_of (is c) s < length s → after_or_all c s ≡ drop (index_of (is c) s + 1) s
+pub after_all_hit : (c : ℕ) (s : List ℕ) (n : ℕ) → n ≡ index_of (is c) s → index_of (is c) s < length s → take (length s - (n + 1)) (drop (n + 1) s) ≡ after_or_all c s
 unfolding after_or_all
-after_all_hit c s h = after_in s c s h ∙ ap (λ (n : ℕ). drop n s) (sym (add-one (index_of (is c) s)))
+after_all_hit c s n e h =
+    rest s (n + 1) ∙ ap (λ (k : ℕ). drop (k + 1) s) e ∙ ap (λ (k : ℕ). drop k s) (add-one (index_of (is c) s)) ∙ sym (after_in s c s h)
 
 after_out : (t : List ℕ) (c : ℕ) (s : List ℕ) → length s ≤ index_of (is c) s → after_or t c s ≡ t
 unfolding after_or index_of is
@@ -150,9 +156,9 @@ after_out t c (b ∷ s) h = go (eqb b c) (after_out t c s) h
     go true e l = absurd (omega arith)
     go false e l = e (omega arith)
 
-pub after_all_none : (c : ℕ) (s : List ℕ) → length s ≤ index_of (is c) s → after_or_all c s ≡ s
+pub after_all_none : (c : ℕ) (s : List ℕ) → index_of (is c) s ≡ length s → s ≡ after_or_all c s
 unfolding after_or_all
-after_all_none c s h = after_out s c s h
+after_all_none c s e = sym (after_out s c s (omega (arith, e)))
 
 pub after_is : (c : ℕ) (s : List ℕ) → after_first c s ≡ drop (index_of (is c) s + 1) s
 unfolding after_first after_or index_of is
@@ -173,15 +179,13 @@ pub after_none : (c : ℕ) (s : List ℕ) (n : ℕ) → n ≡ index_of (is c) s 
 unfolding after_first
 after_none c s n e h = drop_of_length-le s {i = n} h ∙ sym (after_out [] c s (omega (arith, e)))
 
+pub after_found : (c : ℕ) (s : List ℕ) (n : ℕ) → n ≡ index_of (is c) s → take (length s - (n + 1)) (drop (n + 1) s) ≡ after_first c s
+after_found c s n e = rest s (n + 1) ∙ after_hit c s n e
+
+pub after_nothing : (c : ℕ) (s : List ℕ) → index_of (is c) s ≡ length s → take (length s - length s) (drop (length s) s) ≡ after_first c s
+after_nothing c s e = rest s (length s) ∙ after_none c s (length s) (sym e) (omega arith)
+
 -- ---- the first byte
-pub first_at : (c : ℕ) (s : List ℕ) → (length s ≡ 0 → ⊥) → eqb (index_of (is c) s) 0 ≡ starts_with c s
-unfolding starts_with index_of is
-first_at c [] h = absurd (h refl)
-first_at c (b ∷ s) h = go (eqb b c)
-  where
-    go : (t : Bool) → eqb (cond t 0 (suc (index_of (is c) s))) 0 ≡ t
-    go true = refl
-    go false = ne_eqb (suc (index_of (is c) s)) 0 (λ e. omega arith)
 
 -- what is left where the standard library takes the prefix c off
 first_same : (c b : ℕ) (s : List ℕ) (t : Bool) → (eqb b c && true) ≡ t → cond (eqb b c) s (b ∷ s) ≡ cond t s (b ∷ s)
@@ -199,58 +203,3 @@ stripped c t [] q None h = q
 stripped c t (b ∷ s) q None h = q ∙ sym (first_same c b s false h)
 stripped c t [] q (Some x) h = absurd (omega (arith, h.2))
 stripped c t (b ∷ s) q (Some x) h = h.1 ∙ sym (first_same c b s true h.0)
-
--- ---- the parts from a place on
-parts_cons : (p : ℕ → Bool) (b : ℕ) (s : List ℕ) (m : ℕ) → parts_from p (b ∷ s) (suc m + 1) ≡ parts_from p s (m + 1)
-unfolding parts_from
-parts_cons p b s m = simp (add-one, leb-suc-suc)
-
-leb_shift : (n at k : ℕ) (t : Bool) → at ≤ n → leb (at + k) n ≡ t → leb k (n - at) ≡ t
-leb_shift n at k true h e = le-leb k (n - at) (omega (arith, leb-true (at + k) n e))
-leb_shift n at k false h e = lt-leb k (n - at) (omega (arith, leb-false (at + k) n e))
-
-parts_drop : (p : ℕ → Bool) (s : List ℕ) (at k : ℕ) → at ≤ length s → parts_from p (drop at s) k ≡ parts_from p s (at + k)
-unfolding parts_from
-parts_drop p s at k h = simp (length-drop, drop-drop, leb_shift (length s) at k (leb (at + k) (length s)) h refl)
-
-split_case : (p : ℕ → Bool) (b : ℕ) (s : List ℕ) (t : Bool) → split_on p s ≡ take (index_of p s) s ∷ parts_from p s (index_of p s + 1)
-    → cond t ([] ∷ split_on p s) (cons_head b (split_on p s)) ≡ take (cond t 0 (suc (index_of p s))) (b ∷ s) ∷ parts_from p (b ∷ s) (cond t 0 (suc (index_of p s)) + 1)
-unfolding cons_head parts_from
-split_case p b s true e = rw (le-leb 1 (suc (length s)) (omega arith))
-split_case p b s false e = rw (e, parts_cons p b s (index_of p s))
-
-pub split_step : (p : ℕ → Bool) (s : List ℕ) → split_on p s ≡ take (index_of p s) s ∷ parts_from p s (index_of p s + 1)
-unfolding split_on index_of parts_from
-split_step p [] = refl
-split_step p (b ∷ s) = split_case p b s (p b) (split_step p s)
-
-open_at : (p : ℕ → Bool) (s : List ℕ) (at : ℕ) → at ≤ length s → parts_from p s at ≡ split_on p (drop at s)
-unfolding parts_from
-open_at p s at h = rw (le-leb at (length s) h)
-
-pub parts_start : (p : ℕ → Bool) (s : List ℕ) → parts_from p s 0 ≡ split_on p s
-parts_start p s = open_at p s 0 (omega arith)
-
-pub parts_step : (p : ℕ → Bool) (s : List ℕ) (at : ℕ) → at ≤ length s
-    → parts_from p s at ≡ take (index_of p (drop at s)) (drop at s) ∷ parts_from p s (at + index_of p (drop at s) + 1)
-parts_step p s at h =
-    let m = index_of p (drop at s) in
-    open_at p s at h ∙ split_step p (drop at s) ∙ ap (λ (x : List (List ℕ)). take m (drop at s) ∷ x) (parts_drop p s at (m + 1) h ∙ ap (parts_from p s) (sym (add_assoc at m 1)))
-
--- u is the part at the place `at`, up to the next c
-module _ (c : ℕ) (s : List ℕ) (at : ℕ) (u : List ℕ) (h : at ≤ length s) (e : u ≡ up_to c (take (length s - at) (drop at s))) where
-  part_is : u ≡ take (index_of (is c) (drop at s)) (drop at s)
-  part_is = e ∙ ap (up_to c) (rest s at) ∙ up_to_is c (drop at s)
-
-  part_long : length u ≡ index_of (is c) (drop at s)
-  part_long = ap length part_is ∙ length-take-le (index_of (is c) (drop at s)) (drop at s) (index_le (is c) (drop at s))
-
-  pub part_fits : at + length u ≤ length s
-  part_fits = omega (arith, part_long, index_le (is c) (drop at s), length-drop at s)
-
-  pub part_step : parts_from (is c) s at ≡ u ∷ parts_from (is c) s (at + length u + 1)
-  part_step = parts_step (is c) s at h ∙ sym (ap₂ (λ (x : List ℕ) (n : ℕ). x ∷ parts_from (is c) s (at + n + 1)) part_is part_long)
-
-pub parts_none : (p : ℕ → Bool) (s : List ℕ) (at : ℕ) → length s < at → parts_from p s at ≡ []
-unfolding parts_from
-parts_none p s at h = rw (lt-leb at (length s) h)

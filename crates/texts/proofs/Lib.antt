@@ -1,4 +1,5 @@
 pub mod Cuts
+pub mod Splits
 pub mod SquareTexts
 pub mod Readers
 pub mod FenLength

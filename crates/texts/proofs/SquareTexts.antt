@@ -1,15 +1,18 @@
 -- Reading a square's digits, place by place, and what comes of it: a square, or 4.
 use Rattle.std.specs.Prelude.{Err, Ok, Result}
 use Prim.Native.Nat.{ℕ, ◌+◌, ◌-◌, ◌*◌, ◌≤◌, ◌<◌}
-use mathlib.Core.Path.{◌≡◌, refl, ◌∙◌}
+use mathlib.Core.Path.{◌≡◌, refl, sym, ◌∙◌}
 use mathlib.Core.List.{List, [], ◌∷◌}
 use mathlib.Core.Bool.{Bool, true, false, cond, ◌&&◌}
 use native.Mathlib.Omega.{arith}
 use lib.ListN.{length, drop, get_or, drop_of_length-le}
 use lib.Dec.{leb}
-use borrow.Author.Tests.{le-leb, lt-leb}
+use borrow.Author.Tests.{le-leb, lt-leb, leb-false}
+use Rattle.std.specs.Char.{is_ascii_digit}
 use Rattle.squares.specs.Squares.{is_square}
-use Rattle.squares.proofs.Numbers.{square_range, range_square}
+use Rattle.squares.specs.Refusals.{unless_of}
+use Rattle.squares.proofs.Refusals.{holds, fails, stopped, passed}
+use Rattle.squares.proofs.Numbers.{square_range}
 use Rattle.squares.specs.declared.refusal.Refusal.TheVariants.{BadSquare}
 use Rattle.texts.specs.Bytes.{in_range, digits_from, number, strip, read_square}
 use Rattle.texts.specs.Parts.{OnSquare}
@@ -23,17 +26,9 @@ same : (t : Bool) → cond t bad bad ≡ bad
 same true = refl
 same false = refl
 
-pub range_high : (v : ℕ) → 50 < v → in_range v ≡ bad
+range_high : (v : ℕ) → 50 < v → in_range v ≡ bad
 unfolding in_range is_square
 range_high v h = simp (lt-leb v 50 h, le-leb 1 v (omega arith))
-
-pub range_low : (v : ℕ) → v ≡ 0 → in_range v ≡ bad
-unfolding in_range is_square
-range_low v e = rw e
-
-pub range_in : (v : ℕ) → (v ≡ 0 → ⊥) → v ≤ 50 → in_range v ≡ Ok v
-unfolding in_range
-range_in v z h = rw (range_square v (omega arith) h)
 
 -- a value above 50 stays so
 big : (v : ℕ) (s : List ℕ) → 50 < v → digits_from v s ≡ bad
@@ -41,34 +36,43 @@ unfolding digits_from
 big v [] h = range_high v h
 big v (b ∷ s) h = rw (big (v * 10 + (b - 48)) s (omega arith)) (same (leb 48 b && leb b 57))
 
-pub digits_step : (v : ℕ) (s : List ℕ) (i : ℕ) → i < length s → 48 ≤ get_or s i 0 → get_or s i 0 ≤ 57 → digits_from v (drop i s) ≡ digits_from (v * 10 + (get_or s i 0 - 48)) (drop (i + 1) s)
+digits_other : (v : ℕ) (s : List ℕ) (i : ℕ) → i < length s → is_ascii_digit (get_or s i 0) ≡ false → digits_from v (drop i s) ≡ bad
 unfolding digits_from
-digits_step v s i h l u = rw (drop_next s i h, le-leb 48 (get_or s i 0) l, le-leb (get_or s i 0) 57 u)
+digits_other v s i h e = rw (drop_next s i h, e)
 
-pub digits_low : (v : ℕ) (s : List ℕ) (i : ℕ) → i < length s → get_or s i 0 < 48 → digits_from v (drop i s) ≡ bad
+digits_next : (v : ℕ) (s : List ℕ) (i : ℕ) → i < length s → is_ascii_digit (get_or s i 0) ≡ true → digits_from v (drop i s) ≡ digits_from (v * 10 + (get_or s i 0 - 48)) (drop (i + 1) s)
 unfolding digits_from
-digits_low v s i h l = rw (drop_next s i h, lt-leb 48 (get_or s i 0) l)
+digits_next v s i h e = rw (drop_next s i h, e)
 
-pub digits_high : (v : ℕ) (s : List ℕ) (i : ℕ) → i < length s → 57 < get_or s i 0 → digits_from v (drop i s) ≡ bad
-unfolding digits_from
-digits_high v s i h l = rw (drop_next s i h, lt-leb (get_or s i 0) 57 l, le-leb 48 (get_or s i 0) (omega arith))
-
-pub digits_big : (v : ℕ) (s : List ℕ) (i : ℕ) → i < length s → 48 ≤ get_or s i 0 → get_or s i 0 ≤ 57 → 5 < v → digits_from v (drop i s) ≡ bad
-digits_big v s i h l u g = digits_step v s i h l u ∙ big (v * 10 + (get_or s i 0 - 48)) (drop (i + 1) s) (omega arith)
-
-pub digits_end : (v : ℕ) (s : List ℕ) (i : ℕ) → length s ≤ i → digits_from v (drop i s) ≡ in_range v
+digits_end : (v : ℕ) (s : List ℕ) (i : ℕ) → length s ≤ i → digits_from v (drop i s) ≡ in_range v
 unfolding digits_from
 digits_end v s i h = rw (drop_of_length-le s h)
 
-pub number_none : (s : List ℕ) → length s ≡ 0 → number s ≡ bad
-unfolding number
-number_none [] e = refl
-number_none (b ∷ s) e = absurd (omega arith)
+pub number_start : (s : List ℕ) → number s ≡ digits_from 0 s
+unfolding number digits_from in_range is_square
+number_start [] = refl
+number_start (b ∷ s) = refl
 
-pub number_some : (s : List ℕ) → (length s ≡ 0 → ⊥) → number s ≡ digits_from 0 s
-unfolding number
-number_some [] e = absurd (e refl)
-number_some (b ∷ s) e = refl
+-- ---- the number v was read before the place i; r is what a guard hands back
+module _ (s : List ℕ) (v i : ℕ) (g : number s ≡ digits_from v (drop i s)) where
+  module _ {t : Bool} (h : i < length s) (e : t ≡ is_ascii_digit (get_or s i 0)) {r : Result ℕ Refusal} {f : Refusal} (q : r ≡ Err f) where
+    pub no_digit : ◌≡◌ {A = Result Unit Refusal} (Err f) (unless_of BadSquare t) → r ≡ number s
+    no_digit w = q ∙ stopped BadSquare t bad w ∙ same t ∙ sym (g ∙ digits_other v s i h (sym e ∙ fails BadSquare t w))
+
+    pub too_big : {u : Unit {0}} → ◌≡◌ {A = Result Unit Refusal} (Ok u) (unless_of BadSquare t) → ◌≡◌ {A = Result Unit Refusal} (Err f) (unless_of BadSquare (leb v 5)) → r ≡ number s
+    too_big p w =
+        let d : leb v 5 ≡ false = fails BadSquare (leb v 5) w in
+        q ∙ stopped BadSquare (leb v 5) bad w ∙ same (leb v 5)
+        ∙ sym (g ∙ digits_next v s i h (sym e ∙ holds BadSquare t p) ∙ big (v * 10 + (get_or s i 0 - 48)) (drop (i + 1) s) (omega (arith, leb-false v 5 d)))
+
+  module _ {t : Bool} (h : length s ≤ i) (e : t ≡ is_square v) where
+    pub no_square : {r : Result ℕ Refusal} {f : Refusal} → r ≡ Err f → ◌≡◌ {A = Result Unit Refusal} (Err f) (unless_of BadSquare t) → r ≡ number s
+    unfolding in_range
+    no_square q w = q ∙ stopped BadSquare t (Ok v) w ∙ sym (g ∙ digits_end v s i h ∙ rw e)
+
+    pub a_square : {u : Unit {0}} → ◌≡◌ {A = Result Unit Refusal} (Ok u) (unless_of BadSquare t) → Ok v ≡ number s
+    unfolding in_range
+    a_square w = passed BadSquare t (Ok v) w ∙ sym (g ∙ digits_end v s i h ∙ rw e)
 
 -- what is read is a square
 on_range : (v : ℕ) (t : Bool) → is_square v ≡ t → OnSquare (cond t (Ok v) bad)

@@ -14,11 +14,11 @@ use Rattle.squares.proofs.Members.{members_cons, members_none}
 use Rattle.squares.proofs.Numbers.{on_lt}
 use Rattle.positions.specs.Boards.{Board}
 use Rattle.texts.specs.Bytes.{joined, digits}
-use Rattle.texts.specs.Fen.{item_text, list_text, separator, field_text, fen_text}
+use Rattle.texts.specs.Fen.{item_text, list_text, field_text, fen_text}
 use Rattle.texts.specs.Hub.{squares_from, hub_char, hub_text}
 use Rattle.texts.specs.Lent.{over}
 use Rattle.texts.specs.declared.space.Space.{Space}
-use Rattle.texts.proofs.Overs.{over_append, over_none, over_then}
+use Rattle.texts.proofs.Overs.{over_append, over_none, over_moved}
 
 -- ---- numbers and items
 pub digits_short : (n : ℕ) → length (digits n) ≤ 2
@@ -44,48 +44,41 @@ square_lt i = go (on_board i) refl
     go true e = omega (arith, on_lt i e)
     go false e = omega arith
 
--- ---- the loop over a set's squares: the items of l, a comma before each but the first
-unfoldable pub remaining : ℕ → Bool → List ℕ → List ℕ
-remaining kings first [] = []
-remaining kings first (i ∷ l) = (separator first ++ item_text kings (square_at_bit i)) ++ remaining kings false l
+-- ---- the loop over a set's squares: the items of l, a comma before each
+unfoldable pub later : ℕ → List ℕ → List ℕ
+later kings [] = []
+later kings (i ∷ l) = (44 ∷ []) ++ (item_text kings (square_at_bit i) ++ later kings l)
 
-remaining_false : (kings : ℕ) (f : List ℕ) (l : List ℕ) → joined 44 (f ∷ map (item_text kings) (map square_at_bit l)) ≡ f ++ remaining kings false l
-unfolding remaining joined separator
-remaining_false kings f [] = sym (append-nil f)
-remaining_false kings f (i ∷ l) = ap (λ (x : List ℕ). f ++ 44 ∷ x) (remaining_false kings (item_text kings (square_at_bit i)) l)
+joined_later : (kings : ℕ) (f : List ℕ) (l : List ℕ) → joined 44 (f ∷ map (item_text kings) (map square_at_bit l)) ≡ f ++ later kings l
+unfolding later joined
+joined_later kings f [] = sym (append-nil f)
+joined_later kings f (i ∷ l) = ap (λ (x : List ℕ). f ++ 44 ∷ x) (joined_later kings (item_text kings (square_at_bit i)) l)
 
-pub remaining_all : (kings : ℕ) (s : ℕ) → remaining kings true (members s) ≡ list_text kings s
-unfolding list_text remaining separator joined
-remaining_all kings s = go (members s)
-  where
-    go : (l : List ℕ) → remaining kings true l ≡ joined 44 (map (item_text kings) (map square_at_bit l))
-    go [] = refl
-    go (i ∷ l) = sym (remaining_false kings (item_text kings (square_at_bit i)) l)
+pub list_none : (kings s : ℕ) (a : Space) → s ≡ 0 → a ≡ over (list_text kings s) a
+unfolding list_text joined
+list_none kings s a e =
+    sym (over_none a) ∙ ap (λ (l : List ℕ). over (joined 44 (map (item_text kings) (map square_at_bit l))) a) (sym (ap members e ∙ members_none))
 
--- the next one, n the number of its square
-pub remaining_next : (kings : ℕ) (first : Bool) (s n : ℕ) → 0 < s → s < 2 ^ 64 → n ≡ square_at_bit (lowest s)
-    → remaining kings first (members s) ≡ (separator first ++ item_text kings n) ++ remaining kings false (members (bit_and s (s - 1)))
-unfolding remaining
-remaining_next kings first s n p h e =
-    ap (remaining kings first) (members_cons s p h)
-    ∙ ap (λ (x : ℕ). (separator first ++ item_text kings x) ++ remaining kings false (members (bit_and s (s - 1)))) (sym e)
+-- n is the lowest square; w is the space after the whole list
+module _ (kings s n : ℕ) (a b : Space) (p : 0 < s) (l : s < 2 ^ 64) (q : n ≡ square_at_bit (lowest s)) where
+  pub list_first : b ≡ over (item_text kings n) a → over (later kings (members (bit_and s (s - 1)))) b ≡ over (list_text kings s) a
+  unfolding list_text
+  list_first y =
+      let left = later kings (members (bit_and s (s - 1))) in
+      ap (over left) y ∙ sym (over_append (item_text kings n) left a)
+      ∙ ap (λ (t : List ℕ). over t a) (ap (λ (x : ℕ). item_text kings x ++ left) q ∙ sym (joined_later kings _ _) ∙ ap (λ (x : List ℕ). joined 44 (map (item_text kings) (map square_at_bit x))) (sym (members_cons s p l)))
 
-pub remaining_end : (kings : ℕ) (first : Bool) (s : ℕ) → s ≡ 0 → remaining kings first (members s) ≡ []
-unfolding remaining
-remaining_end kings first s e = ap (λ (x : ℕ). remaining kings first (members x)) e ∙ ap (remaining kings first) members_none
+  pub list_turn : (w c : Space) → over (later kings (members s)) a ≡ w → c ≡ over (44 ∷ []) a → b ≡ over (item_text kings n) c → over (later kings (members (bit_and s (s - 1)))) b ≡ w
+  unfolding later
+  list_turn w c g x y =
+      let left = later kings (members (bit_and s (s - 1))) in
+      over_moved (item_text kings n) left w c b (over_moved (44 ∷ []) (item_text kings n ++ left) w a c
+      (ap (λ (t : ℕ). over ((44 ∷ []) ++ (item_text kings t ++ left)) a) q ∙ ap (λ (t : List ℕ). over (later kings t) a) (sym (members_cons s p l)) ∙ g) x) y
 
--- one turn of the loop: w is the space after the whole list
-pub list_turn : (kings : ℕ) (first : Bool) (s n : ℕ) (w a b c : Space) → 0 < s → s < 2 ^ 64 → n ≡ square_at_bit (lowest s)
-    → over (remaining kings first (members s)) a ≡ w → b ≡ over (separator first) a → c ≡ over (item_text kings n) b
-    → over (remaining kings false (members (bit_and s (s - 1)))) c ≡ w
-list_turn kings first s n w a b c p l q g x y =
-    let left = remaining kings false (members (bit_and s (s - 1))) in
-    ap (over left) (over_then _ _ a b c x y)
-    ∙ sym (over_append (separator first ++ item_text kings n) left a)
-    ∙ ap (λ (t : List ℕ). over t a) (sym (remaining_next kings first s n p l q)) ∙ g
-
-pub list_done : (kings : ℕ) (first : Bool) (s : ℕ) (w a : Space) → s ≡ 0 → over (remaining kings first (members s)) a ≡ w → a ≡ w
-list_done kings first s w a e g = sym (over_none a) ∙ ap (λ (t : List ℕ). over t a) (sym (remaining_end kings first s e)) ∙ g
+pub list_done : (kings s : ℕ) (w a : Space) → s ≡ 0 → over (later kings (members s)) a ≡ w → a ≡ w
+unfolding later
+list_done kings s w a e g =
+    sym (over_none a) ∙ ap (λ (t : List ℕ). over (later kings t) a) (sym (ap members e ∙ members_none)) ∙ g
 
 -- ---- the whole text
 pub fen_parts_lem : (b : Board) (x : ℕ) → x ≡ color_char b.side → (x ∷ []) ++ (field_text 87 b.kings b.white ++ field_text 66 b.kings b.black) ≡ fen_text b

@@ -1,5 +1,5 @@
 -- Texts as lists of bytes: trimming, splitting, joining, and the text of a square (docs/RULES.md, "Square texts").
-use Rattle.std.specs.Prelude.{◌≡◌, ◌<◌, None, Some, ℕ, suc, ◌+◌, ◌-◌, ◌*◌, ◌/◌, ◌%◌, List, [], ◌∷◌, ◌++◌, Bool, true, false, cond, ◌&&◌, ◌||◌, length, drop, ltb, leb, eqb, Err, Ok, Result}
+use Rattle.std.specs.Prelude.{◌≡◌, ◌<◌, None, Some, ℕ, suc, ◌+◌, ◌-◌, ◌*◌, ◌/◌, ◌%◌, List, [], ◌∷◌, ◌++◌, Bool, true, false, cond, ◌&&◌, ◌||◌, length, ltb, leb, eqb, Err, Ok, Result}
 use Prim.Native.Char.{code}
 use Prim.Native.String.{String, [] as []ˢ, ◌∷◌ as ◌∷ˢ◌}
 use Rattle.squares.specs.Squares.{is_square}
@@ -141,10 +141,6 @@ Trims test trims s t = (p : ℕ → Bool) → ((b : ℕ) (r : Bool) → test b r
 unfoldable pub index_of : (ℕ → Bool) → List ℕ → ℕ
 index_of p [] = 0
 index_of p (b ∷ s) = cond (p b) 0 (suc (index_of p s))
-
--- the parts of s from the place `at` on; none where that is past the end
-unfoldable pub parts_from : (ℕ → Bool) → List ℕ → ℕ → List (List ℕ)
-parts_from p s at = cond (leb at (length s)) (split_on p (drop at s)) []
 
 -- r is the index i, where that is below the length n
 abbrev pub IsIndex : ℕ → ℕ → Option ℕ → Type 0

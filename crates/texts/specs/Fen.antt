@@ -35,10 +35,6 @@ fen_text b =
     ∷ (code "B" ∷ list_text b.kings b.black)
     ∷ [])
 
--- a comma before each item but the first
-unfoldable pub separator : Bool → List ℕ
-separator first = cond first [] (code "," ∷ [])
-
 -- one colour's list, with its letter and the colon before it
 unfoldable pub field_text : ℕ → ℕ → ℕ → List ℕ
 field_text letter kings s = code ":" ∷ letter ∷ list_text kings s

@@ -1,4 +1,5 @@
 pub mod Bytes
+pub mod Split
 pub mod Parts
 pub mod Lent
 pub mod Fen

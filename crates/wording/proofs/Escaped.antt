@@ -109,37 +109,56 @@ undo_slash : (b : ℕ) (t : List ℕ) → b ≡ 92 → undo 0 (b ∷ t) ≡ on_e
 unfolding undo
 undo_slash b t e = escape_byte b t (eqb b 92) (eq-eqb b 92 e)
 
-pub undo_plain : (s : List ℕ) (i : ℕ) → i < length s → (get_or s i 0 ≡ 92 → ⊥) → undo 0 (drop i s) ≡ before (get_or s i 0) (undo 0 (drop (i + 1) s))
-undo_plain s i h e = ap (undo 0) (drop_next s i h) ∙ undo_byte (get_or s i 0) (drop (i + 1) s) e
+-- the first byte is no backslash
+pub undo_plain : (s : List ℕ) → 1 ≤ length s → (get_or s 0 0 ≡ 92 → ⊥) → undo 0 s ≡ before (get_or s 0 0) (undo 0 (take (length s - 1) (drop 1 s)))
+undo_plain [] h e = absurd (omega arith)
+undo_plain (b ∷ t) h e = undo_byte b t e ∙ ap (λ (u : List ℕ). before b (undo 0 u)) (sym (rest (b ∷ t) 1))
 
-pub undo_escape : (s : List ℕ) (i x n : ℕ) → i < length s → get_or s i 0 ≡ 92 → escape_of (drop (i + 1) s) ≡ Some (x, n)
-    → undo 0 (drop i s) ≡ before x (undo 0 (drop (i + 1 + n) s))
-undo_escape s i x n h e f =
-    ap (undo 0) (drop_next s i h) ∙ undo_slash (get_or s i 0) (drop (i + 1) s) e
-    ∙ ap (λ (p : Option (ℕ × ℕ)). on_escape p (λ y m. before y (undo m (drop (i + 1) s)))) f
-    ∙ ap (before x) (undo_skip n (drop (i + 1) s) ∙ ap (undo 0) (drop-drop n (i + 1) s))
+-- it is one: r is the escape after it
+module _ (s : List ℕ) (r : Option (ℕ × ℕ)) (h : 1 ≤ length s) (e : get_or s 0 0 ≡ 92) (f : r ≡ escape_of (take (length s - 1) (drop 1 s))) where
+  slash : undo 0 s ≡ on_escape r (λ x n. before x (undo 0 (take (length (take (length s - 1) (drop 1 s)) - n) (drop n (take (length s - 1) (drop 1 s))))))
+  slash = starts s h e ∙ gone (escape_of u) ∙ ap (λ (p : Option (ℕ × ℕ)). on_escape p step) (sym f)
+    where
+      u : List ℕ
+      u = take (length s - 1) (drop 1 s)
 
-pub undo_broken : (s : List ℕ) (i : ℕ) → i < length s → get_or s i 0 ≡ 92 → escape_of (drop (i + 1) s) ≡ None → undo 0 (drop i s) ≡ broken
-undo_broken s i h e f =
-    ap (undo 0) (drop_next s i h) ∙ undo_slash (get_or s i 0) (drop (i + 1) s) e
-    ∙ ap (λ (p : Option (ℕ × ℕ)). on_escape p (λ y m. before y (undo m (drop (i + 1) s)))) f
+      step : ℕ → ℕ → Plain
+      step x n = before x (undo 0 (take (length u - n) (drop n u)))
 
-pub undo_end : (s : List ℕ) (i : ℕ) → length s ≤ i → undo 0 (drop i s) ≡ text []
+      same : (x n : ℕ) → before x (undo n u) ≡ step x n
+      same x n = ap (before x) (undo_skip n u ∙ ap (undo 0) (sym (rest u n)))
+
+      gone : (p : Option (ℕ × ℕ)) → on_escape p (λ x n. before x (undo n u)) ≡ on_escape p step
+      gone (Some q) = same q.0 q.1
+      gone None = refl
+
+      starts : (v : List ℕ) → 1 ≤ length v → get_or v 0 0 ≡ 92 → undo 0 v ≡ on_escape (escape_of (take (length v - 1) (drop 1 v))) (λ x n. before x (undo n (take (length v - 1) (drop 1 v))))
+      starts [] h e = absurd (omega arith)
+      starts (b ∷ t) h e = undo_slash b t e ∙ ap (λ (w : List ℕ). on_escape (escape_of w) (λ x n. before x (undo n w))) (sym (rest (b ∷ t) 1))
+
+  pub undo_escape : (x n : ℕ) → r ≡ Some (x, n)
+      → undo 0 s ≡ before x (undo 0 (take (length (take (length s - 1) (drop 1 s)) - n) (drop n (take (length s - 1) (drop 1 s)))))
+  undo_escape x n g = slash ∙ ap (λ (p : Option (ℕ × ℕ)). on_escape p (λ y m. before y (undo 0 (take (length (take (length s - 1) (drop 1 s)) - m) (drop m (take (length s - 1) (drop 1 s))))))) g
+
+  pub undo_broken : r ≡ None → undo 0 s ≡ broken
+  undo_broken g = slash ∙ ap (λ (p : Option (ℕ × ℕ)). on_escape p (λ y m. before y (undo 0 (take (length (take (length s - 1) (drop 1 s)) - m) (drop m (take (length s - 1) (drop 1 s))))))) g
+
+pub undo_end : (s : List ℕ) → length s < 1 → undo 0 s ≡ text []
 unfolding undo
-undo_end s i h = rw (drop_of_length-le s h)
+undo_end [] h = refl
+undo_end (b ∷ t) h = absurd (omega arith)
 
--- whether it is plain, place by place
+-- whether it is plain, byte by byte
 before_plain : (b : ℕ) (p : Plain) → is_plain (before b p) ≡ is_plain p
 before_plain b (text t) = refl
 before_plain b broken = refl
 
-pub plain_start : (s : List ℕ) → is_plain (plain s) ≡ is_plain (undo 0 (drop 0 s))
+pub plain_start : (s : List ℕ) → is_plain (plain s) ≡ is_plain (undo 0 s)
 unfolding plain
 plain_start s = refl
 
-pub plain_next : (s : List ℕ) (i j b : ℕ) → is_plain (plain s) ≡ is_plain (undo 0 (drop i s)) → undo 0 (drop i s) ≡ before b (undo 0 (drop j s))
-    → is_plain (plain s) ≡ is_plain (undo 0 (drop j s))
-plain_next s i j b w e = w ∙ ap is_plain e ∙ before_plain b (undo 0 (drop j s))
+pub plain_next : (s u : List ℕ) (b : ℕ) → undo 0 s ≡ before b (undo 0 u) → is_plain (undo 0 s) ≡ is_plain (undo 0 u)
+plain_next s u b e = ap is_plain e ∙ before_plain b (undo 0 u)
 
 -- bytes before what is left
 unfoldable pub prepended : List ℕ → Plain → Plain
@@ -151,13 +170,13 @@ unfolding prepended
 prepended_byte d b (text t) = ap text (sym (append_assoc d (b ∷ []) t))
 prepended_byte d b broken = refl
 
--- the bytes before the place i of the word were undone: what they stand for was written into the space o
-pub record Undoing (s : List ℕ) (o out : Space) (i : ℕ) : Type 0 where
+-- the bytes of the word before those that are left were undone: what they stand for was written into the space o
+pub record Undoing (s : List ℕ) (o out : Space) (left : List ℕ) : Type 0 where
   pub done : List ℕ
-  pub whole : plain s ≡ prepended done (undo 0 (drop i s))
+  pub whole : plain s ≡ prepended done (undo 0 left)
   pub held : out ≡ over done o
 
-pub undoing_start : (s : List ℕ) (o : Space) → Undoing s o o 0
+pub undoing_start : (s : List ℕ) (o : Space) → Undoing s o o s
 unfolding plain prepended
 undoing_start s o = record { done = []; whole = go (undo 0 s); held = sym (over_none o) }
   where
@@ -165,13 +184,13 @@ undoing_start s o = record { done = []; whole = go (undo 0 s); held = sym (over_
     go (text t) = refl
     go broken = refl
 
-pub undoing_byte : {s : List ℕ} {o out : Space} {i : ℕ} (j b : ℕ) (new : Space) → Undoing s o out i → new ≡ over (b ∷ []) out
-    → undo 0 (drop i s) ≡ before b (undo 0 (drop j s)) → Undoing s o new j
-undoing_byte {s} {o} {out} {i} j b new u a e =
+pub undoing_byte : {s : List ℕ} {o out : Space} {left : List ℕ} (u : List ℕ) (b : ℕ) (new : Space) → Undoing s o out left → new ≡ over (b ∷ []) out
+    → undo 0 left ≡ before b (undo 0 u) → Undoing s o new u
+undoing_byte {s} {o} {out} {left} u b new w a e =
     record {
-      done = u.done ++ (b ∷ []);
-      whole = u.whole ∙ ap (prepended u.done) e ∙ prepended_byte u.done b (undo 0 (drop j s));
-      held = over_then _ _ o out new u.held a;
+      done = w.done ++ (b ∷ []);
+      whole = w.whole ∙ ap (prepended w.done) e ∙ prepended_byte w.done b (undo 0 u);
+      held = over_then _ _ o out new w.held a;
     }
 
 -- where an escape is invalid, nothing was written
@@ -187,11 +206,11 @@ pub over_undone_none : (s : List ℕ) (o : Space) → is_plain (plain s) ≡ fal
 over_undone_none s o q = sym (over_none o) ∙ sym (ap (λ (t : List ℕ). over t o) (undone_none s q))
 
 -- that was seen before anything was written
-pub undoing_never : {s : List ℕ} {o out : Space} {i : ℕ} → Undoing s o out i → is_plain (plain s) ≡ true → undo 0 (drop i s) ≡ broken → ⊥
+pub undoing_never : {s : List ℕ} {o out : Space} {left : List ℕ} → Undoing s o out left → is_plain (plain s) ≡ true → undo 0 left ≡ broken → ⊥
 unfolding prepended
 undoing_never u q e = true≢false (sym q ∙ ap is_plain (u.whole ∙ ap (prepended u.done) e))
 
-pub undoing_end : {s : List ℕ} {o out : Space} {i : ℕ} → Undoing s o out i → undo 0 (drop i s) ≡ text [] → out ≡ over (undone s) o
+pub undoing_end : {s : List ℕ} {o out : Space} {left : List ℕ} → Undoing s o out left → undo 0 left ≡ text [] → out ≡ over (undone s) o
 unfolding prepended undone
 undoing_end {s} {o} u e =
     let w : plain s ≡ text u.done = u.whole ∙ ap (prepended u.done) e ∙ ap text (append-nil u.done) in

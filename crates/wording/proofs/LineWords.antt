@@ -1,5 +1,9 @@
 -- The words of a line one after another: the first, and those of what comes after it.
-use Prim.Native.Nat.{ℕ, ◌<◌}
+use Rattle.std.specs.Prelude.{None, Some, slice_get}
+use Rattle.std.specs.declared.option.Option.{Option}
+use Rattle.std.specs.Option.{option_map, unwrap_or}
+use denote.Ref.{Bor}
+use Prim.Native.Nat.{ℕ, zero, suc, ◌<◌}
 use mathlib.Core.Path.{◌≡◌, refl, ap, ap₂, sym, ◌∙◌}
 use mathlib.Core.List.{List, [], ◌∷◌}
 use mathlib.Core.Bool.{Bool, true, false}
@@ -7,7 +11,7 @@ use native.Mathlib.Omega.{arith}
 use lib.Dec.{eqb}
 use lib.ListN.{length}
 use Rattle.texts.specs.Bytes.{parts_at, up_to, after_or, after_first, cons_head}
-use Rattle.wording.specs.Words.{first_word, after_word}
+use Rattle.wording.specs.Words.{first_word, after_word, word_at}
 
 after_space : (b : ℕ) (t : List ℕ) → eqb b 32 ≡ true → after_word (b ∷ t) ≡ t
 unfolding after_word after_first after_or
@@ -43,3 +47,25 @@ pub words_none : (l : List ℕ) → length l ≡ 0 → parts_at 32 l ≡ []
 unfolding parts_at
 words_none [] h = refl
 words_none (b ∷ t) h = absurd (omega (arith, h))
+
+-- ---- the word of an index
+word_none : (k : ℕ) → word_at k [] ≡ []
+unfolding word_at first_word after_word up_to after_first after_or
+word_none zero = refl
+word_none (suc k) = word_none k
+
+indexed : (k : ℕ) (l : List ℕ) → word_at k l ≡ unwrap_or (slice_get (parts_at 32 l) k) []
+unfolding word_at
+indexed k [] = word_none k ∙ ap (λ (w : List (List ℕ)). unwrap_or (slice_get w k) []) (sym (words_none [] refl))
+indexed zero (b ∷ t) = ap (λ (w : List (List ℕ)). unwrap_or (slice_get w 0) []) (sym (whole (b ∷ t) (omega arith)))
+indexed (suc k) (b ∷ t) =
+    indexed k (after_word (b ∷ t)) ∙ ap (λ (w : List (List ℕ)). unwrap_or (slice_get w (suc k)) []) (sym (whole (b ∷ t) (omega arith)))
+
+-- w is what was found at k, and none where there is no word there
+pub word_found : (l : List ℕ) (k : ℕ) (r : Option (Bor (List ℕ))) (none w : Bor (List ℕ)) → option_map (λ (x : Bor (List ℕ)). x.now) r ≡ slice_get (parts_at 32 l) k
+    → w ≡ unwrap_or r none → none.now ≡ [] → w.now ≡ word_at k l
+word_found l k r none w e f n = ap (λ (x : Bor (List ℕ)). x.now) f ∙ go r e ∙ sym (indexed k l)
+  where
+    go : (r : Option (Bor (List ℕ))) → option_map (λ (x : Bor (List ℕ)). x.now) r ≡ slice_get (parts_at 32 l) k → (unwrap_or r none).now ≡ unwrap_or (slice_get (parts_at 32 l) k) []
+    go None e = n ∙ ap (λ (o : Option (List ℕ)). unwrap_or o []) e
+    go (Some x) e = ap (λ (o : Option (List ℕ)). unwrap_or o []) e

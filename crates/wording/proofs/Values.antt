@@ -5,13 +5,13 @@ use mathlib.Core.Path.{◌≡◌, refl, ap, sym, ◌∙◌, subst}
 use mathlib.Core.List.{List, [], ◌∷◌}
 use mathlib.Core.Bool.{Bool, true, false, cond, ◌&&◌}
 use native.Mathlib.Omega.{arith}
-use lib.ListN.{length, drop, get_or, drop_of_length-le}
+use lib.ListN.{take, length, drop, get_or, drop_of_length-le}
 use lib.Dec.{leb, ltb, eqb}
 use lib.IntN.{pos, neg_ℤ}
 use borrow.Author.Tests.{le-leb, lt-leb, lt-ltb, le-ltb, eq-eqb, ne_eqb, leb-true, leb-false, ltb-true, ltb-false}
 use Rattle.squares.proofs.Bools.{and_right}
 use Rattle.texts.specs.Bytes.{strip}
-use Rattle.texts.proofs.Cuts.{drop_next}
+use Rattle.texts.proofs.Cuts.{drop_next, rest}
 use Rattle.std.specs.Char.{digit_value}
 use Rattle.std.specs.Prelude.{SomeIff}
 use Rattle.wording.specs.Numbers.{IsDigit, AtMost, digit_of, value_from, number_in, without_prefix, positive_of, negative_of, signed_of}
@@ -162,11 +162,6 @@ pub limited : (base limit : ℕ) (s : List ℕ) (r : Option ℕ) → r ≡ numbe
 limited base limit s r e = (e, subst (λ (x : Option ℕ). AtMost limit x) (sym e) (number_limit base limit s))
 
 -- ---- without every 0x at the start
-drop_two : (s : List ℕ) (i : ℕ) → i + 1 < length s → drop i s ≡ get_or s i 0 ∷ (get_or s (i + 1) 0 ∷ drop (i + 2) s)
-drop_two s i h =
-    let w : i + 1 + 1 ≡ i + 2 = omega arith in
-    drop_next s i (omega arith) ∙ ap (λ (x : List ℕ). get_or s i 0 ∷ x) (drop_next s (i + 1) h ∙ ap (λ (n : ℕ). get_or s (i + 1) 0 ∷ drop n s) w)
-
 prefixed : (q : Bool) (a b : ℕ) (t : List ℕ) → List ℕ
 prefixed q a b t = elim q [ true ↦ without_prefix t | false ↦ a ∷ (b ∷ t) ]
 
@@ -174,31 +169,29 @@ pair : (a b : ℕ) (t : List ℕ) (q : Bool) → (eqb a 48 && eqb b 120) ≡ q �
 unfolding without_prefix prefixed
 pair a b t q e = ap (λ (x : Bool). prefixed x a b t) e
 
-module _ (s : List ℕ) (i : ℕ) (h : i + 1 < length s) where
-  kept : (eqb (get_or s i 0) 48 && eqb (get_or s (i + 1) 0) 120) ≡ false → without_prefix (drop i s) ≡ drop i s
-  unfolding prefixed
-  kept e = ap without_prefix (drop_two s i h) ∙ pair (get_or s i 0) (get_or s (i + 1) 0) (drop (i + 2) s) false e ∙ sym (drop_two s i h)
+pub prefix_next : (s : List ℕ) → 2 ≤ length s → get_or s 0 0 ≡ 48 → get_or s 1 0 ≡ 120 → without_prefix s ≡ without_prefix (take (length s - 2) (drop 2 s))
+unfolding prefixed
+prefix_next [] h e f = absurd (omega arith)
+prefix_next (a ∷ []) h e f = absurd (omega arith)
+prefix_next (a ∷ (b ∷ t)) h e f = pair a b t true (rw (eq-eqb a 48 e, eq-eqb b 120 f)) ∙ ap without_prefix (sym (rest (a ∷ (b ∷ t)) 2))
 
-  pub prefix_first : (get_or s i 0 ≡ 48 → ⊥) → without_prefix (drop i s) ≡ drop i s
-  prefix_first e = kept (rw (ne_eqb (get_or s i 0) 48 e))
+pub prefix_first : (s : List ℕ) → 2 ≤ length s → (get_or s 0 0 ≡ 48 → ⊥) → without_prefix s ≡ s
+unfolding prefixed
+prefix_first [] h e = absurd (omega arith)
+prefix_first (a ∷ []) h e = absurd (omega arith)
+prefix_first (a ∷ (b ∷ t)) h e = pair a b t false (rw (ne_eqb a 48 e))
 
-  pub prefix_second : get_or s i 0 ≡ 48 → (get_or s (i + 1) 0 ≡ 120 → ⊥) → without_prefix (drop i s) ≡ drop i s
-  prefix_second e f = kept (rw (eq-eqb (get_or s i 0) 48 e, ne_eqb (get_or s (i + 1) 0) 120 f))
+pub prefix_second : (s : List ℕ) → 2 ≤ length s → get_or s 0 0 ≡ 48 → (get_or s 1 0 ≡ 120 → ⊥) → without_prefix s ≡ s
+unfolding prefixed
+prefix_second [] h e f = absurd (omega arith)
+prefix_second (a ∷ []) h e f = absurd (omega arith)
+prefix_second (a ∷ (b ∷ t)) h e f = pair a b t false (rw (eq-eqb a 48 e, ne_eqb b 120 f))
 
-  pub prefix_next : get_or s i 0 ≡ 48 → get_or s (i + 1) 0 ≡ 120 → without_prefix (drop i s) ≡ without_prefix (drop (i + 2) s)
-  unfolding prefixed
-  prefix_next e f =
-      ap without_prefix (drop_two s i h)
-      ∙ pair (get_or s i 0) (get_or s (i + 1) 0) (drop (i + 2) s) true (rw (eq-eqb (get_or s i 0) 48 e, eq-eqb (get_or s (i + 1) 0) 120 f))
-
-prefix_short : (t : List ℕ) → length t ≤ 1 → without_prefix t ≡ t
+pub prefix_end : (s : List ℕ) → length s < 2 → without_prefix s ≡ s
 unfolding without_prefix
-prefix_short [] k = refl
-prefix_short (a ∷ []) k = refl
-prefix_short (a ∷ (b ∷ t)) k = absurd (omega arith)
-
-pub prefix_end : (s : List ℕ) (i : ℕ) → length s ≤ i + 1 → without_prefix (drop i s) ≡ drop i s
-prefix_end s i h = prefix_short (drop i s) (simp lib.ListN.length-drop (omega arith))
+prefix_end [] k = refl
+prefix_end (a ∷ []) k = refl
+prefix_end (a ∷ (b ∷ t)) k = absurd (omega arith)
 
 -- ---- signs
 pub signed_none : (s : List ℕ) → length s ≡ 0 → signed_of s ≡ None

@@ -13,6 +13,7 @@ use crate::numbers;
 use texts::space::Space;
 
 // The value of the first of two hexadecimal digits. Rust reads a `+` there as a sign, so `\x+A` is the byte 10.
+#[tactic(auto, unfolding(crate::specs::Escapes::high_of))]
 fn high(b: u8) -> Option<u32>
     ensures { IsDigit (high_of b) result }
 {
@@ -24,6 +25,7 @@ fn high(b: u8) -> Option<u32>
 }
 
 // Reads the two digits after `\x`.
+#[tactic(auto, using(crate::proofs::Escaped::hex_short, crate::proofs::Escaped::hex_pair, crate::proofs::Escaped::high_bad, crate::proofs::Escaped::low_bad, crate::proofs::Escaped::pair_good))]
 fn hex_escape(s: &[u8]) -> Option<(u8, usize)>
     ensures { result ≡ hex_escape s.now }
 {
@@ -37,6 +39,7 @@ fn hex_escape(s: &[u8]) -> Option<(u8, usize)>
 
 // Reads an escape: s is what comes after its backslash. The answer is the byte that the escape stands for, and how many
 // bytes the escape has after its backslash; there is none where the escape is invalid.
+#[tactic(auto, using(crate::proofs::Escaped::escaped, crate::proofs::Escaped::escape_none, crate::proofs::Escaped::escape_at, crate::proofs::Escaped::escape_other, texts::proofs::Cuts::rest), unfolding(crate::specs::Escapes::escape_of))]
 fn read_escape(s: &[u8]) -> Option<(u8, usize)>
     ensures { (result ≡ escape_of s.now) × UsedIn result (length s.now) }
 {
@@ -55,42 +58,42 @@ fn read_escape(s: &[u8]) -> Option<(u8, usize)>
 }
 
 // Whether every escape in the word is valid.
+#[tactic(auto, using(crate::proofs::Escaped::plain_start, crate::proofs::Escaped::undo_end))]
 pub fn is_plain(s: &[u8]) -> bool
     ensures { result ≡ is_plain (plain s.now) }
 {
-    let mut i = 0;
-    while i < s.len() {
-        let b = s[i];
-        i += 1;
-        if b == b'\\' {
-            let Some((_, n)) = read_escape(&s[i..]) else {
+    let mut rest = s;
+    while let [b, tail @ ..] = rest {
+        rest = tail;
+        if *b == b'\\' {
+            let Some((_, n)) = read_escape(tail) else {
                 return false;
             };
-            i += n;
+            rest = &tail[n..];
         }
     }
     true
 }
 
 // Writes the text of a word; nothing where an escape in it is invalid.
+#[tactic(auto, using(crate::proofs::Escaped::over_undone_none, crate::proofs::Escaped::undoing_start))]
 fn put_plain(out: &mut Space, s: &[u8])
     ensures { out.new ≡ over (undone s.now) out.old }
 {
     if !is_plain(s) {
         return;
     }
-    let mut i = 0;
-    while i < s.len() {
-        let b = s[i];
-        i += 1;
-        if b == b'\\' {
-            let Some((x, n)) = read_escape(&s[i..]) else {
+    let mut rest = s;
+    while let [b, tail @ ..] = rest {
+        rest = tail;
+        if *b == b'\\' {
+            let Some((x, n)) = read_escape(tail) else {
                 return;
             };
             out.put_byte(x);
-            i += n;
+            rest = &tail[n..];
         } else {
-            out.put_byte(b);
+            out.put_byte(*b);
         }
     }
 }

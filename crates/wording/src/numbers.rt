@@ -18,6 +18,7 @@ pub(crate) fn digit(b: u8) -> Option<u32>
 }
 
 // Reads one digit or more of this base; the value is at most the limit.
+#[tactic(auto, using(crate::proofs::Values::number_some, crate::proofs::Values::number_none, crate::proofs::Values::limited, crate::proofs::Values::no_digit, crate::proofs::Values::past_limit, crate::proofs::Values::next_digit, crate::proofs::Values::value_end))]
 fn number(s: &[u8], base: u64, limit: u64) -> Option<u64>
     requires { base ≤ 16 }
     ensures { (result ≡ number_in base limit s.now) × AtMost limit result }
@@ -40,6 +41,7 @@ fn number(s: &[u8], base: u64, limit: u64) -> Option<u64>
 }
 
 // An unsigned number of 32 bits.
+#[tactic(auto, unfolding(crate::specs::Numbers::unsigned_of))]
 pub fn unsigned(s: &[u8]) -> Option<u64>
     ensures { (result ≡ unsigned_of s.now) × AtMost (2 ^ 32 - 1) result }
 {
@@ -47,6 +49,7 @@ pub fn unsigned(s: &[u8]) -> Option<u64>
 }
 
 // A decimal number: digits alone, no sign, no needless zero at the start, at most the limit. Each number has one text.
+#[tactic(auto, using(crate::proofs::Given::given_zero, crate::proofs::Given::given_other, crate::proofs::Given::given_short))]
 pub fn given(s: &[u8], limit: u64) -> Option<u64>
     ensures { (result ≡ given_of limit s.now) × AtMost limit result }
 {
@@ -60,23 +63,19 @@ pub fn given(s: &[u8], limit: u64) -> Option<u64>
 }
 
 // The text without every `0x` at its start; Rust's `trim_start_matches` drops them all too.
+#[tactic(auto, using(crate::proofs::Values::prefix_first, crate::proofs::Values::prefix_second, crate::proofs::Values::prefix_next, crate::proofs::Values::prefix_end))]
 fn without_prefix(s: &[u8]) -> &[u8]
     ensures { result.now ≡ without_prefix s.now }
 {
-    let mut i = 0;
-    while i + 1 < s.len() {
-        if s[i] != b'0' {
-            return &s[i..];
-        }
-        if s[i + 1] != b'x' {
-            return &s[i..];
-        }
-        i += 2;
+    let mut rest = s;
+    while let [b'0', b'x', tail @ ..] = rest {
+        rest = tail;
     }
-    &s[i..]
+    rest
 }
 
 // A set of 64 bits in hexadecimal.
+#[tactic(auto, unfolding(crate::specs::Numbers::set_of))]
 pub fn set(s: &[u8]) -> Option<u64>
     ensures { result ≡ set_of s.now }
 {
@@ -88,6 +87,7 @@ pub fn set(s: &[u8]) -> Option<u64>
 }
 
 // The number itself, up to 2^31 - 1.
+#[tactic(auto, using(crate::proofs::Signs::positive_is))]
 fn positive(n: Option<u64>) -> Option<i32>
     ensures { result ≡ positive_of n }
 {
@@ -103,6 +103,7 @@ fn positive(n: Option<u64>) -> Option<i32>
 }
 
 // The number with its sign changed, down to -2^31. That smallest number has no opposite of 32 bits.
+#[tactic(auto, using(crate::proofs::Signs::opposite_fits, crate::proofs::Signs::opposite_is, crate::proofs::Values::negative_low, crate::proofs::Values::negative_high))]
 fn negative(n: Option<u64>) -> Option<i32>
     ensures { result ≡ negative_of n }
 {
@@ -121,6 +122,7 @@ fn negative(n: Option<u64>) -> Option<i32>
 }
 
 // A signed number of 32 bits.
+#[tactic(auto, using(crate::proofs::Values::signed_none, crate::proofs::Values::signed_plus))]
 pub fn read_signed(s: &[u8]) -> Option<i32>
     ensures { result ≡ signed_of s.now }
 {

@@ -24,6 +24,7 @@ pub enum Flaw {
 }
 
 // Writes a number in decimal, without needless zeros.
+#[tactic(auto, using(texts::proofs::Overs::over_as, crate::proofs::Numerals::decimal_is))]
 pub fn put_decimal(out: &mut Space, n: u64)
     ensures { out.new ≡ over (decimal n) out.old }
 {
@@ -45,6 +46,7 @@ pub fn put_signed(out: &mut Space, z: i32)
 }
 
 // Writes a number in hexadecimal, without needless zeros.
+#[tactic(auto, using(texts::proofs::Overs::over_as, crate::proofs::Numerals::hex_is))]
 pub fn put_hex(out: &mut Space, n: u64)
     ensures { out.new ≡ over (hex n) out.old }
 {
@@ -54,6 +56,7 @@ pub fn put_hex(out: &mut Space, n: u64)
 }
 
 // Writes the 16 hexadecimal digits of a hash.
+#[tactic(auto, using(texts::proofs::Overs::over_as, crate::proofs::Numerals::hash_is))]
 pub fn put_hash(out: &mut Space, n: u64)
     ensures { out.new ≡ over (hash n) out.old }
 {

@@ -16,6 +16,7 @@ pub fn same(a: &[u8], b: &[u8]) -> bool
 }
 
 // What comes before the first space: the whole where there is none.
+#[tactic(auto, unfolding(crate::specs::Words::first_word))]
 pub fn first(s: &[u8]) -> &[u8]
     ensures { result.now ≡ first_word s.now }
 {
@@ -23,6 +24,7 @@ pub fn first(s: &[u8]) -> &[u8]
 }
 
 // What comes after the first space: nothing where there is none.
+#[tactic(auto, unfolding(crate::specs::Words::after_word))]
 pub fn rest(s: &[u8]) -> &[u8]
     ensures { result.now ≡ after_word s.now }
 {
@@ -55,29 +57,12 @@ impl<'a> Iterator for Words<'a> {
 pub fn word(s: &[u8], index: usize) -> &[u8]
     ensures { result.now ≡ word_at index s.now }
 {
-    let mut left = index;
-    let mut at = 0;
-    while 0 < left {
-        let t = &s[at..];
-        let n = bytes::find(t, b' ');
-        if n == t.len() {
-            return &t[n..];
-        }
-        at = at + n + 1;
-        left -= 1;
-    }
-    first(&s[at..])
+    Words(s).nth(index).unwrap_or(&[])
 }
 
 // How many spaces there are.
 pub fn blanks(s: &[u8]) -> usize
     ensures { result ≡ blanks_in s.now }
 {
-    let mut n = 0;
-    for &b in s {
-        if b == b' ' {
-            n += 1;
-        }
-    }
-    n
+    s.iter().filter(|b| **b == b' ').count()
 }

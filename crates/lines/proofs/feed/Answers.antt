@@ -1,18 +1,8 @@
--- What is carried over leaves room for a read.
-use mathlib.Core.Path.{ap, sym, subst}
-use lib.ListN.{length}
-use native.Mathlib.Omega.{arith}
+-- The end of the input, a failed read, a failed write.
 use Rattle.std.proofs.KnownBytes.{Keeps-refl}
 use Rattle.std.proofs.lemmas.Result.{err_from_is_err_and}
 use Rattle.lines.proofs.Turns as turns
 use Rattle.lines.proofs.feed.Goals as goal
-
-pub loop-init : goal.loop-init
-loop-init g c = (
-  omega (arith, ap length c.new-input.ensures),
-  subst (turns.Feeding (g.R.Read.remaining c.args.from.now) (g.R.Read.remaining c.args.from.now) (g.W.Write.contents c.args.to.now) (g.W.Write.contents c.args.to.now)) (sym c.new-input.ensures)
-      (turns.none_fed _ _),
-)
 
 pub returns-in_err-read_more : goal.returns-in_err-read_more
 returns-in_err-read_more g c =
@@ -28,12 +18,6 @@ returns-in_err-whole g c =
     let p = err_from_is_err_and c.from_residual-in_err-whole.result c.from_residual-in_err-whole.ensures.1 in
     rw (p.1, p.2)
     (turns.turn_cut c.loop.invariant.1 _ c.in_ok-read_more.ensures c.as_slice-in-loop.result.now c.as_slice-in-loop.ensures _ c.in_err-whole.ensures.sent c.in_err-whole.ensures.sent_to)
-
-pub loop-preserved : goal.loop-preserved
-loop-preserved g c = (
-  c.carry.ensures.upper_bound,
-  turns.turn_more c.loop.invariant.1 _ c.in_ok-read_more.ensures c.as_slice-in-loop.result.now c.as_slice-in-loop.ensures c.in_ok-whole.ensures.sent_to c.carry.new.self c.carry.ensures.carried,
-)
 
 pub returns : goal.returns
 returns g c = turns.fed_read c.loop.invariant.1 _ (Keeps-refl _)

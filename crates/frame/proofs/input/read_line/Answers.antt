@@ -1,12 +1,8 @@
 -- Byte by byte: what was put so far has no line feed, and the rest of the buffer is as it was.
-use mathlib.Core.Path.{refl}
 use Rattle.frame.proofs.Taking as laws
 use borrow.Author.Rules.{rules}
 use native.Mathlib.Omega.{arith}
 use Rattle.frame.proofs.input.read_line.Goals as goal
-
-pub loop-n-init : goal.loop-n-init
-loop-n-init g c = (refl, laws.line_start c.args.buf.now, laws.none_taken _ c.args.buf.now)
 
 pub loop-n-preserved : goal.loop-n-preserved
 loop-n-preserved g c =

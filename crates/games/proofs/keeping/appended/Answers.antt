@@ -10,9 +10,6 @@ use borrow.Author.Rules.{rules}
 use native.Mathlib.Omega.{arith}
 use Rattle.games.proofs.keeping.appended.Goals as goal
 
-pub loop-i-init : goal.loop-i-init
-loop-i-init c = (search rules, rw c.blank-b.ensures)
-
 pub loop-i-preserved : goal.loop-i-preserved
 loop-i-preserved c =
     let k : length c.args.g.kept ≡ 51 = search (rules, length_of_map) in

@@ -25,9 +25,3 @@ returns-then-not-sound c =
     let k : length g.kept ≡ 51 = search (rules, length_of_map) in
     let s = sym c.sound.ensures ∙ c.if-not-sound.true in
     sym (all_fails blank_position g.kept g.len c.loop-at.at (omega arith) (omega arith) s)
-
-pub returns : goal.returns
-unfolding window_of
-returns c =
-    let e : c.loop-at.at ≡ c.args.g.len = omega arith in
-    sym (rw e at c.loop-at.invariant.1)

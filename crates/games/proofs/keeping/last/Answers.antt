@@ -1,7 +1,5 @@
 -- The first counter is the place of the current position, and is at most 50.
-use Rattle.games.specs.Games.{last_of}
 use Rattle.games.proofs.Valid.{valid_says}
-use borrow.Author.Rules.{rules}
 use native.Mathlib.Omega.{arith}
 use Rattle.games.proofs.keeping.last.Goals as goal
 
@@ -9,7 +7,3 @@ pub bounds-g-i : goal.bounds-g-i
 bounds-g-i c =
     let v = valid_says c.args.g c.requires in
     omega arith
-
-pub returns : goal.returns
-unfolding last_of
-returns c = search rules

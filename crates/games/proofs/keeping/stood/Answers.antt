@@ -4,7 +4,7 @@ use mathlib.Core.Bool.{true, false}
 use Prim.Native.Nat.{◌<◌}
 use lib.ListN.{length}
 use Rattle.rules.proofs.Times.{times_nil}
-use Rattle.games.specs.Games.{blank_position, window_of, last_of, same_position, stood}
+use Rattle.games.specs.Games.{blank_position, same_position}
 use Rattle.games.proofs.Valid.{valid_says}
 use Rattle.squares.proofs.Lengths.{length_of_map}
 use Rattle.games.proofs.Window.{times_more}
@@ -51,10 +51,3 @@ loop-k-preserved c =
         times_more p blank_position l i c.loop-k.times _ false h c.loop-k.invariant.2 (sym w.if-same_position.false ∙ c.same_position.ensures) (w.times-is ∙ omega arith),
       )
     ]
-
-pub returns : goal.returns
-unfolding window_of stood
-returns c =
-    let e : c.loop-k.k ≡ c.args.g.len = omega arith in
-    let p : c.last-p.result ≡ last_of c.args.g = c.last-p.ensures in
-    rw (e, p) at c.loop-k.invariant.2

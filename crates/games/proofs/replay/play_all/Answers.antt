@@ -9,16 +9,11 @@ use Rattle.games.specs.Play.{play_of}
 use Rattle.games.specs.Demand3.{answers_to, game_after}
 use Rattle.games.specs.Replay.{moves_in}
 use Rattle.games.proofs.Runs.{answers_length, answers_more, after_more, write_more, third, moves_length, moves_at, played_in}
-use borrow.Author.Rules.{rules}
 use native.Mathlib.Omega.{arith}
 use Rattle.games.proofs.replay.play_all.Goals as goal
 
 abbrev blank : Move
 blank = move 0 0 0
-
-pub loop-i-init : goal.loop-i-init
-unfolding answers_to game_after
-loop-i-init c = search rules
 
 pub loop-i-preserved : goal.loop-i-preserved
 loop-i-preserved c =

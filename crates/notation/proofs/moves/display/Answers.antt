@@ -8,9 +8,6 @@ use Rattle.notation.specs.MoveText.{display_of, display_lent}
 use Rattle.notation.proofs.MoveTexts.{short_written}
 use Rattle.notation.proofs.moves.display.Goals as goal
 
-pub put_short-requires : goal.put_short-requires
-put_short-requires c = sym c.on_board.ensures ∙ c.if-on_board.true
-
 pub returns-then-on_board : goal.returns-then-on_board
 unfolding display_of display_lent
 returns-then-on_board c =

@@ -8,9 +8,6 @@ use Rattle.notation.specs.MoveText.{to_hub_of, to_hub_lent}
 use Rattle.notation.proofs.MoveTexts.{move_written}
 use Rattle.notation.proofs.moves.to_hub.Goals as goal
 
-pub put_move-requires : goal.put_move-requires
-put_move-requires c = sym c.on_board.ensures ∙ c.if-on_board.true
-
 pub returns-then-on_board : goal.returns-then-on_board
 unfolding to_hub_of to_hub_lent
 returns-then-on_board c =

@@ -1,27 +1,24 @@
 -- Hub first, where there are three squares or more; where nothing fits as Hub, first and last square.
-use mathlib.Core.Path.{sym, ap, ◌∙◌}
+use Rattle.std.proofs.Common.{rules}
+use mathlib.Core.Path.{◌≡◌, sym, ◌∙◌}
 use Rattle.captures.specs.Lists.{entries}
 use Rattle.rules.specs.Lists.{keep}
-use Rattle.notation.specs.Choice.{by_ends, choice_of}
-use Rattle.notation.specs.declared.notation.Choice.{Choice}
-use Rattle.notation.proofs.Search.{or_choice, choose_hub, choose_ends}
+use Rattle.notation.specs.Choice.{as_hub, by_ends, choice_of}
+use Rattle.notation.proofs.Search.{choose_hub, choose_none, choose_ends}
 use Rattle.notation.proofs.notation.choose.Goals as goal
+use Rattle.notation.proofs.notation.choose.Goals.{then-h-gt2+in-Nothing, else-h-gt2}
 
-pub returns-in-Nothing : goal.returns-in-Nothing
-returns-in-Nothing c =
-    c.search-in-Nothing.ensures
-    ∙ sym (choose_hub c.args.h (entries c.args.list) c.search.result c.if-h-gt2.true c.search.ensures
-    ∙ ap (λ (x : Choice). or_choice x (choice_of (keep (by_ends c.args.h) (entries c.args.list)))) c.in-Nothing.is)
+pub returns-in_default : goal.returns-in_default
+returns-in_default c =
+    choose_hub c.args.h (entries c.args.list) _ c.if-h-gt2.true (c.search.ensures (as_hub c.args.h) (λ m r e. search rules)) c.in_default.not-Nothing
 
-pub returns-in-One : goal.returns-in-One
-returns-in-One c =
-    sym (choose_hub c.args.h (entries c.args.list) c.search.result c.if-h-gt2.true c.search.ensures
-    ∙ ap (λ (x : Choice). or_choice x (choice_of (keep (by_ends c.args.h) (entries c.args.list)))) c.in-One.is)
-
-pub returns-in-Several : goal.returns-in-Several
-returns-in-Several c =
-    sym (choose_hub c.args.h (entries c.args.list) c.search.result c.if-h-gt2.true c.search.ensures
-    ∙ ap (λ (x : Choice). or_choice x (choice_of (keep (by_ends c.args.h) (entries c.args.list)))) c.in-Several.is)
-
-pub returns-else-h-gt2 : goal.returns-else-h-gt2
-returns-else-h-gt2 c = c.search-else-h-gt2.ensures ∙ sym (choose_ends c.args.h (entries c.args.list) c.if-h-gt2.false)
+pub returns : goal.returns
+returns c =
+    let h = c.args.h in
+    let l = entries c.args.list in
+    let ends : c.search-2.result ≡ choice_of (keep (by_ends h) l) = c.search-2.ensures (by_ends h) (λ m r e. search rules) in
+    elim c.if-h-gt2.branch [
+      | then-h-gt2+in-Nothing w ↦
+          ends ∙ sym (choose_none h l w.if-h-gt2.true (sym w.in-Nothing.is ∙ w.search.ensures (as_hub h) (λ m r e. search rules)))
+      | else-h-gt2 w ↦ ends ∙ sym (choose_ends h l w.if-h-gt2.false)
+    ]

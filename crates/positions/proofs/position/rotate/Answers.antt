@@ -1,8 +1,7 @@
 -- Each turn takes the lowest square and puts in its opposite; bits that are no square go nowhere.
 use mathlib.Core.Path.{◌≡◌, sym, ap, ◌∙◌}
 use Prim.Native.Nat.{ℕ, ◌-◌, ◌^◌, ◌<◌}
-use native.Mathlib.Nat.{lt_of_le_of_lt}
-use lib.Bits.{bit_and, bit_or, and_le_l, and_le_r, or_comm, or_zero_l, or_zero_r}
+use lib.Bits.{bit_and, bit_or, and_le_l, or_comm, or_zero_r}
 use Rattle.squares.specs.Sets.{has, lowest}
 use Rattle.squares.specs.Squares.{all, square_at_bit, single}
 use Rattle.squares.specs.Folds.{union_over}
@@ -39,10 +38,6 @@ ended : (s : ℕ) {left out : ℕ} → left ≡ 0 → Left left out (union_over 
 ended s {left} {out} z e =
     sym (or_zero_r out) ∙ ap (bit_or out) (sym (ap (union_over turned) z ∙ union_none turned)) ∙ e.sum
     ∙ ap (λ (m : ℕ). union_over turned (bit_and s m)) (sym all_is) ∙ is_rotated s
-
-pub loop-bit-init : goal.loop-bit-init
-loop-bit-init c =
-    rw c.into_iter-bit-iterator.ensures.into_iter_gives (record { sum = or_zero_l _ }, lt_of_le_of_lt (and_le_r c.args.set 0x003F_F7FE_FFDF_FBFF) (omega arith))
 
 pub overflow_sub-out : goal.overflow_sub-out
 overflow_sub-out c =

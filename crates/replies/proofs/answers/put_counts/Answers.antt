@@ -1,17 +1,14 @@
 -- Move by move, each with its count.
-use mathlib.Core.Path.{ap}
-use native.Mathlib.Omega.{arith}
-use Rattle.replies.specs.Answers.{counts_text}
-use Rattle.texts.proofs.Overs as overs
-use Rattle.replies.proofs.Listing as listing
+use borrow.Author.Rules.{rules}
+use lib.ListN.{take, length-append}
+use Rattle.captures.specs.Lists.{blank}
+use Rattle.std.proofs.lemmas.Slice.Zip.{zip_turn}
+use Rattle.replies.proofs.Listing.{counts_next}
 use Rattle.replies.proofs.answers.put_counts.Goals as goal
 
-pub loop-i-init : goal.loop-i-init
-loop-i-init c = listing.counts_none _ _ _
-
-pub loop-i-preserved : goal.loop-i-preserved
-loop-i-preserved c =
-    listing.counts_next _ _ _ _ _ _ _ _ _ c.loop-i.invariant c.put_byte.ensures c.put_move.ensures c.put_byte-in-loop-i.ensures c.put_decimal.ensures
-
-pub returns : goal.returns
-returns c = overs.over_as _ _ _ _ (ap (counts_text _ _) (omega arith)) c.loop-i.invariant
+pub loop-m-preserved : goal.loop-m-preserved
+loop-m-preserved c =
+    let y = c.loop-m.yielded in
+    let t = zip_turn (take c.min.result c.args.list.moves) c.args.counts y c.into_iter-m-iterator.result c.loop-m.m-iterator c.next.new.self _ (search rules) (search rules) c.loop-m.yielded_by _ c.in-Some.is c.next.ensures.steps in
+    counts_next _ _ _ _ _ _ _ _ _ _ _ _ _ t.0 (length-append y _) (t.2 blank) (t.3 0) c.loop-m.invariant c.put_byte.ensures c.put_move.ensures
+    c.put_byte-in-loop-m.ensures c.put_decimal.ensures

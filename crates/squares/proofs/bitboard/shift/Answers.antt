@@ -14,12 +14,6 @@ same_direction : (at d : ℕ) → (at ≡ d) × (d < 3) ⊎ (at ≡ 3) × (3 ≤
 same_direction at d (inl w) = ap direction_at w.0
 same_direction at d (inr w) = ap direction_at w.0 ∙ sym (beyond d w.1)
 
-pub offset_bounds-at : goal.offset_bounds-at
-offset_bounds-at c = elim c.if-d-lt3.branch [ then-d-lt3 w ↦ omega arith | else-d-lt3 w ↦ omega arith ]
-
-pub bounds-at : goal.bounds-at
-bounds-at c = elim c.if-d-lt3.branch [ then-d-lt3 w ↦ omega arith | else-d-lt3 w ↦ omega arith ]
-
 pub returns-then-step-lt0 : goal.returns-then-step-lt0
 returns-then-step-lt0 c =
     let w : (c.if-d-lt3.at ≡ c.args.d) × (c.args.d < 3) ⊎ (c.if-d-lt3.at ≡ 3) × (3 ≤ c.args.d)

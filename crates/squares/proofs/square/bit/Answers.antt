@@ -1,6 +1,5 @@
 -- Within 1 to 50 the code writes the definition.
 use Rattle.std.proofs.Common.{sym, ◌∙◌, arith}
-use Rattle.squares.specs.Squares.{of_square, bit_of}
 use Rattle.squares.proofs.Numbers.{square_range}
 use Rattle.squares.proofs.square.bit.Goals as goal
 
@@ -9,11 +8,3 @@ overflow_sub-d c = omega (arith, (square_range c.args.square (sym c.is_square.en
 
 pub overflow_add-result : goal.overflow_add-result
 overflow_add-result c = omega (arith, (square_range c.args.square (sym c.is_square.ensures ∙ c.if-is_square.true)).1)
-
-pub returns-then-is_square : goal.returns-then-is_square
-unfolding of_square bit_of
-returns-then-is_square c = rw (sym c.is_square.ensures ∙ c.if-is_square.true)
-
-pub returns-else-is_square : goal.returns-else-is_square
-unfolding of_square bit_of
-returns-else-is_square c = rw (sym c.is_square.ensures ∙ c.if-is_square.false)

@@ -11,9 +11,6 @@ overflow_sub-d c = omega (arith, (square_range c.args.square (sym c.is_square.en
 pub overflow_add-result : goal.overflow_add-result
 overflow_add-result c = omega (arith, (square_range c.args.square (sym c.is_square.ensures ∙ c.if-is_square.true)).1)
 
-pub overflow_cast-result : goal.overflow_cast-result
-overflow_cast-result c = omega (arith, (square_range c.args.square (sym c.is_square.ensures ∙ c.if-is_square.true)).1)
-
 pub overflow_shl-result : goal.overflow_shl-result
 overflow_shl-result c = omega (arith, (square_range c.args.square (sym c.is_square.ensures ∙ c.if-is_square.true)).1)
 
@@ -23,7 +20,3 @@ returns-then-is_square c =
     let yes = sym c.is_square.ensures ∙ c.if-is_square.true in
     let n = c.args.square in
     one_bit ((n - 1) + (n - 1) / 10) (omega (arith, (square_range n yes).1)) ∙ sym (single_is n yes)
-
-pub returns-else-is_square : goal.returns-else-is_square
-unfolding single bit_of
-returns-else-is_square c = rw (sym c.is_square.ensures ∙ c.if-is_square.false)

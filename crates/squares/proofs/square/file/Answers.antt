@@ -11,7 +11,3 @@ pub returns-then-is_square : goal.returns-then-is_square
 unfolding of_square
 returns-then-is_square c =
     rw ((sym c.is_square.ensures ∙ c.if-is_square.true), square_file c.args.square (sym c.is_square.ensures ∙ c.if-is_square.true))
-
-pub returns-else-is_square : goal.returns-else-is_square
-unfolding of_square
-returns-else-is_square c = rw (sym c.is_square.ensures ∙ c.if-is_square.false)

@@ -1,17 +1,14 @@
 -- Each turn takes the lowest square's key; what is left is the exclusive or over the rest. The table is tested once against its rule.
 -- A set without squares has the key 0.
-use Rattle.std.proofs.Common.{◌≡◌, ℕ, ◌+◌, ◌-◌, ◌*◌, ◌^◌, ◌<◌, List, get_or, sym, refl, ap, ◌∙◌, ap₂, lt_of_le_of_lt, arith}
-use lib.Bits.{bit_and, bit_xor, and_le_l, and_le_r, xor_comm, xor_zero_l, xor_zero_r}
+use Rattle.std.proofs.Common.{◌≡◌, ℕ, ◌+◌, ◌-◌, ◌*◌, ◌^◌, ◌<◌, List, get_or, sym, refl, ap, ◌∙◌, ap₂, arith}
+use lib.Bits.{bit_and, bit_xor, and_le_l, xor_comm, xor_zero_r}
 use Rattle.squares.specs.Sets.{lowest}
 use Rattle.squares.specs.Folds.{xor_over}
 use Rattle.squares.specs.Keys.{advance, scramble, output, outputs, keys, block, set_key_of}
 use Rattle.squares.specs.declared.piece.Color.{Color}
-use Rattle.squares.specs.declared.piece.Color.TheVariants.{White, Black}
 use Rattle.squares.specs.declared.piece.PieceKind.{PieceKind}
-use Rattle.squares.specs.declared.piece.PieceKind.TheVariants.{Man, King}
 use Rattle.squares.proofs.Folds.{xor_next, xor_none, xor_assoc}
 use Rattle.squares.proofs.Keys.{table_key}
-use Rattle.squares.proofs.Members.{lowest_lt}
 use Rattle.squares.proofs.Numbers.{all_is}
 use Rattle.squares.proofs.zobrist.set_key.Invariants.{keyed, Left}
 use Rattle.squares.proofs.zobrist.set_key.Goals as goal
@@ -37,12 +34,6 @@ ended c k from s left key table f z e t =
     ∙ ap₂ (λ (l : List ℕ) (n : ℕ). keyed l (64 * n) (bit_and s 0x003F_F7FE_FFDF_FBFF)) t f
     ∙ ap (λ (m : ℕ). keyed keys (64 * block c k) (bit_and s m)) (sym all_is) ∙ table_key c k s
 
-block_lt : (c : Color) (k : PieceKind) → block c k < 4
-block_lt White Man = omega arith
-block_lt Black Man = omega arith
-block_lt White King = omega arith
-block_lt Black King = omega arith
-
 -- nothing on the board
 empty_key : (c : Color) (k : PieceKind) (s : ℕ) → bit_and s 0x003F_F7FE_FFDF_FBFF ≡ 0 → 0 ≡ set_key_of c k s
 empty_key c k s z =
@@ -51,28 +42,6 @@ empty_key c k s z =
 
 pub returns-then-set-eq0 : goal.returns-then-set-eq0
 returns-then-set-eq0 c = empty_key _ _ _ c.if-set-eq0.true
-
-pub overflow_mul-from : goal.overflow_mul-from
-overflow_mul-from c = omega (arith, c.index-from.ensures, block_lt c.args.color c.args.kind)
-
-pub loop-bit-init : goal.loop-bit-init
-loop-bit-init c = rw c.into_iter-bit-iterator.ensures.into_iter_gives (record { sum = xor_zero_l _ }, lt_of_le_of_lt (and_le_r c.args.set 0x003F_F7FE_FFDF_FBFF) (omega arith))
-
--- the entry that is read stands in the table
-in_table : (c : Color) (k : PieceKind) (from left bit : ℕ) → from ≡ block c k → 0 < left → left < 2 ^ 54 → bit ≡ lowest left → 64 * from + bit < 256
-in_table c k from left bit e p h q = omega (arith, block_lt c k, lowest_lt 64 left p (omega arith))
-
-pub overflow_add-key : goal.overflow_add-key
-overflow_add-key c =
-    omega (arith, in_table c.args.color c.args.kind c.index-from.result c.loop-bit.bit-iterator.0 _ c.index-from.ensures c.in-Some.ensures.steps.0 c.loop-bit.invariant.1 c.in-Some.ensures.steps.1)
-
-pub offset_bounds-keys-from : goal.offset_bounds-keys-from
-offset_bounds-keys-from c =
-    omega (arith, in_table c.args.color c.args.kind c.index-from.result c.loop-bit.bit-iterator.0 _ c.index-from.ensures c.in-Some.ensures.steps.0 c.loop-bit.invariant.1 c.in-Some.ensures.steps.1)
-
-pub bounds-keys-from : goal.bounds-keys-from
-bounds-keys-from c =
-    in_table c.args.color c.args.kind c.index-from.result c.loop-bit.bit-iterator.0 _ c.index-from.ensures c.in-Some.ensures.steps.0 c.loop-bit.invariant.1 c.in-Some.ensures.steps.1
 
 pub loop-bit-preserved : goal.loop-bit-preserved
 loop-bit-preserved c =

@@ -1,13 +1,8 @@
--- One field a turn, as in `items`.
-use Prim.Native.Nat.{◌-◌, ◌+◌}
-use lib.ListN.{length}
-use Rattle.texts.specs.Bytes.{parts_from}
-use Rattle.texts.specs.Fen.{at_colon, field_of, fields_of}
-use Rattle.texts.proofs.Readers.{Left}
+-- Part by part: what is read of those that are left is what is read of all.
+use mathlib.Core.Path.{◌≡◌}
+use Rattle.texts.specs.Split.{parts_left}
+use Rattle.texts.specs.Fen.{fields_of}
 use Rattle.texts.proofs.fen.fields.Given as goal
 
-abbrev pub invariant-loop-at : goal.invariant-loop-at
-invariant-loop-at l = Left field_of 58 l.s (fields_of l.initial.read (parts_from at_colon l.s l.initial.at)) l.read l.at
-
-abbrev pub decreases-loop-at : goal.decreases-loop-at
-decreases-loop-at l = length l.s + 1 - l.at
+abbrev pub invariant-loop-text : goal.invariant-loop-text
+invariant-loop-text l = fields_of l.read (parts_left l.text-iterator) ≡ fields_of l.initial.read (parts_left l.texts)

@@ -1,13 +1,9 @@
--- One item a turn: the definition at the whole is the definition at what is left.
-use Prim.Native.Nat.{◌-◌, ◌+◌}
-use lib.ListN.{length}
+-- Part by part: what is read of those that are left is what is read of all.
+use mathlib.Core.Path.{◌≡◌}
+use Rattle.texts.specs.Split.{parts_left}
 use Rattle.texts.specs.Bytes.{split_on}
-use Rattle.texts.specs.Fen.{at_comma, item_of, items_of}
-use Rattle.texts.proofs.Readers.{Left}
+use Rattle.texts.specs.Fen.{at_comma, items_of}
 use Rattle.texts.proofs.fen.items.Given as goal
 
-abbrev pub invariant-loop-at : goal.invariant-loop-at
-invariant-loop-at l = Left (item_of l.color) 44 l.s (items_of l.color l.initial.read (split_on at_comma l.s)) l.read l.at
-
-abbrev pub decreases-loop-at : goal.decreases-loop-at
-decreases-loop-at l = length l.s + 1 - l.at
+abbrev pub invariant-loop-text : goal.invariant-loop-text
+invariant-loop-text l = items_of l.color l.read (parts_left l.text-iterator) ≡ items_of l.color l.initial.read (split_on at_comma l.s)

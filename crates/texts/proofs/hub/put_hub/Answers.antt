@@ -1,12 +1,9 @@
 -- One square a turn: what is put on and what remains are the whole text.
-use mathlib.Core.Path.{refl, ◌∙◌}
+use mathlib.Core.Path.{◌∙◌}
 use native.Mathlib.Omega.{arith}
 use Rattle.texts.proofs.Writers as laws
 use Rattle.positions.specs.Boards.{board_of}
 use Rattle.texts.proofs.hub.put_hub.Goals as goal
-
-pub loop-n-init : goal.loop-n-init
-loop-n-init c = refl
 
 pub loop-n-preserved : goal.loop-n-preserved
 loop-n-preserved c =

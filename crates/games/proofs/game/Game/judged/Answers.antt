@@ -1,7 +1,6 @@
 -- The current position is sound, since it is one of those kept.
 use mathlib.Core.Path.{◌≡◌}
 use lib.ListN.{length}
-use Rattle.games.specs.Games.{judged_of}
 use Rattle.games.proofs.Valid.{valid_says}
 use Rattle.squares.proofs.Lengths.{length_of_map}
 use Rattle.games.proofs.Window.{last_sound}
@@ -13,7 +12,3 @@ judge-requires c =
     let g = c.args.self in
     let k : length g.kept ≡ 51 = search (rules, length_of_map) in
     rw c.last-p.ensures (last_sound g (valid_says g c.requires) k)
-
-pub returns : goal.returns
-unfolding judged_of
-returns c = rw (← c.last-p.ensures, ← c.stood-times.ensures) c.judge.ensures
