@@ -35,7 +35,7 @@ module _ (b : Board) (fair : Fair b) where
       list_in s ≡ whole_list (map numbered (longest same_bits count (captures b)))
   unfolding whole_list
   captures_filled =
-      holds_list _ _ (omega arith) (search_holds b fair) ∙ ap (λ (x : Found). option_map list_of x.moves) (found_law b fair 256)
+      holds_list _ _ (omega arith) (search_holds b fair) ∙ ap (λ (x : Found). option_map list_of x.moves) (found_law b fair 256).1
       ∙ go (leb (length l) 256)
       ∙ ap (λ (n : ℕ). cond (leb n 256) (Some (list_of (map numbered l))) None) (sym (length-map l numbered))
     where

@@ -33,7 +33,7 @@ use Rattle.rules.proofs.Boards.{piece_lt}
 use Rattle.rules.proofs.Bounded.{bounded}
 use Rattle.rules.proofs.Captures.{of_sequences}
 use Rattle.rules.proofs.Paths.{Path}
-use Rattle.rules.proofs.Search.{path_on, of_king_tried, searched_is}
+use Rattle.rules.proofs.Search.{path_on, of_king_tried, searched, searched_is}
 use Rattle.rules.proofs.Shortcut.{king_tried, all_tried}
 use Rattle.capture_laws.proofs.Kings.{king_endings_lem}
 use Rattle.capture_laws.proofs.Men.{man_endings_lem}
@@ -141,12 +141,16 @@ module _ (b : Board) (fair : Fair b) where
       begun : State (start_of 256 (enemy b) (empty b)) (found 0 (Some []))
       begun = record { them = refl; holds = none_holds (enemy b) (empty b) }
 
-  -- the fold with any limit: the longest captures, and none where there are more than the limit
+  -- the fold with any limit: the longest captures as far as the limit goes, and a mark where there are more. The fold of
+  -- the code has the same captures, and none where there are more
   pub found_law : (limit : ℕ) → let l = longest same_bits count (captures b) in
-      foldl (note_in limit) (found 0 (Some [])) (map numbered (all_tried b)) ≡ found (best count (captures b)) (cond (leb (length l) limit) (Some (map numbered l)) None)
-  found_law limit =
-      sym (fold_within limit (map numbered (all_tried b)) (bounded 0 [] false)) ∙ ap within (searched_is b fair limit)
-      ∙ ap (found (best count (captures b))) (cut limit (map numbered l) (length l) (length-map l numbered))
+      (searched b limit ≡ bounded (best count (captures b)) (take limit (map numbered l)) (ltb limit (length l)))
+      × (foldl (note_in limit) (found 0 (Some [])) (map numbered (all_tried b)) ≡ found (best count (captures b)) (cond (leb (length l) limit) (Some (map numbered l)) None))
+  found_law limit = (
+    searched_is b fair limit,
+    sym (fold_within limit (map numbered (all_tried b)) (bounded 0 [] false)) ∙ ap within (searched_is b fair limit)
+        ∙ ap (found (best count (captures b))) (cut limit (map numbered l) (length l) (length-map l numbered)),
+  )
     where
       l : List BitMove
       l = longest same_bits count (captures b)

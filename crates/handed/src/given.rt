@@ -22,10 +22,7 @@ pub(crate) fn letter(s: &[u8]) -> u8 {
 
 // The number in the word with this index.
 pub(crate) fn number(s: &[u8], index: usize) -> u64 {
-    match numbers::set(words::word(s, index)) {
-        Some(n) => n,
-        None => 0,
-    }
+    numbers::set(words::word(s, index)).unwrap_or(0)
 }
 
 pub(crate) fn small(n: u64) -> u32 {
@@ -33,10 +30,7 @@ pub(crate) fn small(n: u64) -> u32 {
 }
 
 fn weight(s: &[u8], index: usize) -> i32 {
-    match numbers::read_signed(words::word(s, index)) {
-        Some(z) => z,
-        None => 0,
-    }
+    numbers::read_signed(words::word(s, index)).unwrap_or(0)
 }
 
 fn side(n: u64) -> Color {

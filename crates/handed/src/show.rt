@@ -1,6 +1,5 @@
 // Writes answers. A position is written as its FEN and its hash. One that refusal 12 turns back has no FEN: the refusal
 // is written in its place.
-ghost use Rattle.std.specs.Prelude.{◌≤◌};
 
 use captures::moves::MoveList;
 use movegen::perft::Divided;
@@ -104,13 +103,6 @@ pub(crate) fn wrote(rt: &impl Print, w: Result<usize, Refusal>, out: &[u8]) -> i
     println!(rt; "]")
 }
 
-// 1 or 0, so that counting needs no branch.
-pub(crate) fn one(yes: bool) -> u64
-    ensures { result ≤ 1 }
-{
-    if yes { 1 } else { 0 }
-}
-
 pub(crate) fn blank_move() -> Move {
     Move {
         captured: 0,
@@ -119,25 +111,13 @@ pub(crate) fn blank_move() -> Move {
     }
 }
 
-fn blank(m: Move) -> bool {
-    (m.from == 0) & ((m.to == 0) & (m.captured == 0))
-}
-
 // How many of the 256 entries are blank.
-fn blank_moves(list: MoveList) -> u64 {
-    let mut n: u64 = 0;
-    for m in list.moves {
-        n += one(blank(m));
-    }
-    n
+fn blank_moves(list: MoveList) -> usize {
+    list.moves.iter().filter(|m| **m == blank_move()).count()
 }
 
-fn zeros(counts: [u64; 256]) -> u64 {
-    let mut n: u64 = 0;
-    for count in counts {
-        n += one(count == 0);
-    }
-    n
+fn zeros(counts: [u64; 256]) -> usize {
+    counts.iter().filter(|count| **count == 0).count()
 }
 
 fn list(rt: &impl Print, l: MoveList) -> io::Result<()> {

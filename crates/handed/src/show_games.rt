@@ -13,17 +13,18 @@ pub(crate) fn blank_game() -> Game {
     Game::new()
 }
 
-fn blank(p: Position) -> bool {
-    let sets = (p.white == 0) & ((p.black == 0) & (p.kings == 0));
-    sets & ((p.side == Color::White) & (p.hash == 0))
+fn blank() -> Position {
+    Position {
+        white: 0,
+        black: 0,
+        kings: 0,
+        side: Color::White,
+        hash: 0,
+    }
 }
 
-fn blank_positions(g: Game) -> u64 {
-    let mut n: u64 = 0;
-    for p in g.kept {
-        n += show::one(blank(p));
-    }
-    n
+fn blank_positions(g: Game) -> usize {
+    g.kept.iter().filter(|p| **p == blank()).count()
 }
 
 fn game(rt: &impl Print, g: Game) -> io::Result<()> {

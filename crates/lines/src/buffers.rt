@@ -24,7 +24,7 @@ const INPUT: usize = 131072;
 
 const OUTPUT: usize = 1572864;
 
-// Bytes in an array of N: the first `count` of them.
+// Bytes in an array of N: the first `count` of them. The library's `ArrayVec` lends no free bytes to be read into.
 #[derive(Drop)]
 pub(crate) struct Buffer<const N: usize> {
     bytes: [u8; N],

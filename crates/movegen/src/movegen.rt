@@ -55,6 +55,7 @@ pub fn legal_moves(p: Position, limit: usize) -> Result<MoveList, Refusal>
 {
     Refusal::BadPosition.unless(p.sound())?;
     Refusal::BeyondLimit.unless(limit <= MAX_MOVES)?;
+    // Not `ok_or`, which copies the list.
     let Some(list) = generate(View::of(p)) else {
         return Err(Refusal::TooManyMoves);
     };
@@ -87,6 +88,7 @@ pub fn after(p: Position, m: Move) -> Result<Position, Refusal>
 {
     Refusal::BadPosition.unless(p.sound())?;
     Refusal::NoSuchSquare.unless(m.on_board())?;
+    // Not `ok_or`, which copies the list.
     let Some(list) = generate(View::of(p)) else {
         return Err(Refusal::TooManyMoves);
     };

@@ -33,7 +33,8 @@ use squares::{bitboard, square};
 // The largest depth: 256^7 still fits in 64 bits.
 pub const MAX_DEPTH: u32 = 7;
 
-// The first moves and the count after each; unused counts are 0.
+// The first moves and the count after each; unused counts are 0. The list is as `legal_moves` hands it out, so the
+// counts are beside it.
 #[derive(Clone, Copy)]
 pub struct Divided {
     pub list: MoveList,
@@ -111,6 +112,7 @@ fn count(v: View, depth: u32) -> Result<u64, Refusal>
     if depth == 1 {
         return last_ply(v);
     }
+    // Not `ok_or`, which copies the list.
     let Some(list) = movegen::generate(v) else {
         return Err(Refusal::TooManyMoves);
     };
@@ -136,6 +138,7 @@ fn split(v: View, plies: u32) -> Result<Divided, Refusal>
     requires { Accepted (seen v) × (plies ≤ 6) }
     ensures { result ≡ divided_of plies (seen v) }
 {
+    // Not `ok_or`, which copies the list.
     let Some(list) = movegen::generate(v) else {
         return Err(Refusal::TooManyMoves);
     };

@@ -130,24 +130,15 @@ pub(crate) fn eval(p: Result<Position, Refusal>, weights: Classical, out: &mut S
     }
 }
 
+#[tactic(auto, unfolding(crate::specs::Asked::weights_of))]
 fn read_weights(arg: &[u8]) -> Option<Classical>
     ensures { result ≡ weights_of arg.now }
 {
-    let Some(man) = numbers::read_signed(words::word(arg, 1)) else {
-        return None;
-    };
-    let Some(king) = numbers::read_signed(words::word(arg, 2)) else {
-        return None;
-    };
-    let Some(advance) = numbers::read_signed(words::word(arg, 3)) else {
-        return None;
-    };
-    let Some(center) = numbers::read_signed(words::word(arg, 4)) else {
-        return None;
-    };
-    let Some(guard) = numbers::read_signed(words::word(arg, 5)) else {
-        return None;
-    };
+    let man = numbers::read_signed(words::word(arg, 1))?;
+    let king = numbers::read_signed(words::word(arg, 2))?;
+    let advance = numbers::read_signed(words::word(arg, 3))?;
+    let center = numbers::read_signed(words::word(arg, 4))?;
+    let guard = numbers::read_signed(words::word(arg, 5))?;
     Some(Classical {
         man,
         king,

@@ -22,7 +22,7 @@ use wording::output::Flaw;
 use wording::words::Words;
 use wording::{escapes, numbers, output};
 
-// How the plays of a game are given.
+// How the plays of a game are given. It is no closure, since the definitions take it too.
 #[derive(Clone, Copy)]
 pub enum Given {
     Text,

@@ -10,7 +10,8 @@ use squares::refusal::Refusal;
 use texts::{bytes, fen, hub};
 use wording::escapes;
 
-// How the text of a position is read: as FEN, as Hub, or as whichever of the two it looks like.
+// How the text of a position is read: as FEN, as Hub, or as whichever of the two it looks like. It is no closure, since
+// the definitions take it too.
 #[derive(Clone, Copy)]
 pub enum Form {
     Fen,

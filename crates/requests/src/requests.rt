@@ -69,7 +69,8 @@ pub enum Request {
     Record,
 }
 
-// The requests in the order of the table.
+// The requests in the order of the table. A name is looked up in the table's bytes, since these are what `--help`
+// prints; the law `whole` says that the two agree.
 const REQUESTS: [Request; 22] = [
     Request::Fen,
     Request::Hub,

@@ -25,7 +25,7 @@ pub struct Drawn {
     pub output: u64,
 }
 
-// The low 64 bits of a product.
+// The low 64 bits of a product: the library's, with the product in its contract.
 pub fn wrapping_mul(a: u64, b: u64) -> u64
     ensures { result ≡ a * b % 2 ^ 64 }
 {

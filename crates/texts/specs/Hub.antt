@@ -7,8 +7,7 @@ use Rattle.squares.specs.Pieces.{color_char, color_from_char_of, piece_char, pie
 use Rattle.squares.specs.declared.piece.PieceKind.{PieceKind}
 use Rattle.squares.specs.declared.piece.PieceKind.TheVariants.{Man, King}
 use Rattle.squares.specs.Refusals.{refusal}
-use Rattle.squares.specs.declared.piece.Color.TheVariants.{White, Black}
-use Rattle.positions.specs.Boards.{Board, board_of, standing_of, piece_at_of}
+use Rattle.positions.specs.Boards.{Board, board_of, piece_at_of}
 use Rattle.positions.specs.Acceptance.{sound}
 use Rattle.positions.specs.declared.position.Position.{Position}
 use Rattle.texts.specs.Bytes.{longest_text, readable}
@@ -32,10 +31,6 @@ abbrev pub standing_char : Result (Option Piece) Refusal → ℕ
 standing_char (Ok (Some p)) = piece_char p
 standing_char (Ok None) = code "e"
 standing_char (Err e) = code "e"
-
--- the letter of a square, given whether White, Black and a king are on it
-abbrev pub letter_of : Bool → Bool → Bool → ℕ
-letter_of white black king = standing_char (cond white (standing_of White king) (cond black (standing_of Black king) (Ok None)))
 
 -- the letter of square n
 unfoldable pub hub_char : Board → ℕ → ℕ

@@ -56,7 +56,7 @@ impl<'a> Space<'a> {
         self.put_byte(b'0' + n % 10);
     }
 
-    // The bytes before the place.
+    // The bytes before the place. The fields are open, so the place is tested.
     #[tactic(auto, unfolding(crate::specs::Lent::text_of))]
     #[inline(always)]
     pub fn text(&self) -> &[u8]

@@ -1,6 +1,6 @@
 -- Signed numbers of 32 bits: what the code's casts and differences are.
 use mathlib.Core.Path.{◌≡◌, refl, sym, ap, ◌∙◌}
-use Prim.Native.Nat.{ℕ, zero, suc, ◌+◌, ◌-◌, ◌^◌, ◌<◌, ◌≤◌}
+use Prim.Native.Nat.{ℕ, zero, suc, ◌+◌, ◌-◌, ◌^◌, ◌<◌}
 use native.Mathlib.Omega.{arith}
 use native.Mathlib.Numerals.{add-one}
 use mathlib.Core.Bool.{Bool, true, false, cond, false≢true}
@@ -9,7 +9,7 @@ use lib.Dec.{T, ltb}
 use lib.IntN.{ℤ, pos, negsuc, neg_ℤ, nat_abs, ◌+ℤ◌, ◌-ℤ◌, +ℤ_idl, neg_ℤ-neg_ℤ}
 use lib.Signed.{mag, lt_z, non_neg}
 use mir.Syntax.{w32, w64}
-use mir.Val.{Fits, SFits, to_z, of_z, sel}
+use mir.Val.{Fits, SFits, to_z, of_z}
 use mir.Facts.{to_z-of_z}
 use borrow.Author.Rules.{sfits_of}
 use borrow.Author.Tests.{lt-ltb, ltb-true}
@@ -17,9 +17,6 @@ use Rattle.wording.specs.Output.{decimal, signed}
 
 abbrev pub held : ℤ → ℤ
 held z = to_z w32 (of_z w32 z)
-
-small32 : (n : ℕ) → n < 2 ^ 31 → to_z w32 n ≡ pos n
-small32 n h = ap (λ (t : Bool). sel t (pos n) (negsuc (2 ^ 32 - suc n))) (lt-ltb n (2 ^ 31) h)
 
 up : (n : ℕ) → negsuc n +ℤ pos 1 ≡ neg_ℤ (pos n)
 up zero = refl
@@ -35,20 +32,6 @@ up (suc n) = go (ltb 1 (suc (suc n))) (lt-ltb 1 (suc (suc n)) (omega arith))
 small : (n : ℕ) → n < 2 ^ 31 → SFits w32 (neg_ℤ (pos n))
 small zero h = sfits_of (omega arith)
 small (suc n) h = sfits_of (omega arith)
-
--- ---- the opposite of a number that was read
-module _ (n : ℕ) (h : n ≤ 2147483647) where
-  opposite : to_z w32 0 -ℤ to_z w32 n ≡ neg_ℤ (pos n)
-  opposite = ap (λ (x : ℤ). pos 0 -ℤ x) (small32 n (omega arith)) ∙ +ℤ_idl (neg_ℤ (pos n))
-
-  pub opposite_fits : SFits w32 (to_z w32 0 -ℤ to_z w32 n)
-  opposite_fits = rw opposite (small n (omega arith))
-
-  pub opposite_is : held (to_z w32 0 -ℤ to_z w32 n) ≡ neg_ℤ (pos n)
-  opposite_is = to_z-of_z opposite_fits ∙ opposite
-
-  pub positive_is : to_z w32 n ≡ pos n
-  positive_is = small32 n (omega arith)
 
 -- ---- z is -(n + 1): 1 is added before the sign is changed, so that the smallest one has an opposite
 pub record Below (z : ℤ) : Type 0 where

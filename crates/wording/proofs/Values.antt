@@ -7,7 +7,6 @@ use mathlib.Core.Bool.{Bool, true, false, cond, ◌&&◌}
 use native.Mathlib.Omega.{arith}
 use lib.ListN.{take, length, drop, get_or, drop_of_length-le}
 use lib.Dec.{leb, ltb, eqb}
-use lib.IntN.{pos, neg_ℤ}
 use borrow.Author.Tests.{le-leb, lt-leb, lt-ltb, le-ltb, eq-eqb, ne_eqb, leb-true, leb-false, ltb-true, ltb-false}
 use Rattle.squares.proofs.Bools.{and_right}
 use Rattle.texts.specs.Bytes.{strip}
@@ -194,23 +193,17 @@ prefix_end (a ∷ []) k = refl
 prefix_end (a ∷ (b ∷ t)) k = absurd (omega arith)
 
 -- ---- signs
-pub signed_none : (s : List ℕ) → length s ≡ 0 → signed_of s ≡ None
-unfolding signed_of
+pub signed_none : (s : List ℕ) → length s < 1 → signed_of s ≡ positive_of (number_in 10 4294967295 (strip 43 s))
+unfolding signed_of number_in strip
 signed_none [] e = refl
 signed_none (b ∷ s) e = absurd (omega arith)
 
-pub signed_minus : (s : List ℕ) → (length s ≡ 0 → ⊥) → get_or s 0 0 ≡ 45 → signed_of s ≡ negative_of (number_in 10 4294967295 (drop 1 s))
+pub signed_minus : (s : List ℕ) → 1 ≤ length s → get_or s 0 0 ≡ 45 → signed_of s ≡ negative_of (number_in 10 4294967295 (take (length s - 1) (drop 1 s)))
 unfolding signed_of
-signed_minus [] h e = absurd (h refl)
-signed_minus (b ∷ s) h e = rw (eq-eqb b 45 e)
+signed_minus [] h e = absurd (omega arith)
+signed_minus (b ∷ s) h e = rw (eq-eqb b 45 e) (ap (λ (x : List ℕ). negative_of (number_in 10 4294967295 x)) (sym (rest (b ∷ s) 1)))
 
-pub signed_plus : (s : List ℕ) → (length s ≡ 0 → ⊥) → (get_or s 0 0 ≡ 45 → ⊥) → signed_of s ≡ positive_of (number_in 10 4294967295 (strip 43 s))
+pub signed_plus : (s : List ℕ) → 1 ≤ length s → (get_or s 0 0 ≡ 45 → ⊥) → signed_of s ≡ positive_of (number_in 10 4294967295 (strip 43 s))
 unfolding signed_of
-signed_plus [] h e = absurd (h refl)
+signed_plus [] h e = absurd (omega arith)
 signed_plus (b ∷ s) h e = rw (ne_eqb b 45 e)
-
-pub negative_low : (n : ℕ) → n ≤ 2147483647 → negative_of (Some n) ≡ Some (neg_ℤ (pos n))
-negative_low n h = rw (le-leb n 2147483648 (omega arith))
-
-pub negative_high : (n : ℕ) → 2147483647 < n → (n ≡ 2147483648 → ⊥) → negative_of (Some n) ≡ None
-negative_high n h e = rw (lt-leb n 2147483648 (omega (arith, e)))

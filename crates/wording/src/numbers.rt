@@ -1,4 +1,4 @@
-// Readers of numbers. Each takes a whole word and answers its value, or `Bad` where it is not such a number:
+// Readers of numbers. Each takes a whole word and answers its value, or `None` where it is not such a number:
 //
 // * `unsigned`: up to 2^32 - 1, as Rust reads a u32 (a `+` and leading zeros are allowed);
 // * `read_signed`: from -2^31 to 2^31 - 1, as Rust reads an i32;
@@ -87,50 +87,27 @@ pub fn set(s: &[u8]) -> Option<u64>
 }
 
 // The number itself, up to 2^31 - 1.
-#[tactic(auto, using(crate::proofs::Signs::positive_is))]
 fn positive(n: Option<u64>) -> Option<i32>
     ensures { result ≡ positive_of n }
 {
-    match n {
-        Some(v) => {
-            if v <= 0x7FFF_FFFF {
-                return Some(v as i32);
-            }
-            None
-        }
-        None => None,
-    }
+    i32::try_from(n?).ok()
 }
 
-// The number with its sign changed, down to -2^31. That smallest number has no opposite of 32 bits.
-#[tactic(auto, using(crate::proofs::Signs::opposite_fits, crate::proofs::Signs::opposite_is, crate::proofs::Values::negative_low, crate::proofs::Values::negative_high))]
+// The number with its sign changed, down to -2^31. The opposite of that smallest number is past 32 bits, so the sign is changed in 64.
 fn negative(n: Option<u64>) -> Option<i32>
     ensures { result ≡ negative_of n }
 {
-    match n {
-        Some(v) => {
-            if v <= 0x7FFF_FFFF {
-                return Some(-(v as i32));
-            }
-            if v == 0x8000_0000 {
-                return Some(-0x7FFF_FFFF - 1);
-            }
-            None
-        }
-        None => None,
-    }
+    let v = i64::try_from(n?).ok()?;
+    i32::try_from(-v).ok()
 }
 
 // A signed number of 32 bits.
-#[tactic(auto, using(crate::proofs::Values::signed_none, crate::proofs::Values::signed_plus))]
+#[tactic(auto, using(crate::proofs::Values::signed_none, crate::proofs::Values::signed_plus, crate::proofs::Values::signed_minus))]
 pub fn read_signed(s: &[u8]) -> Option<i32>
     ensures { result ≡ signed_of s.now }
 {
-    if s.len() == 0 {
-        return None;
-    }
-    if s[0] == b'-' {
-        return negative(number(&s[1..], 10, 0xFFFF_FFFF));
+    if let [b'-', digits @ ..] = s {
+        return negative(number(digits, 10, 0xFFFF_FFFF));
     }
     positive(number(bytes::strip(s, b'+'), 10, 0xFFFF_FFFF))
 }

@@ -7,7 +7,7 @@ ghost use Rattle.wording.specs.Steps.{words_left};
 
 use texts::bytes;
 
-// Whether two texts are the same.
+// Whether two texts are the same: `==` of slices, whose contract says it byte by byte.
 #[tactic(auto, using(crate::proofs::WordLaws::same_pointwise))]
 pub fn same(a: &[u8], b: &[u8]) -> bool
     ensures { result ≡ same_text a.now b.now }

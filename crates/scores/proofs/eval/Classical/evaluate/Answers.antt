@@ -1,10 +1,9 @@
 -- The tests of refusals 12 and 10 in this order, then the score.
 use Rattle.std.proofs.Common.{rules}
 use Rattle.std.specs.Prelude.{Err}
-use mathlib.Core.Path.{◌≡◌, sym, ◌∙◌}
+use mathlib.Core.Path.{◌≡◌, ◌∙◌}
 use lib.Dec.{lit<}
 use Rattle.squares.specs.declared.refusal.Refusal.TheVariants.{BadPosition, BeyondLimit}
-use Rattle.squares.proofs.Bools.{and_left}
 use Rattle.squares.proofs.Refusals.{holds, fails}
 use Rattle.positions.specs.Acceptance.{sound}
 use Rattle.scores.proofs.Integers.{read}
@@ -21,14 +20,6 @@ returns-in_err-unless-2 c =
     let q : c.from_residual-in_err-unless-2.result ≡ Err BeyondLimit = search rules in
     q
     ∙ refused_10 c.args.self c.args.p c.sound.result c.sound.ensures c.fits.result c.fits.ensures (holds _ _ c.in_ok-unless.ensures) (fails _ _ c.in_err-unless-2.ensures)
-
-pub side_score-requires : goal.side_score-requires
-unfolding sound
-side_score-requires c =
-    record {
-      self_value = sym c.fits.ensures ∙ holds _ _ c.in_ok-unless-2.ensures;
-      p_value = and_left _ _ (sym c.sound.ensures ∙ holds _ _ c.in_ok-unless.ensures);
-    }
 
 pub returns : goal.returns
 returns c =

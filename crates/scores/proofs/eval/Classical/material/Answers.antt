@@ -3,7 +3,7 @@ use mathlib.Core.Path.{ap, ◌∙◌}
 use lib.Dec.{lit<}
 use Rattle.squares.specs.Sets.{size}
 use Rattle.scores.specs.Score.{material_of}
-use Rattle.scores.proofs.Integers.{held_within, add_of_lem, fits, read}
+use Rattle.scores.proofs.Integers.{held_within, add_of_lem, read}
 use Rattle.scores.proofs.Scores.{weights_of_lem, count_le, of_term}
 use Rattle.scores.proofs.eval.Classical.material.Goals as goal
 
@@ -14,9 +14,6 @@ term-requires c =
 pub term-requires-2 : goal.term-requires-2
 term-requires-2 c =
     record { weight_value = held_within 10000 c.args.self.king (lit< tt) (weights_of_lem c.args.self c.requires).king; number_bound = count_le _ _ c.count-2.ensures }
-
-pub overflow_add-result : goal.overflow_add-result
-overflow_add-result c = fits (add_of_lem c.term.ensures c.term-2.ensures (lit< tt) (lit< tt)) (lit< tt)
 
 pub returns : goal.returns
 unfolding material_of

@@ -22,9 +22,6 @@ pub term-requires-2 : goal.term-requires-2
 term-requires-2 c =
     record { weight_value = held_within 10000 c.args.self.center (lit< tt) (weights_of_lem c.args.self c.requires.self_value).center; number_bound = count_le _ _ c.count.ensures }
 
-pub overflow_add-result : goal.overflow_add-result
-overflow_add-result c = fits (add_of_lem c.term.ensures c.term-2.ensures (lit< tt) (lit< tt)) (lit< tt)
-
 pub term-requires-3 : goal.term-requires-3
 term-requires-3 c =
     record { weight_value = held_within 10000 c.args.self.guard (lit< tt) (weights_of_lem c.args.self c.requires.self_value).guard; number_bound = c.guards.ensures.upper_bound }

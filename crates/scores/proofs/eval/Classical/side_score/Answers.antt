@@ -1,12 +1,7 @@
 -- White's score, or its negative for Black.
-use lib.Dec.{lit<}
 use Rattle.positions.specs.Boards.{board_of}
-use Rattle.scores.proofs.Integers.{neg_of, fits}
 use Rattle.scores.proofs.ScoreSums.{for_white, for_black}
 use Rattle.scores.proofs.eval.Classical.side_score.Goals as goal
-
-pub overflow_sub-result : goal.overflow_sub-result
-overflow_sub-result c = fits (neg_of c.white_score-score.ensures (lit< tt)) (lit< tt)
 
 pub returns-in-White : goal.returns-in-White
 returns-in-White c =

@@ -1,12 +1,9 @@
 -- White's worth less Black's, damped.
 use lib.Dec.{lit<}
 use Rattle.positions.specs.Boards.{board_of}
-use Rattle.scores.proofs.Integers.{less_of, fits, read, le_within}
+use Rattle.scores.proofs.Integers.{less_of, read, le_within}
 use Rattle.scores.proofs.ScoreSums.{white_of}
 use Rattle.scores.proofs.eval.Classical.white_score.Goals as goal
-
-pub overflow_sub-worth : goal.overflow_sub-worth
-overflow_sub-worth c = fits (less_of c.worth.ensures c.worth-2.ensures (lit< tt) (lit< tt)) (lit< tt)
 
 pub damp-requires : goal.damp-requires
 damp-requires c =

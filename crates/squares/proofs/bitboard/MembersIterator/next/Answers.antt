@@ -1,5 +1,5 @@
 -- A set without its lowest bit has one bit fewer.
-use Rattle.std.proofs.Common.{◌≡◌, ℕ, ◌+◌, ◌-◌, ◌^◌, ◌<◌, refl, arith}
+use Rattle.std.proofs.Common.{ℕ, ◌-◌, ◌^◌, ◌<◌, arith}
 use lib.Bits.{bit_and}
 use Rattle.squares.specs.Sets.{size, lowest}
 use Rattle.squares.proofs.Folds.{parts_lowest}
