@@ -1,20 +1,21 @@
 -- The laws that crates above cite: on a fair board the search for captures by formula ends with the list of the rules, in its
 -- order, and every entry behind the moves is blank.
 use Rattle.std.specs.Prelude.{Some, None, option_map}
-use mathlib.Core.Path.{◌≡◌, refl, sym, ap, ◌∙◌}
+use mathlib.Core.Path.{◌≡◌, refl, sym, ap, ap₂, ◌∙◌, subst}
 use Prim.Native.Nat.{ℕ}
 use mathlib.Core.Bool.{Bool, true, false, cond}
-use mathlib.Core.List.{List, [], ◌∷◌, map}
-use lib.ListN.{length, length-map}
-use lib.Dec.{leb}
+use mathlib.Core.List.{List, [], ◌∷◌, ◌++◌, map}
+use lib.ListN.{length, take, replicate, length-map, length-take}
+use lib.Dec.{leb, ltb}
+use borrow.Author.Tests.{ltb-true, ltb-false, lt-leb, le-leb}
 use Rattle.squares.specs.declared.piece.PieceKind.TheVariants.{Man, King}
 use Rattle.positions.specs.Boards.{Board, enemy, empty, pieces}
 use Rattle.positions.specs.declared.moves.Move.{Move}
 use Rattle.captures.specs.declared.movegen.Captures.{Captures}
 use Rattle.captures.specs.Kings.{kings_captures_of}
-use Rattle.captures.specs.Lists.{list_of, whole_list}
+use Rattle.captures.specs.Lists.{blank, list_of, whole_list}
 use Rattle.captures.specs.Men.{men_captures_of}
-use Rattle.captures.specs.Record.{list_in, start_of}
+use Rattle.captures.specs.Record.{entered, list_in, start_of}
 use native.Mathlib.Omega.{arith}
 use Rattle.captures.proofs.Limit.{Found}
 use Rattle.rules.specs.Lists.{keep, distinct, best, longest}
@@ -22,29 +23,50 @@ use Rattle.rules.specs.Ordered.{count, captures, same_bits, legal}
 use Rattle.rules.specs.Rules.{BitMove, numbered, Open, NoJump, Fair}
 use Rattle.rules.proofs.Agreement.{bits_some}
 use Rattle.rules.proofs.Laws.{no_jump}
-use Rattle.captures.proofs.Held.{holds_list}
+use Rattle.captures.proofs.Held.{number_in}
+use Rattle.captures.proofs.Stored.{filled, refilled}
 use Rattle.capture_laws.proofs.Search.{search_of, search_holds, found_law}
+use Rattle.capture_laws.proofs.Stored.{cut_entries}
 
--- the list of a search is these moves, then blanks, where there are at most 256
+-- the entries of a search are the first 256 of these moves, then blanks; it has their number where there are no more
 abbrev pub Filled : Captures 256 → List Move → Type 0
-Filled s ms = list_in s ≡ whole_list ms
+Filled s ms = (s.moves ≡ (list_of ms).moves) × (s.len ≡ cond (ltb 256 (length ms)) None (Some (length ms)))
+
+-- so as a list, where there are at most 256
+pub filled_list : (s : Captures 256) (ms : List Move) → Filled s ms → list_in s ≡ whole_list ms
+unfolding list_in list_of whole_list
+filled_list s ms f = ap (option_map (entered s.moves)) f.1 ∙ go (ltb 256 (length ms)) refl
+  where
+    go : (t : Bool) → ltb 256 (length ms) ≡ t
+        → option_map (entered s.moves) (cond t None (Some (length ms))) ≡ cond (leb (length ms) 256) (Some (list_of ms)) None
+    go true e = sym (ap (λ (c : Bool). cond c (Some (list_of ms)) None) (lt-leb (length ms) 256 (ltb-true 256 (length ms) e)))
+    go false e =
+        let h = ltb-false 256 (length ms) e in
+        ap₂ (λ (l : List Move) (n : ℕ). Some (record { moves = l; len = n }))
+        (ap (λ (l : List Move). take 256 (l ++ replicate 256 blank)) f.0 ∙ refilled blank 256 256 ms h) (omega (arith, h))
+        ∙ sym (ap (λ (c : Bool). cond c (Some (list_of ms)) None) (le-leb (length ms) 256 h))
 
 module _ (b : Board) (fair : Fair b) where
   -- the longest captures, each once, in the order of the rules
   pub captures_filled : let s = kings_captures_of (men_captures_of (start_of 256 (enemy b) (empty b)) (pieces b Man) (empty b)) (pieces b King) (empty b) in
-      list_in s ≡ whole_list (map numbered (longest same_bits count (captures b)))
-  unfolding whole_list
+      Filled s (map numbered (longest same_bits count (captures b)))
+  unfolding list_of
   captures_filled =
-      holds_list _ _ (omega arith) (search_holds b fair) ∙ ap (λ (x : Found). option_map list_of x.moves) (found_law b fair 256).1
-      ∙ go (leb (length l) 256)
-      ∙ ap (λ (n : ℕ). cond (leb n 256) (Some (list_of (map numbered l))) None) (sym (length-map l numbered))
+      let l = longest same_bits count (captures b) in
+      let h = search_holds b fair in
+      let x = found_law b fair 256 in (
+        h.list ∙ ap (λ (x : Found). filled blank 256 x.moves) x ∙ cut_entries (map numbered l),
+        h.len ∙ ap number_in x ∙ go (ltb 256 (length l)) refl ∙ ap (λ (n : ℕ). cond (ltb 256 n) None (Some n)) (sym (length-map l numbered)),
+      )
     where
-      l : List BitMove
-      l = longest same_bits count (captures b)
-
-      go : (t : Bool) → option_map list_of (cond t (Some (map numbered l)) None) ≡ cond t (Some (list_of (map numbered l))) None
-      go true = refl
-      go false = refl
+      go : (t : Bool) → ltb 256 (length (longest same_bits count (captures b))) ≡ t
+          → cond (ltb 256 (length (longest same_bits count (captures b)))) None (Some (length (take 256 (map numbered (longest same_bits count (captures b))))))
+          ≡ cond (ltb 256 (length (longest same_bits count (captures b)))) None (Some (length (longest same_bits count (captures b))))
+      go true e = rw e refl
+      go false e =
+          let l = longest same_bits count (captures b) in
+          let k : length (take 256 (map numbered l)) ≡ length l = omega (arith, ltb-false 256 (length l) e, length-take 256 (map numbered l), length-map l numbered) in
+          ap (λ (n : ℕ). cond (ltb 256 (length l)) None (Some n)) k
 
   longest_legal : (c : BitMove) (cs : List BitMove) → captures b ≡ c ∷ cs → map numbered (longest same_bits count (captures b)) ≡ legal b
   unfolding legal
@@ -56,7 +78,7 @@ module _ (b : Board) (fair : Fair b) where
     where
       go : (l : List BitMove) → captures b ≡ l → Filled (search_of b) (legal b)
       go [] e = absurd (some e)
-      go (c ∷ cs) e = captures_filled ∙ ap whole_list (longest_legal c cs e)
+      go (c ∷ cs) e = subst (Filled (search_of b)) (longest_legal c cs e) captures_filled
 
   pub captures_open : Open b → Filled (search_of b) (legal b)
   captures_open o = captures_legal (λ e. (no_jump b fair).0 e o)
@@ -64,4 +86,4 @@ module _ (b : Board) (fair : Fair b) where
   -- where no jump is open nothing is found
   pub captures_shut : NoJump b → Filled (search_of b) []
   unfolding keep distinct best longest
-  captures_shut n = captures_filled ∙ ap (λ (l : List BitMove). whole_list (map numbered (longest same_bits count l))) ((no_jump b fair).1 n)
+  captures_shut n = subst (λ (l : List BitMove). Filled (search_of b) (map numbered (longest same_bits count l))) ((no_jump b fair).1 n) captures_filled

@@ -1,16 +1,13 @@
 -- The whole search of the code, piece by piece, records what the rules' search tries, in the same order.
-use Rattle.std.specs.Prelude.{Some, None}
 use mathlib.Core.Path.{◌≡◌, refl, sym, ap, ap₂, ◌∙◌, subst}
 use Prim.Native.Nat.{ℕ, ◌^◌, ◌<◌}
 use native.Mathlib.Omega.{arith}
-use mathlib.Core.Bool.{Bool, true, false, cond}
+use mathlib.Core.Bool.{true, false}
 use mathlib.Core.List.Memᴰ.{head}
 use mathlib.Core.List.Memᴰ.{tail}
 use mathlib.Core.List.{List, [], ◌∷◌, map, map-append, foldl, foldl-append, Memᴰ as Member}
-use lib.ListN.{length, take, length-map}
-use lib.Seq.{take_all}
-use lib.Dec.{leb, ltb}
-use borrow.Author.Tests.{ltb-true, ltb-false, lt-leb, le-leb}
+use lib.ListN.{length, take}
+use lib.Dec.{ltb}
 use Rattle.squares.specs.declared.piece.PieceKind.{PieceKind}
 use Rattle.squares.specs.declared.piece.PieceKind.TheVariants.{Man, King}
 use Rattle.squares.specs.Sets.{has, members}
@@ -30,16 +27,16 @@ use Rattle.rules.specs.Lists.{concat_map, best, longest}
 use Rattle.rules.specs.Ordered.{enough, sequences, count, captures, same_bits}
 use Rattle.rules.specs.Rules.{BitMove, numbered, space, Fair}
 use Rattle.rules.proofs.Boards.{piece_lt}
-use Rattle.rules.proofs.Bounded.{bounded}
+use Rattle.rules.proofs.Bounded.{Bounded}
 use Rattle.rules.proofs.Captures.{of_sequences}
 use Rattle.rules.proofs.Paths.{Path}
-use Rattle.rules.proofs.Search.{path_on, of_king_tried, searched, searched_is}
+use Rattle.rules.proofs.Search.{path_on, of_king_tried, searched_is}
 use Rattle.rules.proofs.Shortcut.{king_tried, all_tried}
 use Rattle.capture_laws.proofs.Kings.{king_endings_lem}
 use Rattle.capture_laws.proofs.Men.{man_endings_lem}
 use Rattle.squares.proofs.OneBit.{first_bit}
 use Rattle.captures.proofs.Held.{Holds, move_to, Searched, none_holds, fold_holds}
-use Rattle.capture_laws.proofs.Recorded.{within, fold_within}
+use Rattle.capture_laws.proofs.Recorded.{fold_bound}
 use Rattle.capture_laws.proofs.Steps.{ended}
 
 -- the moves that the code makes of the endings of a piece that began on i
@@ -51,16 +48,6 @@ moves_of i h (w ∷ ws) p =
     ap₂ (λ (m : Move) (l : List Move). m ∷ l)
     (ap₂ (λ (x y : ℕ). move x y w.taken) (first_bit i h ∙ ap square_at_bit (sym q.0)) (first_bit w.to q.1))
     (moves_of i h ws (λ z m. p z (tail m)))
-
--- the moves up to the limit, where there are no more
-cut : (limit : ℕ) (ms : List Move) (n : ℕ) → length ms ≡ n → cond (ltb limit n) None (Some (take limit ms)) ≡ cond (leb n limit) (Some ms) None
-cut limit ms n e = go (ltb limit n) refl
-  where
-    go : (b : Bool) → ltb limit n ≡ b → cond b None (Some (take limit ms)) ≡ cond (leb n limit) (Some ms) None
-    go true q = sym (ap (λ (t : Bool). cond t (Some ms) None) (lt-leb n limit (ltb-true limit n q)))
-    go false q =
-        let h = ltb-false limit n q in
-        ap Some (take_all limit ms (omega (arith, h, e))) ∙ sym (ap (λ (t : Bool). cond t (Some ms) None) (le-leb n limit h))
 
 -- all the captures of the code
 abbrev pub search_of : Board → Captures 256
@@ -83,7 +70,7 @@ module _ (b : Board) (fair : Fair b) where
   }
     where
       holds : Holds (onto (empty b) s i) x
-      holds = record { room = t.holds.room; lists = t.holds.lists; best = t.holds.best }
+      holds = record { room = t.holds.room; list = t.holds.list; len = t.holds.len; few = t.holds.few; full = t.holds.full; best = t.holds.best }
 
       r : Searched (onto (empty b) s i) (foldl note_of (onto (empty b) s i) es) (foldl (note_in 256) x (map (move_to (2 ^ i)) es))
       r = fold_holds es (onto (empty b) s i) x holds
@@ -124,12 +111,12 @@ module _ (b : Board) (fair : Fair b) where
         → State (foldl step s (members (pieces b k))) (foldl (note_in 256) x (map numbered (concat_map rule (members (pieces b k)))))
     every s x t = each (members (pieces b k)) (λ i m. of_members (pieces b k) i m) s x t
 
-  pub search_holds : Holds (search_of b) (foldl (note_in 256) (found 0 (Some [])) (map numbered (all_tried b)))
+  pub search_holds : Holds (search_of b) (foldl (note_in 256) (found 0 [] false) (map numbered (all_tried b)))
   unfolding men_captures_of kings_captures_of all_tried
   search_holds =
       subst (λ (y : Found). Holds (search_of b) y)
-      (sym (ap (foldl (note_in 256) (found 0 (Some []))) (map-append numbered men kings)
-      ∙ foldl-append (note_in 256) (found 0 (Some [])) (map numbered men) (map numbered kings)))
+      (sym (ap (foldl (note_in 256) (found 0 [] false)) (map-append numbered men kings)
+      ∙ foldl-append (note_in 256) (found 0 [] false) (map numbered men) (map numbered kings)))
       (every King (king_captures (empty b)) (king_tried b) king _ _ (every Man (man_captures (empty b)) (sequences b Man) man _ _ begun)).holds
     where
       men : List BitMove
@@ -138,19 +125,12 @@ module _ (b : Board) (fair : Fair b) where
       kings : List BitMove
       kings = concat_map (king_tried b) (members (pieces b King))
 
-      begun : State (start_of 256 (enemy b) (empty b)) (found 0 (Some []))
+      begun : State (start_of 256 (enemy b) (empty b)) (found 0 [] false)
       begun = record { them = refl; holds = none_holds (enemy b) (empty b) }
 
-  -- the fold with any limit: the longest captures as far as the limit goes, and a mark where there are more. The fold of
-  -- the code has the same captures, and none where there are more
+  -- the fold with any limit: the longest captures as far as the limit goes, and a mark where there are more
   pub found_law : (limit : ℕ) → let l = longest same_bits count (captures b) in
-      (searched b limit ≡ bounded (best count (captures b)) (take limit (map numbered l)) (ltb limit (length l)))
-      × (foldl (note_in limit) (found 0 (Some [])) (map numbered (all_tried b)) ≡ found (best count (captures b)) (cond (leb (length l) limit) (Some (map numbered l)) None))
-  found_law limit = (
-    searched_is b fair limit,
-    sym (fold_within limit (map numbered (all_tried b)) (bounded 0 [] false)) ∙ ap within (searched_is b fair limit)
-        ∙ ap (found (best count (captures b))) (cut limit (map numbered l) (length l) (length-map l numbered)),
-  )
-    where
-      l : List BitMove
-      l = longest same_bits count (captures b)
+      foldl (note_in limit) (found 0 [] false) (map numbered (all_tried b)) ≡ found (best count (captures b)) (take limit (map numbered l)) (ltb limit (length l))
+  found_law limit =
+      ap (λ (y : Bounded Move). found y.most y.list y.over)
+      (fold_bound limit (map numbered (all_tried b)) (found 0 [] false) ∙ searched_is b fair limit)

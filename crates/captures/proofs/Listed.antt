@@ -1,13 +1,32 @@
--- Search in a list of moves, as a chain asks it.
-use mathlib.Core.Path.{◌≡◌, refl, ap}
-use mathlib.Core.Bool.{Bool, ◌||◌}
+-- Search in a list of moves, as a chain asks it, and what a list is after one more.
+use Rattle.std.specs.Prelude.{Option, Some, None, Result, Ok, Err}
+use mathlib.Core.Path.{◌≡◌, refl, ap, ◌∙◌}
+use mathlib.Core.Bool.{Bool, true, false, cond, ◌||◌}
+use Prim.Native.Nat.{ℕ}
+use native.Mathlib.Omega.{arith}
+use lib.Dec.{ltb}
 use mathlib.Core.List.{List, [], ◌∷◌}
 use Rattle.positions.specs.declared.moves.Move.{Move}
 use Rattle.positions.specs.Moves.{same}
 use Rattle.std.specs.List.{list_any}
-use Rattle.captures.specs.Lists.{listed}
+use Rattle.captures.specs.declared.moves.MoveList.{MoveList}
+use Rattle.captures.specs.Lists.{listed, push_of, kept, put_of}
 
 pub listed_any : (l : List Move) (m : Move) → listed l m ≡ list_any (λ x. same x m) l
 unfolding listed
 listed_any [] m = refl
 listed_any (x ∷ l) m = ap (λ (b : Bool). same x m || b) (listed_any l m)
+
+-- with room or without, the list is the one with the move at its end
+pub put_push : (l k : MoveList) (r : Option Unit) (m : Move) → kept k r ≡ put_of l m → k ≡ push_of l m
+unfolding put_of push_of
+put_push l k r m e = held r (ltb l.len 256) refl e
+  where
+    full : ltb l.len 256 ≡ false → push_of l m ≡ l
+    full t = rw t refl
+
+    held : (r : Option Unit) (b : Bool) → ltb l.len 256 ≡ b → kept k r ≡ cond b (Ok (push_of l m)) (Err l) → k ≡ push_of l m
+    held None true t e = absurd (let z : ◌≡◌ {A = ℕ} 0 1 = cc in omega arith)
+    held None false t e = let q : k ≡ l = cc in rw (full t) q
+    held (Some u) true t e = cc
+    held (Some u) false t e = absurd (let z : ◌≡◌ {A = ℕ} 0 1 = cc in omega arith)

@@ -1,5 +1,5 @@
 -- Lists of at most 256 moves by value: the moves, then blanks (docs/RULES.md, "Limits and lent space").
-use Rattle.std.specs.Prelude.{ℕ, ◌+◌, min, Bool, false, cond, ◌||◌, Option, Some, None, List, [], ◌∷◌, ◌++◌, leb, ltb, length, get_or, set, take, replicate}
+use Rattle.std.specs.Prelude.{ℕ, ◌+◌, min, Bool, false, cond, ◌||◌, Option, Some, None, Result, Ok, Err, List, [], ◌∷◌, ◌++◌, leb, ltb, length, get_or, set, take, replicate}
 use Rattle.positions.specs.declared.moves.Move.{Move}
 use Rattle.positions.specs.Moves.{move, same}
 use Rattle.captures.specs.declared.moves.MoveList.{MoveList}
@@ -24,6 +24,15 @@ listed (x ∷ l) m = same x m || listed l m
 -- one more move at the end, where there is room
 unfoldable pub push_of : MoveList → Move → MoveList
 push_of l m = cond (ltb l.len 256) (record { moves = set l.moves l.len m; len = l.len + 1 }) l
+
+-- the list, and whether what was put in had room
+abbrev pub kept : MoveList → Option Unit → Result MoveList MoveList
+kept l None = Err l
+kept l (Some u) = Ok l
+
+-- one more move at the end, where there is room; else the list as it is
+unfoldable pub put_of : MoveList → Move → Result MoveList MoveList
+put_of l m = cond (ltb l.len 256) (Ok (push_of l m)) (Err l)
 
 -- the entry at index i, blank from 256 on
 unfoldable pub get_of : MoveList → ℕ → Move

@@ -4,10 +4,9 @@ ghost use Rattle.std.specs.Prelude.{◌≡◌};
 ghost use Rattle.captures.specs.Men.{men_captures_of};
 ghost use Rattle.captures.specs.Kings.{kings_captures_of};
 ghost use Rattle.captures.specs.All.{all_captures_of};
-ghost use Rattle.captures.specs.View.{own_men_of, own_kings_of, empty_of};
 
 use crate::movegen::{Came, Captures, king_open, man_open};
-use crate::view::View;
+use crate::view::Sets;
 use squares::bitboard::{Bitboard, Members};
 
 // Most boards have no more captures than this.
@@ -43,12 +42,11 @@ fn kings_captures<const N: usize>(s: &mut Captures<N>, kings: Bitboard, empty: B
 }
 
 // The longest captures of all pieces. A list that has no room for them has no length.
-pub fn all_captures<const N: usize>(v: View) -> Captures<N>
-    ensures { result ≡ all_captures_of N (own_men_of v) (own_kings_of v) v.them (empty_of v) }
+pub fn all_captures<const N: usize>(sets: Sets) -> Captures<N>
+    ensures { result ≡ all_captures_of N sets.men sets.kings sets.them sets.empty }
 {
-    let empty = v.empty();
-    let mut s = Captures::new(v.them, empty);
-    men_captures(&mut s, v.men(), empty);
-    kings_captures(&mut s, v.own_kings(), empty);
+    let mut s = Captures::new(sets.them, sets.empty);
+    men_captures(&mut s, sets.men, sets.empty);
+    kings_captures(&mut s, sets.kings, sets.empty);
     s
 }

@@ -1,7 +1,7 @@
-// A board as the side to move sees it. The search for moves and the depth counts need no more.
+// A board as the side to move sees it, for depth counts, and its sets as the search for moves takes them.
 ghost use Rattle.std.specs.Prelude.{◌≡◌};
 ghost use Rattle.positions.specs.Boards.{board_of};
-ghost use Rattle.captures.specs.View.{view_of, own_men_of, own_kings_of, empty_of};
+ghost use Rattle.captures.specs.View.{view_of, own_men_of, own_kings_of, empty_of, sets_of};
 
 use positions::position::Position;
 use squares::bitboard;
@@ -50,4 +50,28 @@ impl View {
     {
         bitboard::not(self.us | self.them)
     }
+
+    // Its sets, for the search.
+    pub fn sets(self) -> Sets
+        ensures { result ≡ sets_of self }
+    {
+        Sets {
+            men: self.men(),
+            kings: self.own_kings(),
+            them: self.them,
+            empty: self.empty(),
+            side: self.side,
+        }
+    }
+}
+
+// What the search for moves and its tests take: the men and the kings of the side to move, the enemy's pieces, the empty
+// squares, and the side. They may be any sets: what is made of them is what the formulas give.
+#[derive(Clone, Copy)]
+pub struct Sets {
+    pub men: Bitboard,
+    pub kings: Bitboard,
+    pub them: Bitboard,
+    pub empty: Bitboard,
+    pub side: Color,
 }

@@ -19,10 +19,7 @@ pub fn read_once<R: Read>(from: &mut R, space: &mut [u8]) -> Result<usize, Failu
     ensures came_in { CameIn (length space.new) result }
     ensures came_from { CameFrom (R.remaining from.old) (R.remaining from.new) space.new result }
 {
-    match from.read(space) {
-        Ok(n) => Ok(n),
-        Err(_) => Err(Failure::Read),
-    }
+    from.read(space).map_err(|_| Failure::Read)
 }
 
 // Reads one byte. Returns nothing at the end of the input.
@@ -30,10 +27,8 @@ fn read_byte<R: Read>(from: &mut R) -> Result<Option<u8>, Failure>
     ensures { SingleFrom (R.remaining from.old) (R.remaining from.new) result }
 {
     let mut one = [0u8; 1];
-    if read_once(from, &mut one)? == 0 {
-        return Ok(None);
-    }
-    Ok(Some(one[0]))
+    let n = read_once(from, &mut one)?;
+    Ok(one[..n].first().copied())
 }
 
 // Reads byte by byte up to a line feed, the end of the input or the end of the buffer. Returns how many bytes the line

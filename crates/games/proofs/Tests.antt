@@ -1,5 +1,5 @@
 -- The tests of the game and those of the book agree on an accepted board: squares of a record, king endings, the outcome.
-use Rattle.std.specs.Prelude.{None, Ok, Some}
+use Rattle.std.specs.Prelude.{None, Some}
 use mathlib.Core.Path.{◌≡◌, refl, sym, ap, ap₂, ◌∙◌}
 use Prim.Native.Nat.{ℕ, zero, suc, ◌+◌, ◌-◌, ◌^◌, ◌<◌, ◌≤◌, min}
 use native.Mathlib.Nat.{min-eq_left, min-eq_right}

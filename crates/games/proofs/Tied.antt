@@ -20,7 +20,7 @@ use Rattle.positions.specs.declared.position.Position.{Position}
 use Rattle.rules.specs.Ordered.{legal, listed}
 use Rattle.movegen.specs.Lists.{after_of, played_of}
 use Rattle.games.specs.Demand3.{answers_to, game_after, game_of, heard_of, heard, Demand3}
-use Rattle.games.specs.Games.{blank_position, last_of, valid, judged_of, ended}
+use Rattle.games.specs.Games.{last_of, valid, judged_of, ended}
 use Rattle.games.specs.Play.{empty_game, fresh_of, new_of, reached_of, play_of, after_play, outcome_of}
 use Rattle.games.specs.declared.game.Game.{Game}
 use Rattle.games.proofs.Laws.{demand3}

@@ -38,6 +38,10 @@ valid_says g e =
       sound = and_right (eqb g.len (g.reversible + 1)) _ last;
     }
 
+-- so the window ends within what is kept
+pub window_fits : (g : Game) → valid g ≡ true → g.len ≤ 51
+window_fits g e = let v = valid_says g e in omega arith
+
 pub says_valid : (g : Game) → Valid g → valid g ≡ true
 unfolding valid
 says_valid g v =

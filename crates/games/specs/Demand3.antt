@@ -3,7 +3,7 @@
 -- the plays before it led to; a refused play changes nothing. `Heard` is what the caller is answered. `Demand3` says: every answer, the last
 -- position and the outcome are those of the book (Book.antt); the hash is right; the pieces on the board add up; and
 -- every accepted move took as many pieces as possible. It is one claim about the whole list, not one for each play.
-use Rattle.std.specs.Prelude.{◌≡◌, ℕ, ◌+◌, List, [], ◌∷◌, None, Ok, Result, Some, Err}
+use Rattle.std.specs.Prelude.{◌≡◌, ℕ, ◌+◌, List, [], ◌∷◌, None, Ok, Result, Some}
 use Rattle.std.specs.Result.{result_unwrap_or}
 use Rattle.squares.specs.Refusals.{answer_number_of}
 use Rattle.squares.specs.Sets.{size}

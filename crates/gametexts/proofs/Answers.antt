@@ -37,5 +37,5 @@ module _ (g : Game) (v : valid g ≡ true) where
   pub over_at : (t : Bool) → is_over_of g ≡ Ok t → ended (judged_of g) ≡ t
   over_at t e = let f = sym over_told ∙ e in cc
 
-  pub over_not : {A : Type 0} (e : Refusal) → is_over_of g ≡ Err e → A
-  over_not e h = let f = sym over_told ∙ h in let z : ◌≡◌ {A = ℕ} 0 1 = cc in absurd (omega arith)
+  pub over_not : (e : Refusal) → is_over_of g ≡ Err e → ⊥
+  over_not e h = let f = sym over_told ∙ h in let z : ◌≡◌ {A = ℕ} 0 1 = cc in omega arith

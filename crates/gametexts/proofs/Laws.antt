@@ -18,7 +18,7 @@ use Rattle.positions.specs.Moves.{squares_of}
 use Rattle.positions.specs.Successor.{successor}
 use Rattle.positions.specs.declared.moves.Move.{Move}
 use Rattle.positions.specs.declared.position.Position.{Position}
-use Rattle.positions.proofs.Accepts.{sound_says, says_sound}
+use Rattle.positions.proofs.Accepts.{says_sound}
 use Rattle.rules.specs.Ordered.{legal, listed}
 use Rattle.movegen.specs.Lists.{after_of}
 use Rattle.movegen.proofs.Answers.{after_one}

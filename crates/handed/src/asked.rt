@@ -8,39 +8,32 @@
 //   h  a move text on a game: the text
 //   j  a new game from a FEN: the FEN
 // A semicolon follows, and after it the text that the answer begins with.
+use crate::given::Values;
 use crate::{given, show, show_games};
 use games::game::Game;
 use games::replay as replays;
 use movegen::perft;
-use positions::moves::Move;
 use positions::position;
 use positions::position::Position;
 use scores::eval;
-use scores::eval::Classical;
 use squares::refusal::Refusal;
 use squares::{bitboard, square};
 use std::io;
 use texts::{bytes, fen, hub};
 use wording::words;
 
-fn of_position(
-    rt: &impl Print,
-    entry: u64,
-    n: u64,
-    p: Position,
-    m: Move,
-    w: Classical,
-) -> io::Result<()> {
+fn of_position(rt: &impl Print, entry: u64, n: u64, v: &Values) -> io::Result<()> {
+    let p = v.position;
     match entry {
         0 => show::listed(rt, movegen::movegen::legal_moves(p, n as usize)),
         1 => show::tested(rt, movegen::movegen::has_captures(p)),
         2 => show::tested(rt, movegen::movegen::has_quiet_moves(p)),
-        3 => show::placed(rt, movegen::movegen::after(p, m)),
+        3 => show::placed(rt, movegen::movegen::after(p, v.mv)),
         4 => show::placed(rt, p.flipped()),
         5 => show::value(rt, perft::perft(p, given::small(n))),
         6 => show::divided(rt, perft::divide(p, given::small(n))),
         7 => show::value(rt, eval::evaluate(p)),
-        8 => show::value(rt, w.evaluate(p)),
+        8 => show::value(rt, v.weights.evaluate(p)),
         9 => show_games::begun(rt, Game::from_position(p)),
         10 => show::standing(rt, p.piece_at(given::small(n))),
         _ => parts(rt, p),
@@ -62,40 +55,34 @@ fn of_number(rt: &impl Print, entry: u64, n: u64) -> io::Result<()> {
     }
 }
 
-fn write_into(entry: u64, p: Position, m: Move, out: &mut [u8]) -> Result<usize, Refusal> {
+fn write_into(entry: u64, v: &Values, out: &mut [u8]) -> Result<usize, Refusal> {
     match entry {
-        0 => fen::fen(p, out),
-        1 => hub::hub(p, out),
-        2 => notation::moves::to_hub(m, out),
-        _ => notation::moves::display(m, out),
+        0 => fen::fen(v.position, out),
+        1 => hub::hub(v.position, out),
+        2 => notation::moves::to_hub(v.mv, out),
+        _ => notation::moves::display(v.mv, out),
     }
 }
 
 // Lends the first n of these bytes, which are dots. A writer that refuses must leave every dot as it is; one that
 // writes must leave the dots after its text.
-fn lend(
-    rt: &impl Print,
-    entry: u64,
-    n: usize,
-    p: Position,
-    m: Move,
-    dots: &mut [u8],
-) -> io::Result<()> {
+fn lend(rt: &impl Print, entry: u64, n: usize, v: &Values, dots: &mut [u8]) -> io::Result<()> {
     if n <= dots.len() {
-        let w = write_into(entry, p, m, &mut dots[..n]);
+        let w = write_into(entry, v, &mut dots[..n]);
         return show::wrote(rt, w, &dots[..n]);
     }
     Ok(())
 }
 
-fn of_space(rt: &impl Print, entry: u64, n: u64, p: Position, m: Move) -> io::Result<()> {
+fn of_space(rt: &impl Print, entry: u64, n: u64, v: &Values) -> io::Result<()> {
     let mut dots = [b'.'; 64];
-    lend(rt, entry, n as usize, p, m, &mut dots)
+    lend(rt, entry, n as usize, v, &mut dots)
 }
 
-fn of_game(rt: &impl Print, entry: u64, n: u64, g: Game, m: Move) -> io::Result<()> {
+fn of_game(rt: &impl Print, entry: u64, n: u64, v: &Values) -> io::Result<()> {
+    let g = v.game;
     match entry {
-        0 => show_games::played(rt, g, g.play(m)),
+        0 => show_games::played(rt, g, g.play(v.mv)),
         1 => show_games::judged(rt, g.outcome()),
         2 => show::listed(rt, g.legal_moves(n as usize)),
         3 => show::value(rt, g.repetitions()),
@@ -150,49 +137,38 @@ fn of_list(rt: &impl Print, s: &[u8], p: Position, answers: u64, count: u64) -> 
     )
 }
 
-fn answer(
-    rt: &impl Print,
-    s: &[u8],
-    p: Position,
-    m: Move,
-    w: Classical,
-    g: Game,
-) -> io::Result<()> {
+fn answer(rt: &impl Print, s: &[u8], v: &Values) -> io::Result<()> {
     let entry = given::number(s, 1);
     let n = given::number(s, 2);
+    let p = v.position;
+    let g = v.game;
     match given::letter(s) {
-        b'a' => of_position(rt, entry, n, p, m, w),
+        b'a' => of_position(rt, entry, n, v),
         b'b' => of_number(rt, entry, n),
-        b'c' => of_space(rt, entry, n, p, m),
+        b'c' => of_space(rt, entry, n, v),
         b'd' => show::found(rt, notation::notation::parse_move(p, words::word(s, 1))),
-        b'e' => of_game(rt, entry, n, g, m),
+        b'e' => of_game(rt, entry, n, v),
         b'h' => show_games::played_text(rt, g, gametexts::game::play_str(g, words::word(s, 1))),
         b'j' => show_games::begun(rt, gametexts::game::from_fen(words::word(s, 1))),
         _ => of_list(rt, s, p, entry, n),
     }
 }
 
-fn line(rt: &impl Print, s: &[u8], p: Position, m: Move, w: Classical, g: Game) -> io::Result<()> {
+fn line(rt: &impl Print, s: &[u8], v: &Values) -> io::Result<()> {
     let n = bytes::find(s, b';');
     if n < s.len() {
         rt.write_all(&s[n + 1..])?;
         print!(rt; ": ")?;
-        return answer(rt, s, p, m, w, g);
+        return answer(rt, s, v);
     }
     Ok(())
 }
 
 pub(crate) fn lines(rt: &impl Print, text: &[u8]) -> io::Result<()> {
-    let mut p = position::initial();
-    let mut m = show::blank_move();
-    let mut w = Classical::new();
-    let mut g = show_games::blank_game();
+    let mut values = Values::new();
     for s in text.split(|b| *b == b'\n') {
-        p = given::position(p, s);
-        m = given::record(m, s);
-        w = given::weights(w, s);
-        g = given::game(g, p, s);
-        line(rt, s, p, m, w, g)?;
+        values.take(s);
+        line(rt, s, &values)?;
     }
     Ok(())
 }

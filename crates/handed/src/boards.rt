@@ -28,10 +28,10 @@ pub(crate) fn with_hash(
 ) -> Position {
     let pieces = key(Color::White, white, kings) ^ key(Color::Black, black, kings);
     Position {
-        white: white,
-        black: black,
-        kings: kings,
-        side: side,
+        white,
+        black,
+        kings,
+        side,
         hash: pieces ^ turn_key(side) ^ wrong,
     }
 }

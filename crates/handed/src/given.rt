@@ -8,6 +8,7 @@
 //   n  in a game: the number of kept positions and the two counters
 // Weights are decimal, other numbers hexadecimal. What cannot be read counts as 0.
 use crate::boards;
+use captures::moves::BLANK;
 use games::game::Game;
 use positions::moves::Move;
 use positions::position;
@@ -44,18 +45,7 @@ fn placed(s: &[u8]) -> Position {
     boards::with_hash(white, black, number(s, 3), side(number(s, 4)), number(s, 5))
 }
 
-pub(crate) fn position(p: Position, s: &[u8]) -> Position {
-    match letter(s) {
-        b'i' => position::initial(),
-        b'p' => placed(s),
-        _ => p,
-    }
-}
-
-pub(crate) fn record(m: Move, s: &[u8]) -> Move {
-    if letter(s) != b'm' {
-        return m;
-    }
+fn record(s: &[u8]) -> Move {
     Move {
         captured: number(s, 3),
         from: small(number(s, 1)),
@@ -63,10 +53,7 @@ pub(crate) fn record(m: Move, s: &[u8]) -> Move {
     }
 }
 
-pub(crate) fn weights(w: Classical, s: &[u8]) -> Classical {
-    if letter(s) != b'w' {
-        return w;
-    }
+fn weights(s: &[u8]) -> Classical {
     Classical {
         man: weight(s, 1),
         king: weight(s, 2),
@@ -76,38 +63,50 @@ pub(crate) fn weights(w: Classical, s: &[u8]) -> Classical {
     }
 }
 
-fn filled(g: Game, p: Position) -> Game {
-    let kept = [p; 51];
-    Game {
-        kept: kept,
-        len: g.len,
-        reversible: g.reversible,
-        material: g.material,
+// Puts the position into one entry of the game, where there is such an entry.
+fn keep(g: &mut Game, p: Position, at: u64) {
+    if at < 51 {
+        g.kept[at as usize] = p;
     }
 }
 
-fn keeping(g: Game, p: Position, at: u64) -> Game {
-    if 51 <= at {
-        return g;
+fn set_numbers(g: &mut Game, s: &[u8]) {
+    g.len = number(s, 1) as usize;
+    g.reversible = small(number(s, 2));
+    g.material = small(number(s, 3));
+}
+
+// What was handed in last, of each kind.
+#[derive(Clone, Copy)]
+pub(crate) struct Values {
+    pub(crate) position: Position,
+    pub(crate) mv: Move,
+    pub(crate) weights: Classical,
+    pub(crate) game: Game,
+}
+
+impl Values {
+    // What there is before the first line.
+    pub(crate) fn new() -> Values {
+        Values {
+            position: position::initial(),
+            mv: BLANK,
+            weights: Classical::new(),
+            game: Game::new(),
+        }
     }
-    let mut h = g;
-    h.kept[at as usize] = p;
-    h
-}
 
-fn numbered(g: Game, s: &[u8]) -> Game {
-    let mut h = g;
-    h.len = number(s, 1) as usize;
-    h.reversible = small(number(s, 2));
-    h.material = small(number(s, 3));
-    h
-}
-
-pub(crate) fn game(g: Game, p: Position, s: &[u8]) -> Game {
-    match letter(s) {
-        b'f' => filled(g, p),
-        b'k' => keeping(g, p, number(s, 1)),
-        b'n' => numbered(g, s),
-        _ => g,
+    // Takes what a line hands in.
+    pub(crate) fn take(&mut self, s: &[u8]) {
+        match letter(s) {
+            b'i' => self.position = position::initial(),
+            b'p' => self.position = placed(s),
+            b'm' => self.mv = record(s),
+            b'w' => self.weights = weights(s),
+            b'f' => self.game.kept = [self.position; 51],
+            b'k' => keep(&mut self.game, self.position, number(s, 1)),
+            b'n' => set_numbers(&mut self.game, s),
+            _ => {}
+        }
     }
 }

@@ -1,7 +1,7 @@
 // Writes answers. A position is written as its FEN and its hash. One that refusal 12 turns back has no FEN: the refusal
 // is written in its place.
 
-use captures::moves::MoveList;
+use captures::moves::{BLANK, MoveList};
 use movegen::perft::Divided;
 use positions::moves::Move;
 use positions::position::Position;
@@ -103,17 +103,9 @@ pub(crate) fn wrote(rt: &impl Print, w: Result<usize, Refusal>, out: &[u8]) -> i
     println!(rt; "]")
 }
 
-pub(crate) fn blank_move() -> Move {
-    Move {
-        captured: 0,
-        from: 0,
-        to: 0,
-    }
-}
-
 // How many of the 256 entries are blank.
 fn blank_moves(list: MoveList) -> usize {
-    list.moves.iter().filter(|m| **m == blank_move()).count()
+    list.moves.iter().filter(|m| **m == BLANK).count()
 }
 
 fn zeros(counts: [u64; 256]) -> usize {

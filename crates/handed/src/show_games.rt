@@ -2,16 +2,13 @@
 // entries are blank. After a play the current position follows, or `as it came` where the game equals the one handed
 // in, unused entries included. After the play of a move text the move handed back comes last.
 use crate::show;
+use captures::moves::BLANK;
 use games::game::{Game, Outcome, Termination};
 use gametexts::game::PlayedText;
 use positions::position::Position;
 use squares::piece::Color;
 use squares::refusal::Refusal;
 use std::io;
-
-pub(crate) fn blank_game() -> Game {
-    Game::new()
-}
 
 fn blank() -> Position {
     Position {
@@ -92,7 +89,7 @@ pub(crate) fn played_text(
 ) -> io::Result<()> {
     let played = r.unwrap_or(PlayedText {
         game: came,
-        mv: show::blank_move(),
+        mv: BLANK,
     });
     match r {
         Ok(_) => after_play(rt, came, Ok(played.game))?,

@@ -10,7 +10,7 @@ use mathlib.Core.List.Memᴰ.{head}
 use mathlib.Core.List.Memᴰ.{tail}
 use mathlib.Core.List.{List, [], ◌∷◌, Memᴰ as Member}
 use lib.ListN.{length, drop, get_or, drop_of_length-le}
-use lib.Seq.{drop-cons, get_or-take}
+use lib.Seq.{drop-cons}
 use lib.Dec.{ltb}
 use borrow.Author.Tests.{le-ltb, lt-ltb, ltb-false}
 use Rattle.squares.specs.declared.refusal.Refusal.{Refusal}
@@ -130,7 +130,7 @@ depth_none d b e = ap (λ (n : ℕ). depth_count n b) (sym e)
 
 -- ---- the code's list of an accepted board
 pub record Short (b : Board) (l : MoveList) : Type 0 where
-  pub moves : (i : ℕ) → i < l.len → get_or l.moves i blank ≡ get_or (legal b) i blank
+  pub moves : entries l ≡ legal b
   pub few : length (legal b) ≤ 256
   pub len : l.len ≡ length (legal b)
   pub whole : l ≡ list_of (legal b)
@@ -148,7 +148,7 @@ module _ (v : View) (a : Accepted (seen v)) (l : MoveList) (e : Some l ≡ gener
 
   pub short : Short (seen v) l
   short = record {
-    moves = λ i h. sym (get_or-take l.len l.moves i blank h) ∙ ap (λ (xs : List Move). get_or xs i blank) (ap entries full.1 ∙ few_entries (legal (seen v)) full.0);
+    moves = ap entries full.1 ∙ few_entries (legal (seen v)) full.0;
     few = full.0;
     len = ap (λ (l : MoveList). l.len) full.1 ∙ few_len (legal (seen v)) full.0;
     whole = full.1;
@@ -160,21 +160,25 @@ module _ (v : View) (a : Accepted (seen v)) (l : MoveList) (e : Some l ≡ gener
   at_member (x ∷ xs) zero h = head refl
   at_member (x ∷ xs) (suc i) h = tail (at_member xs i (omega arith))
 
-  module _ (w : Short (seen v) l) (i : ℕ) (h : i < l.len) where
+  -- the list lies in its array
+  pub in_array : l.len ≤ 256
+  in_array = omega (arith, short.len, short.few)
+
+  module _ (w : Short (seen v) l) (i : ℕ) (h : i < length (entries l)) where
     playable : Playable (seen v) (get_or (legal (seen v)) i blank)
     playable =
         let fair = fair_of_accepted (seen v) a in
-        legal_playable (seen v) fair _ (member_sound (seen v) fair _ (at_member (legal (seen v)) i (omega (arith, w.len))))
+        legal_playable (seen v) fair _ (member_sound (seen v) fair _ (at_member (legal (seen v)) i (omega (arith, ap length w.moves))))
 
-    stepped : (next : View) → next ≡ next_of v (get_or l.moves i blank) → seen next ≡ successor (seen v) (get_or (legal (seen v)) i blank)
+    stepped : (next : View) → next ≡ next_of v (get_or (entries l) i blank) → seen next ≡ successor (seen v) (get_or (legal (seen v)) i blank)
     stepped next q =
-        ap seen (q ∙ ap₂ next_of (sym (view_seen v)) (w.moves i h)) ∙ next_is (seen v) (get_or (legal (seen v)) i blank) a playable
+        ap seen (q ∙ ap₂ next_of (sym (view_seen v)) (ap (λ (xs : List Move). get_or xs i blank) w.moves)) ∙ next_is (seen v) (get_or (legal (seen v)) i blank) a playable
 
-    pub step_accepted : (next : View) → next ≡ next_of v (get_or l.moves i blank) → Accepted (seen next)
+    pub step_accepted : (next : View) → next ≡ next_of v (get_or (entries l) i blank) → Accepted (seen next)
     step_accepted next q = rw (stepped next q) (successor_accepted (seen v) (get_or (legal (seen v)) i blank) a playable)
 
     -- what a count below it says
-    pub counted : (n : ℕ) (next : View) (res c : Result ℕ Refusal) → next ≡ next_of v (get_or l.moves i blank) → res ≡ depth_count n (seen next) → res ≡ c
+    pub counted : (n : ℕ) (next : View) (res c : Result ℕ Refusal) → next ≡ next_of v (get_or (entries l) i blank) → res ≡ depth_count n (seen next) → res ≡ c
         → below n (seen v) (get_or (legal (seen v)) i blank) ≡ c
     counted n next res c q r s = ap (depth_count n) (sym (stepped next q)) ∙ sym r ∙ s
 
@@ -183,14 +187,10 @@ module _ (v : View) (a : Accepted (seen v)) (l : MoveList) (e : Some l ≡ gener
   pub listing_short : Short (seen v) l
   listing_short = short v a l e
 
-  -- an entry of the list lies in the array
-  pub in_array : i < l.len → i < 256
-  in_array h = omega (arith, listing_short.len, listing_short.few)
+  pub sum_done : length (entries l) ≤ i → Ok s ≡ depth_count (suc n) (seen v)
+  sum_done h = counting_done n (seen v) s i (omega (arith, ap length listing_short.moves)) c ∙ depth_more n (seen v) listing_short.few
 
-  pub sum_done : l.len ≤ i → Ok s ≡ depth_count (suc n) (seen v)
-  sum_done h = counting_done n (seen v) s i (omega (arith, listing_short.len)) c ∙ depth_more n (seen v) listing_short.few
-
-  module _ (h : i < l.len) (next : View) (q : next ≡ next_of v (get_or l.moves i blank)) where
+  module _ (h : i < length (entries l)) (next : View) (q : next ≡ next_of v (get_or (entries l) i blank)) where
     pub next_accepted : Accepted (seen next)
     next_accepted = step_accepted v a l e listing_short i h next q
 
@@ -199,14 +199,14 @@ module _ (v : View) (a : Accepted (seen v)) (l : MoveList) (e : Some l ≡ gener
 
     module _ (low : n ≤ 6) (res : Result ℕ Refusal) (r : res ≡ depth_count n (seen next)) where
       pub sum_fits : (k : ℕ) → res ≡ Ok k → s + k < 2 ^ 64
-      sum_fits k z = omega (arith, c.small, count_le n _ k low (sum_below res (Ok k) r z), listing_short.len, listing_short.few)
+      sum_fits k z = omega (arith, c.small, count_le n _ k low (sum_below res (Ok k) r z), ap length listing_short.moves, listing_short.few)
 
       pub sum_again : (k : ℕ) → res ≡ Ok k → Counting n (seen v) (s + k) (i + 1)
-      sum_again k z = counting_more n (seen v) s i k (omega (arith, listing_short.len)) low c (sum_below res (Ok k) r z)
+      sum_again k z = counting_more n (seen v) s i k (omega (arith, ap length listing_short.moves)) low c (sum_below res (Ok k) r z)
 
       pub sum_refused : (x : Refusal) → res ≡ Err x → Err x ≡ depth_count (suc n) (seen v)
       sum_refused x z =
-          counting_refused n (seen v) s i x (omega (arith, listing_short.len)) c (sum_below res (Err x) r z)
+          counting_refused n (seen v) s i x (omega (arith, ap length listing_short.moves)) c (sum_below res (Err x) r z)
           ∙ depth_more n (seen v) listing_short.few
 
 -- a depth that is not 0 is one more than the depth below

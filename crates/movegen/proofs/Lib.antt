@@ -7,5 +7,6 @@ pub mod Answers
 pub mod Says
 pub mod Orders
 pub mod Plies
+pub mod Played
 pub mod Taken
 pub mod ShortLists

@@ -25,8 +25,9 @@ use Rattle.squares.specs.Squares.{all}
 use Rattle.squares.specs.Pieces.{other}
 use Rattle.squares.specs.declared.piece.Color.{Color}
 use Rattle.squares.specs.declared.piece.Color.TheVariants.{White, Black}
-use Rattle.captures.specs.View.{view_of, own_men_of, own_kings_of, empty_of}
+use Rattle.captures.specs.View.{view_of, own_men_of, own_kings_of, empty_of, sets_of}
 use Rattle.captures.specs.declared.view.View.{View}
+use Rattle.captures.specs.declared.view.Sets.{Sets}
 use Rattle.captures.specs.Lists as codes
 use Rattle.captures.specs.Lists.{list_of, whole_list, entries}
 use Rattle.captures.proofs.Whole.{few_whole, many_whole}
@@ -122,23 +123,23 @@ empty_is b = ap (without all) (both b.side)
     both White = refl
     both Black = or_comm b.black b.white
 
-module _ (p : Position) (s : sound p ≡ true) (v : View) (e : v ≡ view_of (board_of p)) where
-  pub captures_tested : (r : Bool) → r ≡ has_capture_of (own_men_of v) (own_kings_of v) v.them (empty_of v) → Ok r ≡ has_captures_of p
+module _ (p : Position) (s : sound p ≡ true) (v : View) (e : v ≡ view_of (board_of p)) (w : Sets) (d : w ≡ sets_of v) where
+  pub captures_tested : (r : Bool) → r ≡ has_capture_of w.men w.kings w.them w.empty → Ok r ≡ has_captures_of p
   unfolding has_captures_of pieces of_kind
   captures_tested r h =
       let b = board_of p in
       ap Ok
-      (h ∙ ap (λ (w : View). has_capture_of (own_men_of w) (own_kings_of w) w.them (empty_of w)) e
+      (h ∙ ap (λ (x : Sets). has_capture_of x.men x.kings x.them x.empty) (d ∙ ap sets_of e)
       ∙ ap (has_capture_of (own_men_of (view_of b)) (own_kings_of (view_of b)) (enemy b)) (empty_is b)
       ∙ has_capture_law b (fair_of p s))
       ∙ sym (ap (λ (t : Bool). cond t (Ok (some (captures (board_of p)))) (Err BadPosition)) s)
 
-  pub quiets_tested : (r : Bool) → r ≡ has_quiet_of (own_men_of v) (own_kings_of v) (empty_of v) v.side → Ok r ≡ has_quiet_moves_of p
+  pub quiets_tested : (r : Bool) → r ≡ has_quiet_of w.men w.kings w.empty w.side → Ok r ≡ has_quiet_moves_of p
   unfolding has_quiet_moves_of pieces of_kind
   quiets_tested r h =
       let b = board_of p in
       ap Ok
-      (h ∙ ap (λ (w : View). has_quiet_of (own_men_of w) (own_kings_of w) (empty_of w) w.side) e
+      (h ∙ ap (λ (x : Sets). has_quiet_of x.men x.kings x.empty x.side) (d ∙ ap sets_of e)
       ∙ ap (λ (x : ℕ). has_quiet_of (own_men_of (view_of b)) (own_kings_of (view_of b)) x p.side) (empty_is b)
       ∙ has_quiet_law b (fair_of p s))
       ∙ sym (ap (λ (t : Bool). cond t (Ok (some (quiets (board_of p)))) (Err BadPosition)) s)

@@ -1,14 +1,14 @@
 -- What the generator computes on sets, for every input. A law says that on an accepted board this is the list of the
 -- rules (docs/RULES.md, "Legal moves"; `generated` in proofs/Generated.antt).
 use Rattle.std.specs.Prelude.{ℕ, cond, Option}
-use Rattle.std.specs.Int.Bits.{bit_and, bit_or, bit_xor}
+use Rattle.std.specs.Int.Bits.{bit_and, bit_or}
 use Rattle.squares.specs.Sets.{without}
-use Rattle.squares.specs.Squares.{all, single}
+use Rattle.squares.specs.Squares.{all}
 use Rattle.squares.specs.Pieces.{other}
 use Rattle.squares.specs.declared.piece.Color.{Color}
 use Rattle.squares.specs.declared.piece.Color.TheVariants.{White, Black}
 use Rattle.positions.specs.Boards.{Board, board}
-use Rattle.positions.specs.Successor.{kings_played}
+use Rattle.positions.specs.Successor.{moved, kings_played}
 use Rattle.positions.specs.declared.moves.Move.{Move}
 use Rattle.captures.specs.Record.{list_in}
 use Rattle.captures.specs.All.{all_captures_of}
@@ -46,7 +46,7 @@ generate_of v = moves_by_sets (without v.us v.kings) (bit_and v.us v.kings) v.th
 unfoldable pub next_of : View → Move → View
 next_of v m = record {
   us = without v.them m.captured;
-  them = bit_xor v.us (bit_xor (single m.from) (single m.to));
-  kings = kings_played v.side (without v.kings m.captured) m.from m.to;
+  them = moved v.us m;
+  kings = kings_played v.side (without v.kings m.captured) m;
   side = other v.side;
 }

@@ -36,16 +36,17 @@ const FEW_KINGS: u32 = 3;
 pub(crate) fn generate(v: View) -> Option<MoveList>
     ensures { result ≡ generate_of v }
 {
-    if quiets::quiets::has_capture(v) {
-        if bitboard::count(v.own_kings()) <= FEW_KINGS {
-            let few = all_captures::<ROOM>(v);
+    let sets = v.sets();
+    if quiets::quiets::has_capture(sets) {
+        if bitboard::count(sets.kings) <= FEW_KINGS {
+            let few = all_captures::<ROOM>(sets);
             if few.len.is_some() {
                 return few.list();
             }
         }
-        return all_captures::<MAX_MOVES>(v).list();
+        return all_captures::<MAX_MOVES>(sets).list();
     }
-    quiets::quiets::quiet_moves(v)
+    quiets::quiets::quiet_moves(sets)
 }
 
 // All legal moves, at most `limit` of them. Refusals: 12, 10, 17.
@@ -69,7 +70,7 @@ pub fn has_captures(p: Position) -> Result<bool, Refusal>
     ensures { result ≡ has_captures_of p }
 {
     Refusal::BadPosition.unless(p.sound())?;
-    Ok(quiets::quiets::has_capture(View::of(p)))
+    Ok(quiets::quiets::has_capture(View::of(p).sets()))
 }
 
 // Whether the side to move has a quiet move, even where it must capture. Refusal: 12.
@@ -78,7 +79,7 @@ pub fn has_quiet_moves(p: Position) -> Result<bool, Refusal>
     ensures { result ≡ has_quiet_moves_of p }
 {
     Refusal::BadPosition.unless(p.sound())?;
-    Ok(quiets::quiets::has_quiet(View::of(p)))
+    Ok(quiets::quiets::has_quiet(View::of(p).sets()))
 }
 
 // The position after a legal move, with its hash. Refusals: 12, 11, 17, 15.

@@ -11,10 +11,7 @@
 // A board whose list is needed must have at most 256 moves, else the count is refused 17. The plies work on a `View`,
 // so no hash is computed on the way.
 ghost use Rattle.std.specs.Prelude.{◌≡◌, ◌-◌, ◌≤◌};
-ghost use Rattle.std.specs.Int.Bits.{bit_xor};
-ghost use Rattle.squares.specs.Squares.{single};
 ghost use Rattle.positions.specs.Acceptance.{Accepted};
-ghost use Rattle.captures.specs.View.{own_men_of, own_kings_of, empty_of};
 ghost use Rattle.movegen.specs.Generate.{seen, capture_moves_of, next_of};
 ghost use Rattle.movegen.specs.LastPly.{limited_count, listed_count, last_ply_of};
 ghost use Rattle.movegen.specs.Counts.{depth_count, perft_of, divided_of, divide_of};
@@ -22,13 +19,11 @@ ghost use Rattle.movegen.specs.Counts.{depth_count, perft_of, divided_of, divide
 use crate::moves::{MAX_MOVES, MoveList};
 use crate::{movegen, playing};
 use captures::pieces::{ROOM, all_captures};
-use captures::view::View;
+use captures::view::{Sets, View};
 use positions::moves::Move;
 use positions::position::Position;
-use squares::bitboard::Bitboard;
+use squares::bitboard;
 use squares::refusal::Refusal;
-use squares::square::Square;
-use squares::{bitboard, square};
 
 // The largest depth: 256^7 still fits in 64 bits.
 pub const MAX_DEPTH: u32 = 7;
@@ -41,13 +36,6 @@ pub struct Divided {
     pub counts: [u64; 256],
 }
 
-// The set after its piece on `from` went to `to`. Where both are the same square, the set stays as it is.
-fn moved(set: Bitboard, from: Square, to: Square) -> Bitboard
-    ensures { result ≡ bit_xor set (bit_xor (single from) (single to)) }
-{
-    set ^ (square::bitboard(from) ^ square::bitboard(to))
-}
-
 // The board after a move, as the other side sees it.
 #[tactic(auto, unfolding(crate::specs::Generate::next_of))]
 fn next(v: View, mv: Move) -> View
@@ -57,8 +45,8 @@ fn next(v: View, mv: Move) -> View
     let kept = bitboard::difference(v.kings, mv.captured);
     View {
         us: bitboard::difference(v.them, mv.captured),
-        them: moved(v.us, mv.from, mv.to),
-        kings: playing::kings_played(side, kept, mv.from, mv.to),
+        them: playing::moved(v.us, mv),
+        kings: playing::kings_played(side, kept, mv),
         side: !side,
     }
 }
@@ -68,23 +56,20 @@ fn next(v: View, mv: Move) -> View
 fn limited(moves: u32) -> Result<u64, Refusal>
     ensures { result ≡ limited_count moves }
 {
-    if MAX_MOVES < moves as usize {
-        Err(Refusal::TooManyMoves)
-    } else {
-        Ok(moves as u64)
-    }
+    Refusal::TooManyMoves.unless(moves as usize <= MAX_MOVES)?;
+    Ok(moves as u64)
 }
 
 // The number of captures, or 17 where there are more than 256: from a short list, or from the long one where the short
 // one is too small.
-fn captures_count(v: View) -> Result<u64, Refusal>
-    ensures { result ≡ listed_count (capture_moves_of (own_men_of v) (own_kings_of v) v.them (empty_of v)) }
+fn captures_count(s: Sets) -> Result<u64, Refusal>
+    ensures { result ≡ listed_count (capture_moves_of s.men s.kings s.them s.empty) }
 {
-    let few = all_captures::<ROOM>(v);
+    let few = all_captures::<ROOM>(s);
     if let Some(len) = few.len {
         return Ok(len as u64);
     }
-    let all = all_captures::<MAX_MOVES>(v);
+    let all = all_captures::<MAX_MOVES>(s);
     let len = all.len.ok_or(Refusal::TooManyMoves)?;
     Ok(len as u64)
 }
@@ -94,10 +79,11 @@ fn captures_count(v: View) -> Result<u64, Refusal>
 fn last_ply(v: View) -> Result<u64, Refusal>
     ensures { result ≡ last_ply_of v }
 {
-    if quiets::quiets::has_capture(v) {
-        captures_count(v)
+    let sets = v.sets();
+    if quiets::quiets::has_capture(sets) {
+        captures_count(sets)
     } else {
-        limited(quiets::quiets::quiet_count(v))
+        limited(quiets::quiets::quiet_count(sets))
     }
 }
 
@@ -117,8 +103,8 @@ fn count(v: View, depth: u32) -> Result<u64, Refusal>
         return Err(Refusal::TooManyMoves);
     };
     let mut sum: u64 = 0;
-    for i in 0..list.len {
-        sum += count(next(v, list.moves[i]), depth - 1)?;
+    for &mv in &list.moves[..list.len] {
+        sum += count(next(v, mv), depth - 1)?;
     }
     Ok(sum)
 }
@@ -143,8 +129,8 @@ fn split(v: View, plies: u32) -> Result<Divided, Refusal>
         return Err(Refusal::TooManyMoves);
     };
     let mut counts = [0u64; 256];
-    for i in 0..list.len {
-        counts[i] = count(next(v, list.moves[i]), plies)?;
+    for (i, &mv) in list.moves[..list.len].iter().enumerate() {
+        counts[i] = count(next(v, mv), plies)?;
     }
     Ok(Divided { list, counts })
 }

@@ -6,27 +6,23 @@ ghost use Rattle.positions.specs.Successor.{play_of};
 use crate::playing;
 use positions::moves::Move;
 use positions::position::Position;
-use squares::{bitboard, square, zobrist};
+use squares::{bitboard, zobrist};
 
 // The hash is updated, not computed afresh, as in the Rust. For a move that can be played the result is the successor
 // with its own hash (`play_is` in crates/positions/proofs/Plays.antt); for any other move it is what the formulas
 // give.
-#[tactic(auto, unfolding(positions::specs::Successor::play_of))]
 pub(crate) fn play(p: Position, mv: Move) -> Position
     ensures { result ≡ play_of p mv }
 {
     let us = p.side;
     let them = !us;
-    let from = mv.from;
-    let to = mv.to;
-    let captured = mv.captured;
-    let kept = bitboard::difference(p.kings, captured);
-    let own = p.pieces(us) ^ (square::bitboard(from) ^ square::bitboard(to));
-    let enemy = bitboard::difference(p.pieces(them), captured);
+    let kept = bitboard::difference(p.kings, mv.captured);
+    let own = playing::moved(p.pieces(us), mv);
+    let enemy = bitboard::difference(p.pieces(them), mv.captured);
     let hash = p.hash
-        ^ playing::taken_key(them, captured, p.kings)
-        ^ playing::moved_key(us, kept, from, to)
+        ^ p.keys_on(them, mv.captured)
+        ^ playing::moved_key(us, kept, mv)
         ^ zobrist::side_key();
-    let kings = playing::kings_played(us, kept, from, to);
+    let kings = playing::kings_played(us, kept, mv);
     playing::turn(us, own, enemy, kings, hash)
 }

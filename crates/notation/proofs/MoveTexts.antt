@@ -17,9 +17,9 @@ use Rattle.positions.specs.Moves.{is_capture, squares_of}
 use Rattle.positions.specs.declared.moves.Move.{Move}
 use Rattle.positions.proofs.Records.{OnBoard, on_board_lem}
 use Rattle.texts.specs.Bytes.{joined, digits}
-use Rattle.texts.specs.Lent.{over, text_of}
+use Rattle.texts.specs.Lent.{over}
 use Rattle.texts.specs.declared.space.Space.{Space}
-use Rattle.texts.proofs.Overs.{over_append, over_none, over_then, over_text}
+use Rattle.texts.proofs.Overs.{over_append, over_none, over_then}
 use Rattle.texts.proofs.Writers.{joined_short}
 use Rattle.notation.specs.MoveText.{separator_of, named, move_text, short_text, taken_text}
 
@@ -89,10 +89,3 @@ move_short m e =
 pub short_short : (m : Move) → length (short_text m) ≤ 5
 unfolding short_text
 short_short m = omega (arith, joined_short (separator_of m) m.from (m.to ∷ []))
-
--- so that 200 bytes hold both texts
-pub move_written : (m : Move) (s : Space) → squares_of m ≡ true → s.at ≡ 0 → length s.bytes.now ≡ 200 → text_of (over (move_text m) s) ≡ move_text m
-move_written m s h z e = over_text (move_text m) s z (omega (arith, move_short m h, e))
-
-pub short_written : (m : Move) (s : Space) → s.at ≡ 0 → length s.bytes.now ≡ 200 → text_of (over (short_text m) s) ≡ short_text m
-short_written m s z e = over_text (short_text m) s z (omega (arith, short_short m, e))

@@ -1,6 +1,6 @@
 -- How a move is written (docs/RULES.md, "Move texts"): as Hub text, 32-28 or 28x8x13x23 with the taken squares in
 -- rising order, and as short text, which stops after the first two squares.
-use Rattle.std.specs.Prelude.{ℕ, List, [], ◌∷◌, ◌++◌, map, cond, Err, Result}
+use Rattle.std.specs.Prelude.{ℕ, ◌≡◌, ◌≤◌, List, [], ◌∷◌, ◌++◌, length, map, true, cond, Err, Result}
 use Prim.Native.Char.{code}
 use Rattle.squares.specs.Sets.{members}
 use Rattle.squares.specs.Squares.{square_at_bit}
@@ -8,7 +8,8 @@ use Rattle.squares.specs.Refusals.{refusal}
 use Rattle.positions.specs.Moves.{is_capture, squares_of}
 use Rattle.positions.specs.declared.moves.Move.{Move}
 use Rattle.texts.specs.Bytes.{joined, digits}
-use Rattle.texts.specs.Lent.{emit_of, emitted}
+use Rattle.texts.specs.Lent.{over, emit_of, emitted}
+use Rattle.texts.specs.declared.space.Space.{Space}
 use Rattle.squares.specs.declared.refusal.Refusal.{Refusal}
 
 -- x where the move takes a piece
@@ -39,6 +40,13 @@ display_of m out = cond (squares_of m) (emit_of (short_text m) out) (Err (refusa
 
 unfoldable pub display_lent : Move → List ℕ → List ℕ
 display_lent m out = cond (squares_of m) (emitted (short_text m) out) out
+
+-- what a move is written by: it leaves behind the space `old` as `new`. Where this writes the text t, which 200 bytes
+-- hold, the answer is r, and the lent bytes `out` are `after`
+abbrev pub Writes : Move → (Space → Unit {0} → Space → Type 0) → List ℕ → Result ℕ Refusal → List ℕ → Type 0
+Writes m leaves out r after =
+    (t : List ℕ) → ((old new : Space) → leaves old tt new → new ≡ over t old) → (squares_of m ≡ true → length t ≤ 200)
+    → (r ≡ cond (squares_of m) (emit_of t out) (Err (refusal 11))) × (after ≡ cond (squares_of m) (emitted t out) out)
 
 -- ---- what the code's loop adds: the squares at these bits, an x before each
 unfoldable pub taken_text : List ℕ → List ℕ

@@ -17,9 +17,9 @@ use Rattle.squares.proofs.Folds.{xor_assoc}
 use Rattle.squares.proofs.Numbers.{single_is}
 use Rattle.squares.proofs.Keys.{set_key_bit_if}
 use Rattle.positions.specs.Boards.{Board, board, board_of, own, enemy}
-use Rattle.positions.specs.Hash.{color_key, hash_of, position_of}
+use Rattle.positions.specs.Hash.{keys_on, color_key, hash_of, position_of}
 use Rattle.positions.specs.Acceptance.{Accepted, Sound}
-use Rattle.positions.specs.Successor.{turned, successor, Playable, mover_key, taken_key, kings_played, moved_key, position_after, play_of}
+use Rattle.positions.specs.Successor.{turned, successor, Playable, mover_key, kings_played, moved_key, position_after, play_of}
 use Rattle.positions.specs.declared.moves.Move.{Move}
 use Rattle.positions.specs.declared.position.Position.{Position}
 use Rattle.positions.proofs.Turns as turns
@@ -83,7 +83,7 @@ module _ (b : Board) (m : Move) (a : Accepted b) (y : Playable b m) where
       ap₂ (λ (x z : ℕ). bit_xor (own b) (bit_xor x z)) (single_is m.from y.from_square) (single_is m.to y.to_square)
       ∙ turns.own_is (own b) (enemy b) b.kings f t m.captured promo T
 
-  kings_played_lem : kings_played b.side kept m.from m.to ≡ kings_now b.kings promo f t m.captured
+  kings_played_lem : kings_played b.side kept m ≡ kings_now b.kings promo f t m.captured
   unfolding kings_played
   kings_played_lem =
       ap₂ (λ (x z : Bool). cond x (bit_xor kept (bit_xor (single m.from) (single m.to))) (cond z (bit_or kept (single m.to)) kept)) was_is crown_is
@@ -102,7 +102,7 @@ module _ (b : Board) (m : Move) (a : Accepted b) (y : Playable b m) where
   abbrev landed : ℕ
   landed = cond (king_now b.kings promo f t) (key_at b.side King t) (key_at b.side Man t)
 
-  moved_is : moved_key b.side kept m.from m.to ≡ bit_xor lifted landed
+  moved_is : moved_key b.side kept m ≡ bit_xor lifted landed
   unfolding moved_key king_now
   moved_is =
       ap₂ (λ (x z : Bool). bit_xor (mover_key b.side x m.from) (mover_key b.side (x || z) m.to)) was_is crown_is
@@ -113,9 +113,9 @@ abbrev make : ℕ → ℕ → ℕ → Color → ℕ → Position
 make w b k s h = record { white = w; black = b; kings = k; side = s; hash = h }
 
 hash_at : (w b k : ℕ) (s : Color) (m : Move) (a : Accepted (board w b k s)) (y : Playable (board w b k s) m)
-    → bit_xor (bit_xor (bit_xor (hash_of (board w b k s)) (taken_key (other s) m.captured k)) (bit_xor (lifted (board w b k s) m a y) (landed (board w b k s) m a y))) side_key
+    → bit_xor (bit_xor (bit_xor (hash_of (board w b k s)) (keys_on (other s) m.captured k)) (bit_xor (lifted (board w b k s) m a y) (landed (board w b k s) m a y))) side_key
     ≡ hash_of (turned s (own_now (own (board w b k s)) (bit_of m.from) (bit_of m.to)) (without (enemy (board w b k s)) m.captured) (kings_now k (promotion s) (bit_of m.from) (bit_of m.to) m.captured))
-unfolding hash_of color_key set_key_of taken_key coloured
+unfolding hash_of color_key keys_on set_key_of coloured
 hash_at w b k White m a y =
     let T = turn_of (board w b k White) m a y in
     let l = lifted (board w b k White) m a y in
@@ -154,9 +154,9 @@ play_is p m s y =
     let e = without (enemy b) m.captured in
     let k = kings_now p.kings (promotion p.side) (bit_of m.from) (bit_of m.to) m.captured in
     ap₂ (λ (x z : ℕ). position_after p.side x e z
-    (bit_xor (bit_xor (bit_xor p.hash (taken_key (other p.side) m.captured p.kings)) (moved_key p.side (without p.kings m.captured) m.from m.to)) side_key))
+    (bit_xor (bit_xor (bit_xor p.hash (keys_on (other p.side) m.captured p.kings)) (moved_key p.side (without p.kings m.captured) m)) side_key))
     (own_played b m a y) (kings_played_lem b m a y)
     ∙ after_board p.side u e k _
-    (ap₂ (λ (x z : ℕ). bit_xor (bit_xor (bit_xor x (taken_key (other p.side) m.captured p.kings)) z) side_key) s.hash (moved_is b m a y)
+    (ap₂ (λ (x z : ℕ). bit_xor (bit_xor (bit_xor x (keys_on (other p.side) m.captured p.kings)) z) side_key) s.hash (moved_is b m a y)
     ∙ hash_at p.white p.black p.kings p.side m a y)
     ∙ ap position_of (sym (successor_is b m y))

@@ -2,15 +2,15 @@
 -- pieces of the set leave the board, and the other side is to move. A move may end on its first square. A man that ends
 -- on its promotion row becomes a king; one that only passes the row stays a man.
 use Rattle.std.specs.Prelude.{◌≡◌, ℕ, ◌<◌, ◌^◌, Bool, true, not, cond, ◌&&◌, ◌||◌, eqb}
-use Rattle.std.specs.Int.Bits.{bit_and, bit_or, bit_xor}
+use Rattle.std.specs.Int.Bits.{bit_or, bit_xor}
 use Rattle.squares.specs.Sets.{has, without}
 use Rattle.squares.specs.Squares.{is_square, bit_of, single, contains_of, promotion}
 use Rattle.squares.specs.Pieces.{other}
-use Rattle.squares.specs.Keys.{set_key_of, piece_key_of, side_key}
+use Rattle.squares.specs.Keys.{piece_key_of, side_key}
 use Rattle.squares.specs.declared.piece.Color.{Color}
 use Rattle.squares.specs.declared.piece.Color.TheVariants.{White, Black}
-use Rattle.squares.specs.declared.piece.PieceKind.TheVariants.{Man, King}
 use Rattle.positions.specs.Boards.{Board, board, board_of, own, enemy, kind_if}
+use Rattle.positions.specs.Hash.{keys_on}
 use Rattle.positions.specs.declared.moves.Move.{Move}
 use Rattle.positions.specs.declared.position.Position.{Position}
 
@@ -60,20 +60,21 @@ pub record Playable (b : Board) (m : Move) : Type 0 where
 abbrev pub mover_key : Color → Bool → ℕ → ℕ
 mover_key c king n = piece_key_of c (kind_if king) n
 
--- the keys of the pieces taken, each as the man or king that it was, joined
-unfoldable pub taken_key : Color → ℕ → ℕ → ℕ
-taken_key c captured kings = bit_xor (set_key_of c Man (without captured kings)) (set_key_of c King (bit_and captured kings))
+-- the set s after its piece went from the first square to the last; where both are one square, s itself
+abbrev pub moved : ℕ → Move → ℕ
+moved s m = bit_xor s (bit_xor (single m.from) (single m.to))
 
 -- the kings after a move; `kept` are those that were not taken. A king is moved, a man that promotes is marked
-unfoldable pub kings_played : Color → ℕ → ℕ → ℕ → ℕ
-kings_played c kept from to =
-    cond (contains_of kept from) (bit_xor kept (bit_xor (single from) (single to)))
-    (cond (contains_of (promotion c) to) (bit_or kept (single to)) kept)
+unfoldable pub kings_played : Color → ℕ → Move → ℕ
+kings_played c kept m =
+    cond (contains_of kept m.from) (moved kept m)
+    (cond (contains_of (promotion c) m.to) (bit_or kept (single m.to)) kept)
 
 -- the mover's key on its first square, as what it was, joined with its key on its last square, as what it ends as
-unfoldable pub moved_key : Color → ℕ → ℕ → ℕ → ℕ
-moved_key c kept from to =
-    bit_xor (mover_key c (contains_of kept from) from) (mover_key c (contains_of kept from || contains_of (promotion c) to) to)
+unfoldable pub moved_key : Color → ℕ → Move → ℕ
+moved_key c kept m =
+    bit_xor (mover_key c (contains_of kept m.from) m.from)
+    (mover_key c (contains_of kept m.from || contains_of (promotion c) m.to) m.to)
 
 -- the position after a move of the given colour
 abbrev pub position_after : Color → ℕ → ℕ → ℕ → ℕ → Position
@@ -84,8 +85,8 @@ position_after Black own enemy kings hash = record { white = enemy; black = own;
 unfoldable pub play_of : Position → Move → Position
 play_of p m =
     position_after p.side
-    (bit_xor (own (board_of p)) (bit_xor (single m.from) (single m.to)))
+    (moved (own (board_of p)) m)
     (without (enemy (board_of p)) m.captured)
-    (kings_played p.side (without p.kings m.captured) m.from m.to)
-    (bit_xor (bit_xor (bit_xor p.hash (taken_key (other p.side) m.captured p.kings))
-    (moved_key p.side (without p.kings m.captured) m.from m.to)) side_key)
+    (kings_played p.side (without p.kings m.captured) m)
+    (bit_xor (bit_xor (bit_xor p.hash (keys_on (other p.side) m.captured p.kings))
+    (moved_key p.side (without p.kings m.captured) m)) side_key)

@@ -7,11 +7,12 @@ use lib.ListN.{length}
 use Rattle.squares.specs.declared.piece.PieceKind.TheVariants.{Man, King}
 use Rattle.squares.proofs.Bools.{not_so}
 use Rattle.positions.specs.Boards.{Board, enemy, empty, pieces}
-use Rattle.captures.specs.Lists.{whole_list}
+use Rattle.captures.specs.Lists.{no_moves, whole_list}
 use Rattle.rules.specs.Ordered.{captures, quiets, legal}
 use Rattle.rules.specs.Rules.{numbered, Open, NoJump, Fair}
 use Rattle.rules.proofs.Laws.{quiet_list}
-use Rattle.quiets.specs.Quiets.{men_quiets, king_quiets, all_quiets, quiet_moves_of}
+use Rattle.quiets.specs.Quiets.{men_quiets, king_quiets, put_all, all_quiets, quiet_moves_of}
+use Rattle.quiets.proofs.Filled.{marked_list, fill_law}
 use Rattle.quiets.specs.Tests.{has_quiet_of, has_capture_of}
 use Rattle.rules.specs.Lists.{some}
 use Rattle.quiet_laws.proofs.HasCapture.{open_tested, capture_test}
@@ -42,11 +43,19 @@ module _ (b : Board) (fair : Fair b) where
   pub quiets_legal : has_capture_of (pieces b Man) (pieces b King) (enemy b) (empty b) ≡ false → legal b ≡ map numbered (quiets b)
   quiets_legal e = quiet_list b fair (capture_shut.0 e)
 
-  -- the quiet list is the list of legal moves
+  -- the quiet moves put into the empty list fill it with the first 256 legal moves, and the mark says whether there are
+  -- more
   pub legal_filled : has_capture_of (pieces b Man) (pieces b King) (enemy b) (empty b) ≡ false
+      → put_all no_moves (all_quiets (pieces b Man) (pieces b King) (empty b) b.side) ≡ marked_list (legal b)
+  unfolding all_quiets
+  legal_filled e =
+      fill_law (men_quiets (pieces b Man) (empty b) b.side ++ king_quiets (pieces b King) (empty b)) ∙ ap marked_list (quiet_moves ∙ sym (quiets_legal e))
+
+  -- so the quiet list is the list of legal moves, where there are at most 256
+  pub legal_listed : has_capture_of (pieces b Man) (pieces b King) (enemy b) (empty b) ≡ false
       → quiet_moves_of (pieces b Man) (pieces b King) (empty b) b.side ≡ whole_list (legal b)
   unfolding quiet_moves_of all_quiets
-  legal_filled e = ap whole_list (quiet_moves ∙ sym (quiets_legal e))
+  legal_listed e = ap whole_list (quiet_moves ∙ sym (quiets_legal e))
 
   -- and their number, for which no list is needed
   pub legal_number : has_capture_of (pieces b Man) (pieces b King) (enemy b) (empty b) ≡ false

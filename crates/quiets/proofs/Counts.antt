@@ -1,4 +1,5 @@
 -- Counts of quiet moves: along a ray, over the directions, over the kings; none is large.
+use Rattle.std.specs.Prelude.{sum_by}
 use mathlib.Core.Path.{◌≡◌, refl, sym, ap, ap₂, ◌∙◌}
 use Prim.Native.Nat.{ℕ, zero, suc, ◌+◌, ◌-◌, ◌*◌, ◌^◌, ◌≤◌, ◌<◌}
 use native.Mathlib.Nat.{zero-add}
@@ -138,15 +139,9 @@ all_count men kings empty side =
     (length-append (men_steps men empty (forward_of side + 0)) (men_steps men empty (forward_of side + 1))
     ∙ ap₂ ◌+◌ (ap (λ (d : ℕ). length (men_steps men empty d)) (plus_zero side) ∙ steps_count men empty (forward_of side)) (steps_count men empty (forward_of side + 1)))
 
--- a count of a flight is small, and four of them are a king's
-pub few : (n at empty d : ℕ) → n ≡ length (flight_of at empty d) → n ≤ 64
-few n at empty d e = omega (arith, flight_most at empty d)
-
-pub king_sum : (empty at i a b c d : ℕ) → at ≡ 2 ^ i → a ≡ length (flight_of at empty 0) → b ≡ length (flight_of at empty 1) → c ≡ length (flight_of at empty 2)
-    → d ≡ length (flight_of at empty 3) → a + b + c + d ≡ length (flights empty i)
-king_sum empty at i a b c d e ea eb ec ed =
-    ap₂ (λ (x y : ℕ). x + y + c + d) ea eb ∙ ap₂ (λ (x y : ℕ). length (flight_of at empty 0) + length (flight_of at empty 1) + x + y) ec ed
-    ∙ ap (λ (x : ℕ). length (flight_of x empty 0) + length (flight_of x empty 1) + length (flight_of x empty 2) + length (flight_of x empty 3)) e ∙ sym (four_flights empty i)
+-- the four flights of a king add up to its moves
+pub four_sum : (empty at i : ℕ) → at ≡ 2 ^ i → sum_by (λ d. length (flight_of at empty d)) (0 ∷ 1 ∷ 2 ∷ 3 ∷ []) ≡ length (flights empty i)
+four_sum empty at i e = omega (arith, four_flights empty i, ap (λ (x : ℕ). length (flight_of x empty 0)) e, ap (λ (x : ℕ). length (flight_of x empty 1)) e, ap (λ (x : ℕ). length (flight_of x empty 2)) e, ap (λ (x : ℕ). length (flight_of x empty 3)) e)
 
 pub at_most : (n s : ℕ) → n ≡ size s → n ≤ 64
 at_most n s e = omega (arith, size_most s)

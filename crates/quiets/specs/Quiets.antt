@@ -1,6 +1,6 @@
 -- The quiet moves in the order of the list (docs/RULES.md, "Quiet moves", "Order of the list"): the men's by direction,
 -- then by the bit reached; then the kings' by bit, by direction, near to far.
-use Rattle.std.specs.Prelude.{ℕ, ◌+◌, ◌-◌, ◌^◌, cond, Option, Some, None, option_and_then, ltb, set}
+use Rattle.std.specs.Prelude.{ℕ, ◌+◌, ◌-◌, ◌^◌, Option, Result, Ok, Err}
 use mathlib.Core.List.{List, [], ◌∷◌, ◌++◌, map, flat_map}
 use Rattle.std.specs.Int.Bits.{bit_and}
 use Rattle.squares.specs.Sets.{members}
@@ -10,24 +10,20 @@ use Rattle.squares.specs.declared.piece.Color.{Color}
 use Rattle.positions.specs.declared.moves.Move.{Move}
 use Rattle.positions.specs.Moves.{move}
 use Rattle.captures.specs.declared.moves.MoveList.{MoveList}
-use Rattle.captures.specs.Lists.{whole_list}
+use Rattle.captures.specs.Lists.{put_of, whole_list}
 use Rattle.captures.specs.Rays.{far, landings}
 use Rattle.captures.specs.Walks.{up_to}
 use Rattle.quiets.specs.Tests.{forward_of}
 
--- the list, where the moves put in had room
-abbrev pub kept : MoveList → Option Unit → Option MoveList
-kept l None = None
-kept l (Some u) = Some l
+-- what comes of a list by f, where there was room so far
+abbrev pub then_put : (MoveList → Result MoveList MoveList) → Result MoveList MoveList → Result MoveList MoveList
+then_put f (Ok l) = f l
+then_put f (Err l) = Err l
 
--- one more move at the end, where there is room
-unfoldable pub put_of : MoveList → Move → Option MoveList
-put_of l m = cond (ltb l.len 256) (Some (record { moves = set l.moves l.len m; len = l.len + 1 })) None
-
--- more moves, one after the other, where there is room for all
-unfoldable pub put_all : MoveList → List Move → Option MoveList
-put_all l [] = Some l
-put_all l (m ∷ ms) = option_and_then (λ k. put_all k ms) (put_of l m)
+-- more moves, one after the other; where there is no room for all, the list with the first ones
+unfoldable pub put_all : MoveList → List Move → Result MoveList MoveList
+put_all l [] = Ok l
+put_all l (m ∷ ms) = then_put (λ k. put_all k ms) (put_of l m)
 
 -- the quiet move between two squares, each given as a set of one bit
 abbrev pub quiet_move : ℕ → ℕ → Move
@@ -61,6 +57,6 @@ king_quiets kings empty = flat_map (flights empty) (members kings)
 unfoldable pub all_quiets : ℕ → ℕ → ℕ → Color → List Move
 all_quiets men kings empty side = men_quiets men empty side ++ king_quiets kings empty
 
--- the same as a list, where there are at most 256
+-- the same as a list, where there are at most 256 (`fill_law` in proofs/Filled.antt: what `put_all` makes of the empty list)
 unfoldable pub quiet_moves_of : ℕ → ℕ → ℕ → Color → Option MoveList
 quiet_moves_of men kings empty side = whole_list (all_quiets men kings empty side)

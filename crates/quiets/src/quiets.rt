@@ -8,12 +8,10 @@
 //
 // Most is computed for all pieces at once: their set is shifted by one step, and what falls on `empty` can step there.
 ghost use Rattle.std.specs.Prelude.{◌≡◌, ◌<◌, length};
+ghost use Rattle.captures.specs.Lists.{kept};
 ghost use Rattle.squares.specs.Sets.{members};
-ghost use Rattle.captures.specs.View.{own_men_of, own_kings_of, empty_of};
 ghost use Rattle.quiets.specs.Tests.{forward_of, steps_open, has_quiet_of, men_jump, king_open, any_in, has_capture_of};
 ghost use Rattle.quiets.specs.Quiets.{
-  kept,
-  put_of,
   put_all,
   men_steps,
   flight_of,
@@ -24,8 +22,8 @@ ghost use Rattle.quiets.specs.Quiets.{
 };
 
 use captures::movegen;
-use captures::moves::{MAX_MOVES, MoveList};
-use captures::view::View;
+use captures::moves::MoveList;
+use captures::view::Sets;
 use positions::moves::Move;
 use squares::bitboard;
 use squares::bitboard::{Bitboard, Members};
@@ -50,38 +48,33 @@ fn steps(set: Bitboard, empty: Bitboard, d: usize) -> bool
 }
 
 // Whether the side has a quiet move, also where it must capture.
-pub fn has_quiet(v: View) -> bool
-    ensures { result ≡ has_quiet_of (own_men_of v) (own_kings_of v) (empty_of v) v.side }
+pub fn has_quiet(s: Sets) -> bool
+    ensures { result ≡ has_quiet_of s.men s.kings s.empty s.side }
 {
-    let men = v.men();
-    let kings = v.own_kings();
-    let empty = v.empty();
-    let first = forward(v.side);
-    let a = steps(men, empty, first) | steps(men, empty, first + 1);
-    let b = steps(kings, empty, 0) | steps(kings, empty, 1);
-    let c = b | steps(kings, empty, 2);
-    a | (c | steps(kings, empty, 3))
+    let first = forward(s.side);
+    let men = (first..first + 2).any(|d| steps(s.men, s.empty, d));
+    men | (0..4).any(|d| steps(s.kings, s.empty, d))
 }
 
 // Whether some man has an enemy next to it in direction `d`, with an empty square behind it. The test goes back from
 // the empty squares: the direction opposite to `d` has index 3 - d.
 #[tactic(auto, unfolding(crate::specs::Tests::men_jump))]
-fn men_jump(v: View, d: usize) -> bool
-    requires { d < 4 }
-    ensures { result ≡ men_jump (own_men_of v) v.them (empty_of v) d }
+fn men_jump(s: Sets, d: usize) -> bool
+    ensures { result ≡ men_jump s.men s.them s.empty d }
 {
-    let over = bitboard::shift(v.empty(), 3 - d) & v.them;
-    bitboard::shift(over, 3 - d) & v.men() != 0
+    let back = 3usize.saturating_sub(d);
+    let over = bitboard::shift(s.empty, back) & s.them;
+    bitboard::shift(over, back) & s.men != 0
 }
 
-// Whether some king has a jump. The king's own square counts as empty.
-fn kings_open(v: View) -> bool
-    ensures { result ≡ any_in (king_open v.them (empty_of v)) (members (own_kings_of v)) }
+// Whether some king has a jump. The king's own square counts as empty. This is a loop and no `any`: a closure would not
+// know that a bit is below 64, as the shift requires.
+fn kings_open(s: Sets) -> bool
+    ensures { result ≡ any_in (king_open s.them s.empty) (members s.kings) }
 {
-    let empty = v.empty();
-    for bit in Members(v.own_kings()) {
+    for bit in Members(s.kings) {
         let at = 1u64 << bit;
-        if movegen::king_open(at, v.them, empty | at) {
+        if movegen::king_open(at, s.them, s.empty | at) {
             return true;
         }
     }
@@ -89,30 +82,10 @@ fn kings_open(v: View) -> bool
 }
 
 // Whether the side has a jump.
-#[tactic(auto, unfolding(crate::specs::Tests::has_capture_of, captures::specs::Walks::any_up_to))]
-pub fn has_capture(v: View) -> bool
-    ensures { result ≡ has_capture_of (own_men_of v) (own_kings_of v) v.them (empty_of v) }
+pub fn has_capture(s: Sets) -> bool
+    ensures { result ≡ has_capture_of s.men s.kings s.them s.empty }
 {
-    let a = men_jump(v, 0) | men_jump(v, 1);
-    let b = a | men_jump(v, 2);
-    let c = b | men_jump(v, 3);
-    c | kings_open(v)
-}
-
-// One more move at the end of the list, where there is room.
-#[tactic(auto, unfolding(crate::specs::Quiets::put_of))]
-#[inline(always)]
-fn put(list: &mut MoveList, mv: Move) -> Option<()>
-    ensures { kept list.new result ≡ put_of list.old mv }
-{
-    let len = list.len;
-    if len < MAX_MOVES {
-        list.moves[len] = mv;
-        list.len = len + 1;
-        Some(())
-    } else {
-        None
-    }
+    (0..4).any(|d| men_jump(s, d)) | kings_open(s)
 }
 
 // The men's steps in direction `d`, by the bit reached.
@@ -129,7 +102,7 @@ fn put_steps(list: &mut MoveList, men: Bitboard, empty: Bitboard, d: usize) -> O
             from: bitboard::first(back),
             to: bitboard::first(at),
         };
-        put(list, mv)?;
+        list.put(mv)?;
     }
     Some(())
 }
@@ -148,7 +121,7 @@ fn put_flight(list: &mut MoveList, at: Bitboard, empty: Bitboard, d: usize) -> O
             from: from,
             to: bitboard::first(land),
         };
-        put(list, mv)?;
+        list.put(mv)?;
         land = bitboard::shift(land, d) & empty;
     }
     Some(())
@@ -178,17 +151,24 @@ fn put_kings(list: &mut MoveList, kings: Bitboard, empty: Bitboard) -> Option<()
     Some(())
 }
 
-// All quiet moves, where there are at most 256: the men's by direction, then the kings'. The list is filled in place.
-pub fn quiet_moves(v: View) -> Option<MoveList>
-    ensures { result ≡ quiet_moves_of (own_men_of v) (own_kings_of v) (empty_of v) v.side }
+// Puts all quiet moves at the end of the list: the men's by direction, then the kings'. Where there is no room for all,
+// the list is filled with the first ones.
+#[inline(always)]
+pub fn put_quiets(list: &mut MoveList, s: Sets) -> Option<()>
+    ensures { kept list.new result ≡ put_all list.old (all_quiets s.men s.kings s.empty s.side) }
 {
-    let men = v.men();
-    let empty = v.empty();
-    let first = forward(v.side);
+    let first = forward(s.side);
+    put_steps(list, s.men, s.empty, first)?;
+    put_steps(list, s.men, s.empty, first + 1)?;
+    put_kings(list, s.kings, s.empty)
+}
+
+// All quiet moves, where there are at most 256.
+pub fn quiet_moves(s: Sets) -> Option<MoveList>
+    ensures { result ≡ quiet_moves_of s.men s.kings s.empty s.side }
+{
     let mut list = MoveList::new();
-    put_steps(&mut list, men, empty, first)?;
-    put_steps(&mut list, men, empty, first + 1)?;
-    put_kings(&mut list, v.own_kings(), empty)?;
+    put_quiets(&mut list, s)?;
     Some(list)
 }
 
@@ -212,12 +192,10 @@ fn king_count(bit: u32, empty: Bitboard) -> u32
     ensures { result ≡ length (flights empty bit) }
 {
     let at = 1u64 << bit;
-    let a = flight_count(at, empty, 0) + flight_count(at, empty, 1);
-    let b = a + flight_count(at, empty, 2);
-    b + flight_count(at, empty, 3)
+    (0..4).map(|d| flight_count(at, empty, d)).sum()
 }
 
-// The number of quiet moves of all kings.
+// The number of quiet moves of all kings. A loop, for the reason given at `kings_open`.
 fn kings_count(kings: Bitboard, empty: Bitboard) -> u32
     ensures { result ≡ length (king_quiets kings empty) }
 {
@@ -229,14 +207,12 @@ fn kings_count(kings: Bitboard, empty: Bitboard) -> u32
 }
 
 // The number of quiet moves of the side, counted without a list.
-pub fn quiet_count(v: View) -> u32
-    ensures { result ≡ length (all_quiets (own_men_of v) (own_kings_of v) (empty_of v) v.side) }
+pub fn quiet_count(s: Sets) -> u32
+    ensures { result ≡ length (all_quiets s.men s.kings s.empty s.side) }
 {
-    let men = v.men();
-    let empty = v.empty();
-    let first = forward(v.side);
-    let a = bitboard::count(bitboard::shift(men, first) & empty);
-    let b = bitboard::count(bitboard::shift(men, first + 1) & empty);
+    let first = forward(s.side);
+    let a = bitboard::count(bitboard::shift(s.men, first) & s.empty);
+    let b = bitboard::count(bitboard::shift(s.men, first + 1) & s.empty);
     let steps = a + b;
-    steps + kings_count(v.own_kings(), empty)
+    steps + kings_count(s.kings, s.empty)
 }

@@ -1,7 +1,9 @@
 -- What is written of a position, a move, a list of moves or a count.
-use Rattle.std.specs.Prelude.{ℕ, zero, suc, min, List, [], ◌∷◌, ◌++◌, Bool, true, false, cond, get_or, Err, Ok, Result, ℤ}
+use Rattle.std.specs.Prelude.{◌≡◌, ℕ, zero, suc, min, List, [], ◌∷◌, ◌++◌, Bool, true, false, cond, get_or, Err, Ok, Result, ℤ}
+use denote.Ref.{MutBor}
 use Prim.Native.Char.{code}
 use Rattle.squares.specs.Pieces.{color_char}
+use Rattle.squares.specs.Squares.{bit_of, row_of, of_square}
 use Rattle.positions.specs.Moves.{squares_of}
 use Rattle.positions.specs.declared.moves.Move.{Move}
 use Rattle.captures.specs.Lists.{blank}
@@ -13,12 +15,24 @@ use Rattle.movegen.specs.declared.perft.Divided.{Divided}
 use Rattle.texts.specs.Bytes.{bytes}
 use Rattle.texts.specs.Fen.{fen_text}
 use Rattle.texts.specs.Hub.{hub_text}
+use Rattle.texts.specs.Lent.{over}
+use Rattle.texts.specs.declared.space.Space.{Space}
 use Rattle.notation.specs.MoveText.{move_text}
 use Rattle.wording.specs.Output.{decimal, hex, hash, signed, refusal_text}
 use Rattle.squares.specs.declared.refusal.Refusal.{Refusal}
 
 abbrev pub ok : List ℕ → List ℕ
 ok t = bytes "ok " ++ t
+
+-- what is said of what was found, or the refusal
+abbrev pub on_ok : {A : Type 0} → Result A Refusal → (A → List ℕ) → List ℕ
+on_ok (Ok x) say = say x
+on_ok (Err e) say = refusal_text e
+
+-- where a call of `put` writes the word of x, the space b is a with `ok` and the word of what was found, or the refusal
+abbrev pub Tells : {A : Type 0} → (MutBor Space → A → Unit {0} → MutBor Space → Type 0) → Result A Refusal → Space → Space → Type 0
+Tells {A} put r a b =
+    (word : A → List ℕ) → ((m n : MutBor Space) (x : A) → put m x tt n → n.now ≡ over (word x) m.now) → b ≡ over (on_ok r (λ x. ok (word x))) a
 
 -- the texts of a position; every position that a request makes is sound
 unfoldable pub fen_word : Position → List ℕ
@@ -41,28 +55,41 @@ unfoldable pub set_word : ℕ → List ℕ
 set_word s = hex s ++ (code " " ∷ [])
 
 -- white, black, kings, side, hash
+abbrev pub bits_word : Position → List ℕ
+bits_word p = set_word p.white ++ (set_word p.black ++ (set_word p.kings ++ (color_char p.side ∷ (code " " ∷ hash p.hash))))
+
 unfoldable pub bits_answer : Position → List ℕ
-bits_answer p = ok (set_word p.white ++ (set_word p.black ++ (set_word p.kings ++ (color_char p.side ∷ (code " " ∷ hash p.hash)))))
+bits_answer p = ok (bits_word p)
 
 abbrev pub placed_answer : Result Position Refusal → List ℕ
-placed_answer (Ok p) = fen_answer p
-placed_answer (Err e) = refusal_text e
+placed_answer p = on_ok p fen_answer
 
 abbrev pub scored_answer : Result ℤ Refusal → List ℕ
-scored_answer (Ok z) = ok (signed z)
-scored_answer (Err e) = refusal_text e
+scored_answer s = on_ok s (λ z. ok (signed z))
 
 abbrev pub yes_no : Bool → ℕ
 yes_no true = code "1"
 yes_no false = code "0"
 
 abbrev pub tested_answer : Result Bool Refusal → List ℕ
-tested_answer (Ok b) = ok (yes_no b ∷ [])
-tested_answer (Err e) = refusal_text e
+tested_answer t = on_ok t (λ b. ok (yes_no b ∷ []))
 
 abbrev pub counted_answer : Result ℕ Refusal → List ℕ
-counted_answer (Ok n) = ok (decimal n)
-counted_answer (Err e) = refusal_text e
+counted_answer c = on_ok c (λ n. ok (decimal n))
+
+-- ---- squares
+
+-- a bit or a row; nothing where there is none
+abbrev pub numbered_word : Result ℕ Refusal → List ℕ
+numbered_word (Ok n) = decimal n
+numbered_word (Err e) = []
+
+-- number, bit, row
+abbrev pub square_word : ℕ → List ℕ
+square_word n = decimal n ++ (code " " ∷ (numbered_word (of_square n (bit_of n)) ++ (code " " ∷ numbered_word (of_square n (row_of (bit_of n))))))
+
+abbrev pub square_answer : ℕ → List ℕ
+square_answer n = ok (square_word n)
 
 -- ---- moves
 
@@ -81,22 +108,32 @@ counts_text l c zero = []
 counts_text l c (suc n) = counts_text l c n ++ (code " " ∷ (move_word (get_or l n blank) ++ (code "=" ∷ decimal (get_or c n 0))))
 
 -- how many there are, then each
+abbrev pub list_word : MoveList → List ℕ
+list_word l = decimal l.len ++ moves_text l.moves (min l.len 256)
+
 abbrev pub list_answer : Result MoveList Refusal → List ℕ
-list_answer (Ok l) = ok (decimal l.len ++ moves_text l.moves (min l.len 256))
-list_answer (Err e) = refusal_text e
+list_answer r = on_ok r (λ l. ok (list_word l))
+
+abbrev pub divided_word : Divided → List ℕ
+divided_word d = decimal d.list.len ++ counts_text d.list.moves d.counts (min d.list.len 256)
 
 abbrev pub divided_answer : Result Divided Refusal → List ℕ
-divided_answer (Ok d) = ok (decimal d.list.len ++ counts_text d.list.moves d.counts (min d.list.len 256))
-divided_answer (Err e) = refusal_text e
+divided_answer r = on_ok r (λ d. ok (divided_word d))
 
 -- first square, last square, set
 unfoldable pub record_word : Move → List ℕ
 record_word m = decimal m.from ++ (code "," ∷ (decimal m.to ++ (code "," ∷ hex m.captured)))
 
 -- the move's Hub text, then the record
+abbrev pub full_word : Move → List ℕ
+full_word m = move_word m ++ (code " " ∷ record_word m)
+
 unfoldable pub move_answer : Move → List ℕ
-move_answer m = ok (move_word m ++ (code " " ∷ record_word m))
+move_answer m = ok (full_word m)
+
+-- the position's FEN and its hash
+abbrev pub after_text : Position → List ℕ
+after_text p = fen_word p ++ (code " " ∷ hash p.hash)
 
 abbrev pub after_answer : Result Position Refusal → List ℕ
-after_answer (Ok p) = fen_answer p ++ (code " " ∷ hash p.hash)
-after_answer (Err e) = refusal_text e
+after_answer r = on_ok r (λ p. ok (after_text p))

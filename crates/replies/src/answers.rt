@@ -1,10 +1,11 @@
 // What is written of a position, a move, a list of moves or a count: `ok` and the answer, or the refusal.
 #![tactic(auto, using(texts::proofs::Overs::over_append, texts::proofs::Overs::over_none), unfolding(texts::specs::Lent::over, crate::specs::Answers::fen_answer, crate::specs::Answers::hub_answer, crate::specs::Answers::hash_answer, crate::specs::Answers::set_word, crate::specs::Answers::bits_answer, crate::specs::Answers::list_answer, crate::specs::Answers::divided_answer, crate::specs::Answers::record_word, crate::specs::Answers::move_answer))]
 
-ghost use Rattle.std.specs.Prelude.{◌≡◌, min};
+ghost use Rattle.std.specs.Prelude.{◌≡◌, ◌∷◌, [], min};
 ghost use Rattle.texts.specs.Lent.{over};
 ghost use Rattle.texts.specs.Bytes.{bytes};
-ghost use Rattle.replies.specs.Answers.{yes_no, set_word, fen_word, hub_word, bits_answer, scored_answer, tested_answer, counted_answer, fen_answer, hub_answer, hash_answer, placed_answer, move_word, moves_text, counts_text, list_answer, divided_answer, record_word, move_answer, after_answer};
+ghost use Rattle.wording.specs.Output.{hash};
+ghost use Rattle.replies.specs.Answers.{on_ok, Tells, yes_no, set_word, fen_word, hub_word, bits_word, bits_answer, scored_answer, tested_answer, counted_answer, hub_answer, hash_answer, placed_answer, numbered_word, square_word, square_answer, move_word, moves_text, counts_text, list_word, list_answer, divided_word, divided_answer, record_word, full_word, move_answer, after_text, after_answer};
 
 use captures::moves::{MAX_MOVES, MoveList};
 use movegen::perft::Divided;
@@ -15,6 +16,8 @@ use texts::space::Space;
 use texts::{fen, hub};
 use wording::output;
 
+// A text is written into bytes of its own, and what was written is passed on; so in `put_hub` and `put_move`. One
+// function for the three would have to require of its closure that the length fits: it would be no plainer.
 #[tactic(auto, using(crate::proofs::Told::fen_rules))]
 pub fn put_fen(out: &mut Space, p: Position)
     ensures { out.new ≡ over (fen_word p) out.old }
@@ -43,25 +46,42 @@ pub fn put_ok(out: &mut Space)
     out.put(b"ok ");
 }
 
-pub fn tell_fen(out: &mut Space, p: Position)
-    ensures { out.new ≡ over (fen_answer p) out.old }
+// `ok` and what `put` writes of what was found, or the refusal.
+pub(crate) fn tell<T, F: FnOnce(&mut Space, T)>(out: &mut Space, r: Result<T, Refusal>, put: F)
+    requires { F.IsAlwaysCallable put }
+    ensures { Tells (F.post put) r out.old out.new }
 {
-    put_ok(out);
-    put_fen(out, p);
+    match r {
+        Ok(x) => {
+            put_ok(out);
+            put(out, x);
+        }
+        Err(e) => output::put_refusal(out, e),
+    }
 }
 
-pub fn tell_hub(out: &mut Space, p: Position)
-    ensures { out.new ≡ over (hub_answer p) out.old }
+pub fn tell_fen(out: &mut Space, p: Result<Position, Refusal>)
+    ensures { out.new ≡ over (placed_answer p) out.old }
 {
-    put_ok(out);
-    put_hub(out, p);
+    tell(out, p, put_fen);
 }
 
-pub fn tell_hash(out: &mut Space, p: Position)
-    ensures { out.new ≡ over (hash_answer p) out.old }
+pub fn tell_hub(out: &mut Space, p: Result<Position, Refusal>)
+    ensures { out.new ≡ over (on_ok p hub_answer) out.old }
 {
-    put_ok(out);
+    tell(out, p, put_hub);
+}
+
+fn put_hash(out: &mut Space, p: Position)
+    ensures { out.new ≡ over (hash p.hash) out.old }
+{
     output::put_hash(out, p.hash);
+}
+
+pub fn tell_hash(out: &mut Space, p: Result<Position, Refusal>)
+    ensures { out.new ≡ over (on_ok p hash_answer) out.old }
+{
+    tell(out, p, put_hash);
 }
 
 // A set in hexadecimal and a space.
@@ -72,70 +92,75 @@ fn put_set(out: &mut Space, set: u64)
     out.put_byte(b' ');
 }
 
-pub fn tell_bits(out: &mut Space, p: Position)
-    ensures { out.new ≡ over (bits_answer p) out.old }
+// The three sets, the side and the hash.
+fn put_bits(out: &mut Space, p: Position)
+    ensures { out.new ≡ over (bits_word p) out.old }
 {
-    let side = p.side;
-    put_ok(out);
     put_set(out, p.white);
     put_set(out, p.black);
     put_set(out, p.kings);
-    out.put_byte(side.to_char());
+    out.put_byte(p.side.to_char());
     out.put_byte(b' ');
-    output::put_hash(out, p.hash);
+    put_hash(out, p);
 }
 
-// A position as FEN, or the refusal.
-pub fn tell_placed(out: &mut Space, p: Result<Position, Refusal>)
-    ensures { out.new ≡ over (placed_answer p) out.old }
+pub fn tell_bits(out: &mut Space, p: Result<Position, Refusal>)
+    ensures { out.new ≡ over (on_ok p bits_answer) out.old }
 {
-    match p {
-        Ok(q) => tell_fen(out, q),
-        Err(e) => output::put_refusal(out, e),
-    }
+    tell(out, p, put_bits);
 }
 
 pub fn tell_scored(out: &mut Space, s: Result<i32, Refusal>)
     ensures { out.new ≡ over (scored_answer s) out.old }
 {
-    match s {
-        Ok(z) => {
-            put_ok(out);
-            output::put_signed(out, z);
-        }
-        Err(e) => output::put_refusal(out, e),
-    }
+    tell(out, s, output::put_signed);
 }
 
+// 1 or 0.
 #[tactic(auto, unfolding(crate::specs::Answers::yes_no))]
-fn yes_no(yes: bool) -> u8
-    ensures { result ≡ yes_no yes }
+fn put_yes_no(out: &mut Space, yes: bool)
+    ensures { out.new ≡ over (yes_no yes ∷ []) out.old }
 {
-    if yes { b'1' } else { b'0' }
+    out.put_byte(if yes { b'1' } else { b'0' });
 }
 
 pub fn tell_tested(out: &mut Space, t: Result<bool, Refusal>)
     ensures { out.new ≡ over (tested_answer t) out.old }
 {
-    match t {
-        Ok(yes) => {
-            put_ok(out);
-            out.put_byte(yes_no(yes));
-        }
-        Err(e) => output::put_refusal(out, e),
-    }
+    tell(out, t, put_yes_no);
 }
 
 pub fn tell_counted(out: &mut Space, c: Result<u64, Refusal>)
     ensures { out.new ≡ over (counted_answer c) out.old }
 {
-    match c {
-        Ok(n) => {
-            put_ok(out);
-            output::put_decimal(out, n);
-        }
-        Err(e) => output::put_refusal(out, e),
+    tell(out, c, output::put_decimal);
+}
+
+// A square's bit or row.
+fn put_numbered(out: &mut Space, n: Result<u32, Refusal>)
+    ensures { out.new ≡ over (numbered_word n) out.old }
+{
+    match n {
+        Ok(k) => output::put_decimal(out, k as u64),
+        Err(_) => {}
     }
+}
+
+// The number, the bit and the row of a square.
+fn put_square(out: &mut Space, n: u32)
+    ensures { out.new ≡ over (square_word n) out.old }
+{
+    output::put_decimal(out, n as u64);
+    out.put_byte(b' ');
+    put_numbered(out, squares::square::bit(n));
+    out.put_byte(b' ');
+    put_numbered(out, squares::square::row(n));
+}
+
+pub fn tell_square(out: &mut Space, n: Result<u32, Refusal>)
+    ensures { out.new ≡ over (on_ok n square_answer) out.old }
+{
+    tell(out, n, put_square);
 }
 
 // A move's Hub text.
@@ -162,17 +187,17 @@ fn put_moves(out: &mut Space, list: MoveList)
 }
 
 // How many moves there are, and each of them.
+fn put_list(out: &mut Space, list: MoveList)
+    ensures { out.new ≡ over (list_word list) out.old }
+{
+    output::put_decimal(out, list.len as u64);
+    put_moves(out, list);
+}
+
 pub fn tell_list(out: &mut Space, l: Result<MoveList, Refusal>)
     ensures { out.new ≡ over (list_answer l) out.old }
 {
-    match l {
-        Ok(list) => {
-            put_ok(out);
-            output::put_decimal(out, list.len as u64);
-            put_moves(out, list);
-        }
-        Err(e) => output::put_refusal(out, e),
-    }
+    tell(out, l, put_list);
 }
 
 // The moves of a list, each with its count.
@@ -188,18 +213,18 @@ fn put_counts(out: &mut Space, list: MoveList, counts: [u64; 256])
     }
 }
 
+fn put_divided(out: &mut Space, d: Divided)
+    ensures { out.new ≡ over (divided_word d) out.old }
+{
+    let list = d.list;
+    output::put_decimal(out, list.len as u64);
+    put_counts(out, list, d.counts);
+}
+
 pub fn tell_divided(out: &mut Space, d: Result<Divided, Refusal>)
     ensures { out.new ≡ over (divided_answer d) out.old }
 {
-    match d {
-        Ok(divided) => {
-            let list = divided.list;
-            put_ok(out);
-            output::put_decimal(out, list.len as u64);
-            put_counts(out, list, divided.counts);
-        }
-        Err(e) => output::put_refusal(out, e),
-    }
+    tell(out, d, put_divided);
 }
 
 // A move's first square, last square and set.
@@ -214,25 +239,31 @@ fn put_record(out: &mut Space, m: Move)
 }
 
 // The move's Hub text, first square, last square and set.
-pub fn tell_move(out: &mut Space, m: Move)
-    ensures { out.new ≡ over (move_answer m) out.old }
+fn put_full(out: &mut Space, m: Move)
+    ensures { out.new ≡ over (full_word m) out.old }
 {
-    put_ok(out);
     put_move(out, m);
     out.put_byte(b' ');
     put_record(out, m);
 }
 
+pub fn tell_move(out: &mut Space, m: Result<Move, Refusal>)
+    ensures { out.new ≡ over (on_ok m move_answer) out.old }
+{
+    tell(out, m, put_full);
+}
+
 // The FEN of the position after a move, and its hash.
+fn put_after(out: &mut Space, p: Position)
+    ensures { out.new ≡ over (after_text p) out.old }
+{
+    put_fen(out, p);
+    out.put_byte(b' ');
+    put_hash(out, p);
+}
+
 pub fn tell_after(out: &mut Space, p: Result<Position, Refusal>)
     ensures { out.new ≡ over (after_answer p) out.old }
 {
-    match p {
-        Ok(q) => {
-            tell_fen(out, q);
-            out.put_byte(b' ');
-            output::put_hash(out, q.hash);
-        }
-        Err(e) => output::put_refusal(out, e),
-    }
+    tell(out, p, put_after);
 }

@@ -4,6 +4,8 @@
 
 ghost use Rattle.std.specs.Prelude.{◌≡◌};
 ghost use Rattle.texts.specs.Lent.{over};
+ghost use Rattle.games.specs.Play.{outcome_of};
+ghost use Rattle.replies.specs.Answers.{ok, on_ok};
 ghost use Rattle.replies.specs.States.{winner_word, outcome_word, judged_word, count_word, plies_text, state_text, stand_word, moves_word, end_text};
 
 use crate::answers;
@@ -49,6 +51,19 @@ pub fn put_judged(out: &mut Space, j: Result<Option<Outcome>, Refusal>)
         Ok(None) => out.put(b"none"),
         Err(_) => {}
     }
+}
+
+fn put_verdict(out: &mut Space, g: Game)
+    ensures { out.new ≡ over (judged_word (outcome_of g)) out.old }
+{
+    put_judged(out, g.outcome());
+}
+
+// `ok` and the outcome of a game, or the refusal.
+pub fn tell_outcome(out: &mut Space, g: Result<Game, Refusal>)
+    ensures { out.new ≡ over (on_ok g (λ h. ok (judged_word (outcome_of h)))) out.old }
+{
+    answers::tell(out, g, put_verdict);
 }
 
 fn put_count(out: &mut Space, c: Result<u64, Refusal>)

@@ -25,12 +25,12 @@ use Rattle.texts.specs.Bytes.{is, index_of}
 use Rattle.texts.proofs.Cuts.{after_is}
 use Rattle.wording.specs.Numbers.{unsigned_of, set_of}
 use Rattle.wording.specs.Escapes.{plain, is_plain}
-use Rattle.wording.specs.Output.{decimal, hex, hash, bad}
+use Rattle.wording.specs.Output.{decimal, hex, hash, signed, bad}
 use Rattle.wording.specs.Words.{first_word, after_word, word_at, blanks_in}
 use Rattle.wording.specs.declared.output.Flaw.{Flaw}
 use Rattle.wording.specs.declared.output.Flaw.TheVariants as flaw
-use Rattle.replies.specs.Answers.{ok, fen_answer, hub_answer, hash_answer, set_word, bits_answer, placed_answer, scored_answer, tested_answer, counted_answer, move_word, record_word, move_answer, after_answer, list_answer, divided_answer}
-use Rattle.requests.specs.Asked.{on_placed, on_found, on_parsed, on_sided, on_weights, moves_request, atmost_request, parse_request, after_request, perft_request, divide_request, eval_request, weights_of, evalw_request, numbered_word, square_request, side_of, sets_answer, parts_request}
+use Rattle.replies.specs.Answers.{ok, fen_answer, hub_answer, hash_answer, set_word, bits_answer, placed_answer, scored_answer, tested_answer, counted_answer, move_word, record_word, move_answer, after_answer, list_answer, divided_answer, on_ok, fen_word, after_text, yes_no, numbered_word}
+use Rattle.requests.specs.Asked.{on_parsed, on_sided, on_weights, moves_request, atmost_request, parse_request, after_request, perft_request, divide_request, eval_request, weights_of, evalw_request, square_request, side_of, sets_answer, parts_request}
 use Rattle.requests.specs.Plays.{words_of, all_records, game_answer, play_request, record_request, outcome_request}
 use Rattle.requests.specs.Reading.{position_in, move_in, square_in}
 use Rattle.requests.specs.Requests.{whole_position, first_position, request_of, request_answer, named_answer, longest, answer_room, answer_of}
@@ -44,6 +44,14 @@ use Rattle.request_laws.proofs.Lengths.{decimal_most, hex_most, hash_long, signe
 use Rattle.request_laws.proofs.Falling.{new_good, judged_most, game_cost, pieces_most, words_most}
 use Rattle.std.specs.declared.option.Option.{Option}
 use Rattle.squares.specs.declared.refusal.Refusal.{Refusal}
+
+-- ---- what is said of what was found, or the refusal
+on_ok_lem : {A : Type 0} (x : Result A Refusal) (k : A → List ℕ) (z : ℕ) → 45 ≤ z → ((y : A) → length (k y) ≤ z) → length (on_ok x k) ≤ z
+on_ok_lem (Ok y) k z g h = h y
+on_ok_lem (Err e) k z g h = omega (arith, refusal_most e)
+
+about : {A : Type 0} (x : Result A Refusal) (k : A → List ℕ) → ((y : A) → length (k y) ≤ 45380) → length (on_ok x k) ≤ 45380
+about x k h = on_ok_lem x k 45380 (omega arith) h
 
 -- ---- what is written of a position: never more than a list of moves with their counts
 bits_most : (p : Position) → length (bits_answer p) ≤ 45380
@@ -79,24 +87,19 @@ unfolding hash_answer
 hash_answer_lem p = omega (arith, hash_long p.hash)
 
 placed_most : (q : Result Position Refusal) → length (placed_answer q) ≤ 45380
-placed_most (Ok p) = omega (arith, fen_answer_lem p)
-placed_most (Err e) = omega (arith, refusal_most e)
+placed_most q = about q fen_answer (λ p. omega (arith, fen_answer_lem p))
 
 scored_most : (s : Result ℤ Refusal) → length (scored_answer s) ≤ 45380
-scored_most (Ok z) = omega (arith, signed_most z)
-scored_most (Err e) = omega (arith, refusal_most e)
+scored_most s = about s (λ z. ok (signed z)) (λ z. omega (arith, signed_most z))
 
 tested_most : (t : Result Bool Refusal) → length (tested_answer t) ≤ 45380
-tested_most (Ok b) = omega arith
-tested_most (Err e) = omega (arith, refusal_most e)
+tested_most t = about t (λ b. ok (yes_no b ∷ [])) (λ b. omega arith)
 
 counted_most : (c : Result ℕ Refusal) → length (counted_answer c) ≤ 45380
-counted_most (Ok n) = omega (arith, decimal_most n)
-counted_most (Err e) = omega (arith, refusal_most e)
+counted_most c = about c (λ n. ok (decimal n)) (λ n. omega (arith, decimal_most n))
 
 after_most : (q : Result Position Refusal) → length (after_answer q) ≤ 45380
-after_most (Ok p) = omega (arith, length-append (fen_answer p) (32 ∷ hash p.hash), fen_answer_lem p, hash_long p.hash)
-after_most (Err e) = omega (arith, refusal_most e)
+after_most q = about q (λ p. ok (after_text p)) (λ p. omega (arith, length-append (fen_word p) (32 ∷ hash p.hash), fen_most p, hash_long p.hash))
 
 move_answer_lem : (m : Move) → length (move_answer m) ≤ 45380
 unfolding move_answer record_word
@@ -116,14 +119,6 @@ move_answer_lem m =
     )
 
 -- ---- what goes on with what was read
-on_placed_lem : (x : Result Position Refusal) (k : Position → List ℕ) (z : ℕ) → 45 ≤ z → ((p : Position) → length (k p) ≤ z) → length (on_placed x k) ≤ z
-on_placed_lem (Ok p) k z g h = h p
-on_placed_lem (Err e) k z g h = omega (arith, refusal_most e)
-
-on_found_lem : (x : Result Move Refusal) (k : Move → List ℕ) → ((m : Move) → length (k m) ≤ 45380) → length (on_found x k) ≤ 45380
-on_found_lem (Ok m) k h = h m
-on_found_lem (Err e) k h = omega (arith, refusal_most e)
-
 on_parsed_lem : (x : Option ℕ) (k : ℕ → List ℕ) → ((n : ℕ) → length (k n) ≤ 45380) → length (on_parsed x k) ≤ 45380
 on_parsed_lem (Some n) k h = h n
 on_parsed_lem None k h = omega (arith, bad_most flaw.Number)
@@ -137,9 +132,6 @@ cond_most true x f z g h = h
 cond_most false x f z g h = omega (arith, bad_most f)
 
 -- ---- the requests about a position, short ones
-about : (x : Result Position Refusal) (k : Position → List ℕ) → ((p : Position) → length (k p) ≤ 45380) → length (on_placed x k) ≤ 45380
-about x k h = on_placed_lem x k 45380 (omega arith) h
-
 moves_most : (x : Result Position Refusal) (n : ℕ) → length (moves_request x n) ≤ 45380
 moves_most x n = about x (λ q. list_answer (legal_moves_of q n)) (λ q. list_most (legal_moves_of q n))
 
@@ -148,11 +140,11 @@ unfolding atmost_request
 atmost_most arg = on_parsed_lem (unsigned_of (first_word arg)) _ (λ n. moves_most (position_in form.Either (after_word arg)) n)
 
 parse_most : (x : Result Position Refusal) (t : List ℕ) → length (parse_request x t) ≤ 45380
-parse_most x t = about x (λ q. on_found (move_in q t) move_answer) (λ q. on_found_lem (move_in q t) move_answer move_answer_lem)
+parse_most x t = about x (λ q. on_ok (move_in q t) move_answer) (λ q. about (move_in q t) move_answer move_answer_lem)
 
 after_request_lem : (x : Result Position Refusal) (t : List ℕ) → length (after_request x t) ≤ 45380
 after_request_lem x t =
-    about x (λ q. on_found (move_in q t) (λ m. after_answer (after_of q m))) (λ q. on_found_lem (move_in q t) (λ m. after_answer (after_of q m)) (λ m. after_most (after_of q m)))
+    about x (λ q. on_ok (move_in q t) (λ m. after_answer (after_of q m))) (λ q. about (move_in q t) (λ m. after_answer (after_of q m)) (λ m. after_most (after_of q m)))
 
 perft_most : (x : Result Position Refusal) (t : List ℕ) → length (perft_request x t) ≤ 45380
 perft_most x t =
@@ -211,11 +203,11 @@ unfolding game_answer
 game_most h p s l = omega (arith, game_cost h (game_of (new_of p)) (new_good p) (words_of s), pieces_most (game_of (new_of p)), words_most s)
 
 play_most : (x : Result Position Refusal) (s : List ℕ) → length s ≤ longest → length (play_request x s) ≤ 1442469
-play_most x s l = on_placed_lem x (λ q. game_answer given.Text q s) 1442469 (omega arith) (λ q. game_most given.Text q s l)
+play_most x s l = on_ok_lem x (λ q. game_answer given.Text q s) 1442469 (omega arith) (λ q. game_most given.Text q s l)
 
 record_most : (x : Result Position Refusal) (s : List ℕ) → length s ≤ longest → length (record_request x s) ≤ 1442469
 record_most x s l =
-    on_placed_lem x (λ q. cond (all_records (words_of s)) (game_answer given.Record q s) (bad flaw.Number)) 1442469 (omega arith)
+    on_ok_lem x (λ q. cond (all_records (words_of s)) (game_answer given.Record q s) (bad flaw.Number)) 1442469 (omega arith)
     (λ q. cond_most (all_records (words_of s)) (game_answer given.Record q s) flaw.Number 1442469 (omega arith) (game_most given.Record q s l))
 
 -- ---- the line

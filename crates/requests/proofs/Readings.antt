@@ -79,14 +79,16 @@ module _ (s o out : List ℕ) (n : ℕ) (long : length o ≡ 4097) (u : Undid s 
   pub fits : n ≤ length out
   fits = omega (arith, u.answer, ap length cut_part, length-take n out, length-take 4097 (undone s), long)
 
-  pub position_read : (f : Form) (a : Result Position Refusal) → a ≡ read_of f (take n out) → a ≡ position_in f s
+-- ---- what is read of the text t of the word s, as far as it was written
+module _ (s t : List ℕ) where
+  pub position_read : (f : Form) (a : Result Position Refusal) → a ≡ read_of f t → t ≡ take 4097 (undone s) → a ≡ position_in f s
   unfolding position_in
-  position_read f a e = e ∙ ap (read_of f) cut_part ∙ read_cut f (undone s)
+  position_read f a q e = q ∙ ap (read_of f) e ∙ read_cut f (undone s)
 
-  pub move_read : (p : Position) (a : Result Move Refusal) → a ≡ parse_move_of p (take n out) → a ≡ move_in p s
+  pub move_read : (p : Position) (a : Result Move Refusal) → a ≡ parse_move_of p t → t ≡ take 4097 (undone s) → a ≡ move_in p s
   unfolding move_in
-  move_read p a e = e ∙ ap (parse_move_of p) cut_part ∙ cut (parse_move_of p) _ (move_refused p) (undone s)
+  move_read p a q e = q ∙ ap (parse_move_of p) e ∙ cut (parse_move_of p) _ (move_refused p) (undone s)
 
-  pub square_read : (a : Result ℕ Refusal) → a ≡ from_str_of (take n out) → a ≡ square_in s
+  pub square_read : (a : Result ℕ Refusal) → a ≡ from_str_of t → t ≡ take 4097 (undone s) → a ≡ square_in s
   unfolding square_in
-  square_read a e = e ∙ ap from_str_of cut_part ∙ cut from_str_of _ square_refused (undone s)
+  square_read a q e = q ∙ ap from_str_of e ∙ cut from_str_of _ square_refused (undone s)

@@ -1,37 +1,26 @@
 -- The requests about a position or a square. The position comes as what was read of its text: a refusal is the answer.
-use Rattle.std.specs.Prelude.{ℕ, List, [], ◌∷◌, ◌++◌, cond, eqb, ℤ, Err, None, Ok, Result, Some}
-use Prim.Native.Char.{code}
-use Rattle.squares.specs.Squares.{bit_of, row_of, of_square}
+use Rattle.std.specs.Prelude.{ℕ, List, [], ◌∷◌, cond, eqb, ℤ, Err, None, Ok, Result, Some}
 use Rattle.squares.specs.Pieces.{color_from_char_of}
 use Rattle.squares.specs.Refusals.{refusal}
 use Rattle.squares.specs.declared.piece.Color.{Color}
 use Rattle.positions.specs.Acceptance.{from_parts_of}
 use Rattle.positions.specs.Flip.{flipped_of}
-use Rattle.positions.specs.declared.moves.Move.{Move}
 use Rattle.positions.specs.declared.position.Position.{Position}
 use Rattle.scores.specs.Score.{evaluate_of}
 use Rattle.scores.specs.declared.eval.Classical.{Classical}
 use Rattle.movegen.specs.Lists.{legal_moves_of, has_captures_of, has_quiet_moves_of, after_of}
 use Rattle.movegen.specs.Counts.{perft_of, divide_of}
-use Rattle.wording.specs.Output.{decimal, refusal_text, bad}
+use Rattle.wording.specs.Output.{bad}
 use Rattle.wording.specs.Words.{first_word, after_word, word_at, blanks_in}
 use Rattle.wording.specs.Numbers.{unsigned_of, set_of, signed_of}
 use Rattle.wording.specs.declared.output.Flaw.TheVariants as flaw
 use Rattle.requests.specs.Reading.{position_in, move_in}
-use Rattle.replies.specs.Answers.{ok, hub_answer, bits_answer, hash_answer, placed_answer, scored_answer, tested_answer, counted_answer, list_answer, divided_answer, move_answer, after_answer}
+use Rattle.replies.specs.Answers.{on_ok, square_answer, hub_answer, bits_answer, hash_answer, placed_answer, scored_answer, tested_answer, counted_answer, list_answer, divided_answer, move_answer, after_answer}
 use Rattle.requests.specs.declared.reading.Form.TheVariants as form
 use Rattle.std.specs.declared.option.Option.{Option}
 use Rattle.squares.specs.declared.refusal.Refusal.{Refusal}
 
 -- ---- what was read, or why it cannot be
-abbrev pub on_placed : Result Position Refusal → (Position → List ℕ) → List ℕ
-on_placed (Ok p) k = k p
-on_placed (Err e) k = refusal_text e
-
-abbrev pub on_found : Result Move Refusal → (Move → List ℕ) → List ℕ
-on_found (Ok m) k = k m
-on_found (Err e) k = refusal_text e
-
 abbrev pub on_parsed : Option ℕ → (ℕ → List ℕ) → List ℕ
 on_parsed (Some n) k = k n
 on_parsed None k = bad flaw.Number
@@ -45,46 +34,46 @@ abbrev pub fen_request : Result Position Refusal → List ℕ
 fen_request p = placed_answer p
 
 abbrev pub hub_request : Result Position Refusal → List ℕ
-hub_request p = on_placed p hub_answer
+hub_request p = on_ok p hub_answer
 
 abbrev pub bits_request : Result Position Refusal → List ℕ
-bits_request p = on_placed p bits_answer
+bits_request p = on_ok p bits_answer
 
 abbrev pub hash_request : Result Position Refusal → List ℕ
-hash_request p = on_placed p hash_answer
+hash_request p = on_ok p hash_answer
 
 abbrev pub flip_request : Result Position Refusal → List ℕ
-flip_request p = on_placed p (λ q. placed_answer (flipped_of q))
+flip_request p = on_ok p (λ q. placed_answer (flipped_of q))
 
 abbrev pub caps_request : Result Position Refusal → List ℕ
-caps_request p = on_placed p (λ q. tested_answer (has_captures_of q))
+caps_request p = on_ok p (λ q. tested_answer (has_captures_of q))
 
 abbrev pub quiet_request : Result Position Refusal → List ℕ
-quiet_request p = on_placed p (λ q. tested_answer (has_quiet_moves_of q))
+quiet_request p = on_ok p (λ q. tested_answer (has_quiet_moves_of q))
 
 -- the legal moves, if there are no more than the limit
 abbrev pub moves_request : Result Position Refusal → ℕ → List ℕ
-moves_request p limit = on_placed p (λ q. list_answer (legal_moves_of q limit))
+moves_request p limit = on_ok p (λ q. list_answer (legal_moves_of q limit))
 
 -- the score with these weights
 abbrev pub eval_request : Result Position Refusal → Classical → List ℕ
-eval_request p w = on_placed p (λ q. scored_answer (evaluate_of w q))
+eval_request p w = on_ok p (λ q. scored_answer (evaluate_of w q))
 
 -- ---- of a position and the rest of the line
 
 -- a move's text
 abbrev pub parse_request : Result Position Refusal → List ℕ → List ℕ
-parse_request p text = on_placed p (λ q. on_found (move_in q text) move_answer)
+parse_request p text = on_ok p (λ q. on_ok (move_in q text) move_answer)
 
 abbrev pub after_request : Result Position Refusal → List ℕ → List ℕ
-after_request p text = on_placed p (λ q. on_found (move_in q text) (λ m. after_answer (after_of q m)))
+after_request p text = on_ok p (λ q. on_ok (move_in q text) (λ m. after_answer (after_of q m)))
 
 -- a depth
 abbrev pub perft_request : Result Position Refusal → List ℕ → List ℕ
-perft_request p depth = on_placed p (λ q. on_parsed (unsigned_of depth) (λ n. counted_answer (perft_of q n)))
+perft_request p depth = on_ok p (λ q. on_parsed (unsigned_of depth) (λ n. counted_answer (perft_of q n)))
 
 abbrev pub divide_request : Result Position Refusal → List ℕ → List ℕ
-divide_request p depth = on_placed p (λ q. on_parsed (unsigned_of depth) (λ n. divided_answer (divide_of q n)))
+divide_request p depth = on_ok p (λ q. on_parsed (unsigned_of depth) (λ n. divided_answer (divide_of q n)))
 
 -- atmost: a limit, which is read first, then the position
 unfoldable pub atmost_request : List ℕ → List ℕ
@@ -111,15 +100,8 @@ evalw_request arg =
 
 -- ---- of a square, and of sets
 
--- number, bit, row
-abbrev pub numbered_word : Result ℕ Refusal → List ℕ
-numbered_word (Ok n) = decimal n
-numbered_word (Err e) = []
-
 abbrev pub square_request : Result ℕ Refusal → List ℕ
-square_request (Ok n) =
-    ok (decimal n ++ (code " " ∷ (numbered_word (of_square n (bit_of n)) ++ (code " " ∷ numbered_word (of_square n (row_of (bit_of n)))))))
-square_request (Err e) = refusal_text e
+square_request n = on_ok n square_answer
 
 -- a side is W or B alone
 unfoldable pub side_of : List ℕ → Result Color Refusal

@@ -14,8 +14,7 @@ use Rattle.wording.specs.Output.{decimal, number_word, bad}
 use Rattle.wording.specs.Numbers.{unsigned_of, set_of}
 use Rattle.wording.specs.Escapes.{undone}
 use Rattle.wording.specs.declared.output.Flaw.TheVariants as flaw
-use Rattle.replies.specs.Answers.{ok, move_word}
-use Rattle.requests.specs.Asked.{on_placed}
+use Rattle.replies.specs.Answers.{ok, on_ok, move_word}
 use Rattle.replies.specs.States.{judged_word, state_text, end_text}
 use Rattle.requests.specs.declared.plays.Given.{Given}
 use Rattle.requests.specs.declared.plays.Given.TheVariants as given
@@ -92,12 +91,12 @@ game_answer h p s = bytes "ok" ++ game_text h (game_of (new_of p)) (words_of s)
 
 -- ---- the requests
 abbrev pub play_request : Result Position Refusal → List ℕ → List ℕ
-play_request p texts = on_placed p (λ q. game_answer given.Text q texts)
+play_request p texts = on_ok p (λ q. game_answer given.Text q texts)
 
 -- every record must be readable before one is played
 abbrev pub record_request : Result Position Refusal → List ℕ → List ℕ
-record_request p records = on_placed p (λ q. cond (all_records (words_of records)) (game_answer given.Record q records) (bad flaw.Number))
+record_request p records = on_ok p (λ q. cond (all_records (words_of records)) (game_answer given.Record q records) (bad flaw.Number))
 
 -- the outcome of a new game
 abbrev pub outcome_request : Result Position Refusal → List ℕ
-outcome_request p = on_placed p (λ q. ok (judged_word (outcome_of (game_of (new_of q)))))
+outcome_request p = on_ok p (λ q. ok (judged_word (outcome_of (game_of (new_of q)))))

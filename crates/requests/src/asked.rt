@@ -3,7 +3,10 @@
 // The position that a request is about comes as what was read of its text. If that is a refusal, it is the answer.
 ghost use Rattle.std.specs.Prelude.{◌≡◌};
 ghost use Rattle.texts.specs.Lent.{over};
-ghost use Rattle.requests.specs.Asked.{fen_request, hub_request, numbered_word, square_request, side_of, sets_answer, parts_request, bits_request, moves_request, atmost_request, parse_request, after_request, perft_request, divide_request, eval_request, weights_of, evalw_request, hash_request, flip_request, caps_request, quiet_request};
+ghost use Rattle.wording.specs.Output.{bad};
+ghost use Rattle.wording.specs.declared.output.Flaw.TheVariants as flaw;
+ghost use Rattle.replies.specs.Answers.{on_ok};
+ghost use Rattle.requests.specs.Asked.{fen_request, hub_request, square_request, side_of, sets_answer, parts_request, bits_request, moves_request, atmost_request, parse_request, after_request, perft_request, divide_request, eval_request, weights_of, evalw_request, hash_request, flip_request, caps_request, quiet_request};
 
 use crate::reading;
 use crate::reading::Form;
@@ -20,37 +23,26 @@ use wording::{numbers, output, words};
 pub(crate) fn fen(p: Result<Position, Refusal>, out: &mut Space)
     ensures { out.new ≡ over (fen_request p) out.old }
 {
-    answers::tell_placed(out, p);
+    answers::tell_fen(out, p);
 }
 
 pub(crate) fn hub(p: Result<Position, Refusal>, out: &mut Space)
     ensures { out.new ≡ over (hub_request p) out.old }
 {
-    match p {
-        Ok(q) => answers::tell_hub(out, q),
-        Err(e) => output::put_refusal(out, e),
-    }
+    answers::tell_hub(out, p);
 }
 
 pub(crate) fn bits(p: Result<Position, Refusal>, out: &mut Space)
     ensures { out.new ≡ over (bits_request p) out.old }
 {
-    match p {
-        Ok(q) => answers::tell_bits(out, q),
-        Err(e) => output::put_refusal(out, e),
-    }
+    answers::tell_bits(out, p);
 }
 
 // The legal moves, if there are no more than the limit.
 pub(crate) fn moves(p: Result<Position, Refusal>, limit: usize, out: &mut Space)
     ensures { out.new ≡ over (moves_request p limit) out.old }
 {
-    match p {
-        Ok(q) => {
-            answers::tell_list(out, movegen::movegen::legal_moves(q, limit));
-        }
-        Err(e) => output::put_refusal(out, e),
-    }
+    answers::tell_list(out, p.and_then(|q| movegen::movegen::legal_moves(q, limit)));
 }
 
 // The limit is the first word and is read before the position.
@@ -71,23 +63,24 @@ pub(crate) fn atmost(arg: &[u8], out: &mut Space)
 pub(crate) fn parse(p: Result<Position, Refusal>, text: &[u8], out: &mut Space)
     ensures { out.new ≡ over (parse_request p text.now) out.old }
 {
-    match p {
-        Ok(q) => match reading::listed_move(q, text) {
-            Ok(m) => answers::tell_move(out, m),
-            Err(e) => output::put_refusal(out, e),
-        },
-        Err(e) => output::put_refusal(out, e),
-    }
+    answers::tell_move(out, p.and_then(|q| reading::listed_move(q, text)));
 }
 
 pub(crate) fn after(p: Result<Position, Refusal>, text: &[u8], out: &mut Space)
     ensures { out.new ≡ over (after_request p text.now) out.old }
 {
+    answers::tell_after(
+        out,
+        p.and_then(|q| movegen::movegen::after(q, reading::listed_move(q, text)?)),
+    );
+}
+
+// A number cannot be read. The refusal of the position comes first.
+pub(crate) fn no_number(p: Result<Position, Refusal>, out: &mut Space)
+    ensures { out.new ≡ over (on_ok p (λ _. bad flaw.Number)) out.old }
+{
     match p {
-        Ok(q) => match reading::listed_move(q, text) {
-            Ok(m) => answers::tell_after(out, movegen::movegen::after(q, m)),
-            Err(e) => output::put_refusal(out, e),
-        },
+        Ok(_) => output::put_bad(out, Flaw::Number),
         Err(e) => output::put_refusal(out, e),
     }
 }
@@ -95,28 +88,22 @@ pub(crate) fn after(p: Result<Position, Refusal>, text: &[u8], out: &mut Space)
 pub(crate) fn perft(p: Result<Position, Refusal>, depth: &[u8], out: &mut Space)
     ensures { out.new ≡ over (perft_request p depth.now) out.old }
 {
-    match p {
-        Ok(q) => match numbers::unsigned(depth) {
-            Some(n) => {
-                answers::tell_counted(out, movegen::perft::perft(q, n as u32));
-            }
-            None => output::put_bad(out, Flaw::Number),
-        },
-        Err(e) => output::put_refusal(out, e),
+    match numbers::unsigned(depth) {
+        Some(n) => {
+            answers::tell_counted(out, p.and_then(|q| movegen::perft::perft(q, n as u32)));
+        }
+        None => no_number(p, out),
     }
 }
 
 pub(crate) fn divide(p: Result<Position, Refusal>, depth: &[u8], out: &mut Space)
     ensures { out.new ≡ over (divide_request p depth.now) out.old }
 {
-    match p {
-        Ok(q) => match numbers::unsigned(depth) {
-            Some(n) => {
-                answers::tell_divided(out, movegen::perft::divide(q, n as u32));
-            }
-            None => output::put_bad(out, Flaw::Number),
-        },
-        Err(e) => output::put_refusal(out, e),
+    match numbers::unsigned(depth) {
+        Some(n) => {
+            answers::tell_divided(out, p.and_then(|q| movegen::perft::divide(q, n as u32)));
+        }
+        None => no_number(p, out),
     }
 }
 
@@ -124,10 +111,7 @@ pub(crate) fn divide(p: Result<Position, Refusal>, depth: &[u8], out: &mut Space
 pub(crate) fn eval(p: Result<Position, Refusal>, weights: Classical, out: &mut Space)
     ensures { out.new ≡ over (eval_request p weights) out.old }
 {
-    match p {
-        Ok(q) => answers::tell_scored(out, weights.evaluate(q)),
-        Err(e) => output::put_refusal(out, e),
-    }
+    answers::tell_scored(out, p.and_then(|q| weights.evaluate(q)));
 }
 
 #[tactic(auto, unfolding(crate::specs::Asked::weights_of))]
@@ -165,69 +149,35 @@ pub(crate) fn evalw(arg: &[u8], out: &mut Space)
 pub(crate) fn hash(p: Result<Position, Refusal>, out: &mut Space)
     ensures { out.new ≡ over (hash_request p) out.old }
 {
-    match p {
-        Ok(q) => answers::tell_hash(out, q),
-        Err(e) => output::put_refusal(out, e),
-    }
+    answers::tell_hash(out, p);
 }
 
 pub(crate) fn flip(p: Result<Position, Refusal>, out: &mut Space)
     ensures { out.new ≡ over (flip_request p) out.old }
 {
-    match p {
-        Ok(q) => answers::tell_placed(out, q.flipped()),
-        Err(e) => output::put_refusal(out, e),
-    }
+    answers::tell_fen(out, p.and_then(Position::flipped));
 }
 
 pub(crate) fn caps(p: Result<Position, Refusal>, out: &mut Space)
     ensures { out.new ≡ over (caps_request p) out.old }
 {
-    match p {
-        Ok(q) => answers::tell_tested(out, movegen::movegen::has_captures(q)),
-        Err(e) => output::put_refusal(out, e),
-    }
+    answers::tell_tested(out, p.and_then(movegen::movegen::has_captures));
 }
 
 pub(crate) fn quiet(p: Result<Position, Refusal>, out: &mut Space)
     ensures { out.new ≡ over (quiet_request p) out.old }
 {
-    match p {
-        Ok(q) => answers::tell_tested(out, movegen::movegen::has_quiet_moves(q)),
-        Err(e) => output::put_refusal(out, e),
-    }
+    answers::tell_tested(out, p.and_then(movegen::movegen::has_quiet_moves));
 }
 
-// A square's bit or row.
-#[tactic(auto, using(texts::proofs::Overs::over_none))]
-fn put_numbered(out: &mut Space, n: Result<u32, Refusal>)
-    ensures { out.new ≡ over (numbered_word n) out.old }
-{
-    match n {
-        Ok(k) => output::put_decimal(out, k as u64),
-        Err(_) => {}
-    }
-}
-
-// The number, the bit and the row of a square.
-#[tactic(auto, using(texts::proofs::Overs::over_append), unfolding(texts::specs::Lent::over))]
 pub(crate) fn square(n: Result<u32, Refusal>, out: &mut Space)
     ensures { out.new ≡ over (square_request n) out.old }
 {
-    match n {
-        Ok(k) => {
-            answers::put_ok(out);
-            output::put_decimal(out, k as u64);
-            out.put_byte(b' ');
-            put_numbered(out, squares::square::bit(k));
-            out.put_byte(b' ');
-            put_numbered(out, squares::square::row(k));
-        }
-        Err(e) => output::put_refusal(out, e),
-    }
+    answers::tell_square(out, n);
 }
 
 // The side that a word means: W or B alone.
+#[tactic(auto, using(crate::proofs::Sides::side_one, crate::proofs::Sides::side_other))]
 fn side(word: &[u8]) -> Result<Color, Refusal>
     ensures { result ≡ side_of word.now }
 {
@@ -251,12 +201,10 @@ fn sets(arg: &[u8], out: &mut Space)
     let Some(kings) = numbers::set(words::word(arg, 2)) else {
         return output::put_bad(out, Flaw::Number);
     };
-    match side(words::word(arg, 3)) {
-        Ok(c) => {
-            answers::tell_placed(out, position::from_parts(white, black, kings, c));
-        }
-        Err(_) => output::put_bad(out, Flaw::Side),
-    }
+    let Ok(c) = side(words::word(arg, 3)) else {
+        return output::put_bad(out, Flaw::Side);
+    };
+    answers::tell_fen(out, position::from_parts(white, black, kings, c));
 }
 
 #[tactic(auto, unfolding(crate::specs::Asked::parts_request))]

@@ -7,8 +7,12 @@
 ghost use Rattle.std.specs.Prelude.{◌≡◌};
 ghost use Rattle.texts.specs.Lent.{over};
 ghost use Rattle.gametexts.specs.Texts.{played_on};
+ghost use Rattle.games.specs.Play.{new_of};
+ghost use Rattle.games.specs.Demand3.{game_of};
+ghost use Rattle.replies.specs.Answers.{on_ok};
 ghost use Rattle.requests.specs.Plays.{record_of, is_record_of, all_records, words_of, play_text_of, play_record_of, play_word_of, text_told, record_told, word_told, game_text, game_answer, play_request, record_request, outcome_request};
 
+use crate::{asked, reading};
 use games::game::Game;
 use gametexts::game::PlayedText;
 use positions::moves::Move;
@@ -18,9 +22,8 @@ use squares::refusal;
 use squares::refusal::Refusal;
 use texts::bytes;
 use texts::space::Space;
-use wording::output::Flaw;
 use wording::words::Words;
-use wording::{escapes, numbers, output};
+use wording::{numbers, output};
 
 // How the plays of a game are given. It is no closure, since the definitions take it too.
 #[derive(Clone, Copy)]
@@ -30,6 +33,7 @@ pub enum Given {
 }
 
 // The numbers may be any of 32 bits: which of them are squares is the game's to say.
+#[tactic(auto, unfolding(crate::specs::Plays::record_of))]
 fn read_record(word: &[u8]) -> Option<Move>
     ensures { result ≡ record_of word.now }
 {
@@ -54,23 +58,17 @@ fn is_record(word: &[u8]) -> bool
 fn all_records(s: &[u8]) -> bool
     ensures { result ≡ all_records (words_of s.now) }
 {
-    for word in Words(s) {
-        if !is_record(word) {
-            return false;
-        }
-    }
-    true
+    Words(s).all(is_record)
 }
 
 fn play_text(g: Game, word: &[u8]) -> Result<PlayedText, Refusal>
     ensures { result ≡ play_text_of g word.now }
 {
-    let mut space = [0u8; 4097];
-    let n = escapes::unescape(word, &mut space);
-    gametexts::game::play_str(g, &space[..n])
+    reading::unescaped(word, |text| gametexts::game::play_str(g, text))
 }
 
 // A word that is no record is not played. `record` answers a line with such a word before it plays any.
+#[tactic(auto, unfolding(crate::specs::Plays::play_record_of))]
 fn play_record(g: Game, word: &[u8]) -> Result<PlayedText, Refusal>
     ensures { result ≡ play_record_of g word.now }
 {
@@ -132,6 +130,7 @@ fn played_on(g: Game, r: Result<PlayedText, Refusal>) -> Game
 }
 
 // Plays the words in order; each play gets the game that the plays before it led to.
+#[tactic(auto, using(crate::proofs::PlayLaws::game_end))]
 fn play_words(given: Given, start: Game, s: &[u8], out: &mut Space)
     ensures { out.new ≡ over (game_text given start (words_of s.now)) out.old }
 {
@@ -144,52 +143,47 @@ fn play_words(given: Given, start: Game, s: &[u8], out: &mut Space)
     states::put_end(out, g);
 }
 
+// The game that begins with a position. Every position that was read is accepted, so the empty game does not come.
+fn new_game(p: Position) -> Game
+    ensures { result ≡ game_of (new_of p) }
+{
+    Game::from_position(p).unwrap_or(Game::empty())
+}
+
 // Begins a game and plays the words.
 #[tactic(auto, using(texts::proofs::Overs::over_append), unfolding(texts::specs::Lent::over, crate::specs::Plays::game_answer))]
-fn play_game(given: Given, p: Position, s: &[u8], out: &mut Space)
-    ensures { out.new ≡ over (game_answer given p s.now) out.old }
+fn play_game(given: Given, p: Result<Position, Refusal>, s: &[u8], out: &mut Space)
+    ensures { out.new ≡ over (on_ok p (λ q. game_answer given q s.now)) out.old }
 {
-    let game = Game::from_position(p).unwrap_or(Game::empty());
-    out.put(b"ok");
-    play_words(given, game, s, out);
+    match p {
+        Ok(q) => {
+            out.put(b"ok");
+            play_words(given, new_game(q), s, out);
+        }
+        Err(e) => output::put_refusal(out, e),
+    }
 }
 
 pub(crate) fn play(p: Result<Position, Refusal>, texts: &[u8], out: &mut Space)
     ensures { out.new ≡ over (play_request p texts.now) out.old }
 {
-    match p {
-        Ok(q) => play_game(Given::Text, q, texts, out),
-        Err(e) => output::put_refusal(out, e),
-    }
+    play_game(Given::Text, p, texts, out);
 }
 
 // Every record must be readable before one is played.
 pub(crate) fn record(p: Result<Position, Refusal>, records: &[u8], out: &mut Space)
     ensures { out.new ≡ over (record_request p records.now) out.old }
 {
-    match p {
-        Ok(q) => {
-            if all_records(records) {
-                play_game(Given::Record, q, records, out);
-            } else {
-                output::put_bad(out, Flaw::Number);
-            }
-        }
-        Err(e) => output::put_refusal(out, e),
+    if all_records(records) {
+        play_game(Given::Record, p, records, out);
+    } else {
+        asked::no_number(p, out);
     }
 }
 
 // The outcome of a new game.
-#[tactic(auto, using(texts::proofs::Overs::over_append), unfolding(texts::specs::Lent::over))]
 pub(crate) fn outcome(p: Result<Position, Refusal>, out: &mut Space)
     ensures { out.new ≡ over (outcome_request p) out.old }
 {
-    match p {
-        Ok(q) => {
-            let game = Game::from_position(q).unwrap_or(Game::empty());
-            answers::put_ok(out);
-            states::put_judged(out, game.outcome());
-        }
-        Err(e) => output::put_refusal(out, e),
-    }
+    states::tell_outcome(out, p.map(new_game));
 }

@@ -97,6 +97,7 @@ const REQUESTS: [Request; 22] = [
 ];
 
 // The request with this name.
+#[tactic(auto, using(crate::proofs::Table::next, crate::proofs::Table::none))]
 fn request_of(name: &[u8]) -> Option<Request>
     ensures { result ≡ request_of name.now }
 {
@@ -112,12 +113,14 @@ fn request_of(name: &[u8]) -> Option<Request>
 }
 
 // The position that the whole argument means, or its first word alone.
+#[tactic(auto, unfolding(crate::specs::Requests::whole_position))]
 fn whole(arg: &[u8]) -> Result<Position, Refusal>
     ensures { result ≡ whole_position arg.now }
 {
     reading::position(Form::Either, arg)
 }
 
+#[tactic(auto, unfolding(crate::specs::Requests::first_position))]
 fn first(arg: &[u8]) -> Result<Position, Refusal>
     ensures { result ≡ first_position arg.now }
 {

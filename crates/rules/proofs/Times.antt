@@ -1,5 +1,7 @@
 -- How often an entry stands in a list, also in one without doubles.
 use mathlib.Core.Path.{◌≡◌, refl, sym, ap, ap₂, ◌∙◌, subst}
+use Rattle.std.specs.Prelude.{count_by}
+use Rattle.std.proofs.lemmas.List.Sums.{sum_by-cons}
 use Prim.Native.Nat.{ℕ, ◌+◌, ◌≤◌, ◌<◌}
 use native.Mathlib.Omega.{arith}
 use mathlib.Core.Bool.{Bool, true, false, cond}
@@ -27,6 +29,12 @@ module _ {A : Type 0} (same : A → A → Bool) (x : A) where
   unfolding times
   times_append [] zs = omega arith
   times_append (y ∷ ys) zs = let ih = times_append ys zs in omega arith
+
+  -- as the count of the library
+  pub times_counted : (l : List A) → count_by (λ (y : A). same y x) l ≡ times same l x
+  unfolding times
+  times_counted [] = refl
+  times_counted (y ∷ l) = sum_by-cons _ y l ∙ ap (λ (n : ℕ). cond (same y x) 1 0 + n) (times_counted l)
 
   -- the entries that are x
   unfoldable pub is_it : A → Bool

@@ -5,11 +5,11 @@ use mathlib.Core.List.{List, [], ◌∷◌, ◌++◌}
 use mathlib.Core.Bool.{Bool, true, false, cond, not, ◌||◌, ◌&&◌}
 use native.Mathlib.Omega.{arith}
 use native.Mathlib.Numerals.{add-one}
-use lib.ListN.{length, take, drop, get_or, length-drop, drop_of_length-le}
+use lib.ListN.{length, take, drop, get_or, length-drop}
 use lib.Seq.{drop-cons, take-suc, take_all, take-length}
 use lib.Dec.{leb, ltb, eqb, leb-suc-suc}
 use borrow.Author.Tests.{lt-ltb, ltb-true, ltb-false}
-use Rattle.texts.specs.Bytes.{ascii, is, holds, trim_start, keep_end, trim_end, up_to, after_or, after_or_all, after_first, strip, index_of, IsIndex}
+use Rattle.texts.specs.Bytes.{ascii, is, holds, trim_start, keep_end, trim_end, up_to, after_or, after_first, strip, index_of, IsIndex}
 use lib.Pointwise.{pointwise}
 use Rattle.std.specs.List.{list_all, position_or_len}
 use Rattle.std.specs.Option.{unwrap_or}
@@ -142,10 +142,10 @@ after_in t c (b ∷ s) h = go (eqb b c) (after_in t c s) h
     go true e l = refl
     go false e l = e (omega arith)
 
-pub after_all_hit : (c : ℕ) (s : List ℕ) (n : ℕ) → n ≡ index_of (is c) s → index_of (is c) s < length s → take (length s - (n + 1)) (drop (n + 1) s) ≡ after_or_all c s
-unfolding after_or_all
-after_all_hit c s n e h =
-    rest s (n + 1) ∙ ap (λ (k : ℕ). drop (k + 1) s) e ∙ ap (λ (k : ℕ). drop k s) (add-one (index_of (is c) s)) ∙ sym (after_in s c s h)
+pub after_or_hit : (t : List ℕ) (c : ℕ) (s : List ℕ) (n : ℕ) → n ≡ index_of (is c) s → index_of (is c) s < length s
+    → take (length s - (n + 1)) (drop (n + 1) s) ≡ after_or t c s
+after_or_hit t c s n e h =
+    rest s (n + 1) ∙ ap (λ (k : ℕ). drop (k + 1) s) e ∙ ap (λ (k : ℕ). drop k s) (add-one (index_of (is c) s)) ∙ sym (after_in t c s h)
 
 after_out : (t : List ℕ) (c : ℕ) (s : List ℕ) → length s ≤ index_of (is c) s → after_or t c s ≡ t
 unfolding after_or index_of is
@@ -156,9 +156,8 @@ after_out t c (b ∷ s) h = go (eqb b c) (after_out t c s) h
     go true e l = absurd (omega arith)
     go false e l = e (omega arith)
 
-pub after_all_none : (c : ℕ) (s : List ℕ) → index_of (is c) s ≡ length s → s ≡ after_or_all c s
-unfolding after_or_all
-after_all_none c s e = sym (after_out s c s (omega (arith, e)))
+pub after_or_none : (t : List ℕ) (c : ℕ) (s : List ℕ) → index_of (is c) s ≡ length s → t ≡ after_or t c s
+after_or_none t c s e = sym (after_out t c s (omega (arith, e)))
 
 pub after_is : (c : ℕ) (s : List ℕ) → after_first c s ≡ drop (index_of (is c) s + 1) s
 unfolding after_first after_or index_of is
@@ -170,20 +169,6 @@ after_is c (b ∷ s) = go (eqb b c) (after_is c s)
     go false e =
         let q : suc (index_of (is c) s + 1) ≡ suc (index_of (is c) s) + 1 = omega arith in
         e ∙ ap (λ (n : ℕ). drop n (b ∷ s)) q
-
--- the same of the place n that was found
-pub after_hit : (c : ℕ) (s : List ℕ) (n : ℕ) → n ≡ index_of (is c) s → drop (n + 1) s ≡ after_first c s
-after_hit c s n e = ap (λ (k : ℕ). drop (k + 1) s) e ∙ sym (after_is c s)
-
-pub after_none : (c : ℕ) (s : List ℕ) (n : ℕ) → n ≡ index_of (is c) s → length s ≤ n → drop n s ≡ after_first c s
-unfolding after_first
-after_none c s n e h = drop_of_length-le s {i = n} h ∙ sym (after_out [] c s (omega (arith, e)))
-
-pub after_found : (c : ℕ) (s : List ℕ) (n : ℕ) → n ≡ index_of (is c) s → take (length s - (n + 1)) (drop (n + 1) s) ≡ after_first c s
-after_found c s n e = rest s (n + 1) ∙ after_hit c s n e
-
-pub after_nothing : (c : ℕ) (s : List ℕ) → index_of (is c) s ≡ length s → take (length s - length s) (drop (length s) s) ≡ after_first c s
-after_nothing c s e = rest s (length s) ∙ after_none c s (length s) (sym e) (omega arith)
 
 -- ---- the first byte
 

@@ -7,15 +7,17 @@ use mathlib.Core.List.{List, [], ◌∷◌, map}
 use mathlib.Core.Bool.{Bool, true, false, cond, ◌&&◌, not}
 use native.Mathlib.Omega.{arith}
 use native.Mathlib.Nat.{add-zero}
+use lib.Bits.{bit_or}
 use Rattle.squares.specs.Sets.{has, members}
 use Rattle.squares.specs.Squares.{bit_of, on_board, square_at_bit, contains_of, run}
 use Rattle.squares.specs.Pieces.{color_char}
 use Rattle.squares.specs.declared.piece.Color.{Color}
 use Rattle.squares.specs.declared.piece.Color.TheVariants.{White, Black}
+use Rattle.squares.specs.declared.piece.PieceKind.TheVariants.{Man, King}
 use Rattle.squares.specs.declared.refusal.Refusal.TheVariants.{BadSquare}
 use Rattle.squares.proofs.Bools.{and_left, and_right, and_both}
 use Rattle.squares.proofs.Numbers.{bit_square, bit_back}
-use Rattle.positions.specs.Boards.{Board}
+use Rattle.positions.specs.Boards.{Board, kind_if}
 use Rattle.positions.specs.Acceptance.{Accepted}
 use Rattle.texts.specs.Bytes.{blank, is, trim_start, keep_end, trim_end, trim, split_on, joined, up_to, after_or_all, starts_with, strip, number, read_square, digits}
 use Rattle.texts.specs.Parts.{added, with_squares, begun}
@@ -36,21 +38,21 @@ no_strip c [] h = refl
 no_strip c (b ∷ s) h = rw h
 
 item_some : (c : Color) (p : Parts) (s : List ℕ) (n : ℕ) → starts_with 75 s ≡ false → end_of (up_to 45 s) ≡ Ok n → end_of (after_or_all 45 s) ≡ Ok n
-    → item_of c p s ≡ Ok (with_squares c false (run n (n + 1 - n)) p)
+    → item_of c p s ≡ Ok (with_squares c Man (run n (n + 1 - n)) p)
 unfolding item_of range_of end_of up_to trim trim_start trim_end read_square strip number
 item_some c p [] n h e q = let z : Err BadSquare ≡ Ok n = e in let y : ◌≡◌ {A = ℕ} 0 1 = cc in absurd (omega arith)
 item_some c p (x ∷ s) n h e q = rw (h, no_strip 75 (x ∷ s) h, e, q)
 
-item_king : (c : Color) (p : Parts) (n : ℕ) → Digits n → item_of c p (75 ∷ digits n) ≡ Ok (with_squares c true (run n (n + 1 - n)) p)
+item_king : (c : Color) (p : Parts) (n : ℕ) → Digits n → item_of c p (75 ∷ digits n) ≡ Ok (with_squares c King (run n (n + 1 - n)) p)
 unfolding item_of starts_with strip range_of
 item_king c p n d = rw (d.up_to_lem, d.after_it)
 
 item_law : (c : Color) (p : Parts) (kings n : ℕ) → Digits n
-    → item_of c p (item_text kings n) ≡ Ok (with_squares c (contains_of kings n) (run n (n + 1 - n)) p)
+    → item_of c p (item_text kings n) ≡ Ok (with_squares c (kind_if (contains_of kings n)) (run n (n + 1 - n)) p)
 unfolding item_text
 item_law c p kings n d = go (contains_of kings n)
   where
-    go : (t : Bool) → item_of c p (cond t (75 ∷ digits n) (digits n)) ≡ Ok (with_squares c t (run n (n + 1 - n)) p)
+    go : (t : Bool) → item_of c p (cond t (75 ∷ digits n) (digits n)) ≡ Ok (with_squares c (kind_if t) (run n (n + 1 - n)) p)
     go true = item_king c p n d
     go false = item_some c p (digits n) n d.no_king d.up_to_lem d.after_it
 
@@ -73,15 +75,20 @@ pub parts_are : {a b c d e f : ℕ} {s : Color} → a ≡ b → c ≡ d → e �
     → ◌≡◌ {A = Parts} (record { white = a; black = c; kings = e; side = s }) (record { white = b; black = d; kings = f; side = s })
 parts_are p q r = cc
 
-marked_put : (c : Color) (kings i : ℕ) (l : List ℕ) (p : Parts) → marked c kings l (with_squares c (has kings i) (2 ^ i) p) ≡ marked c kings (i ∷ l) p
-unfolding marked marks with_squares added always
-marked_put White kings i l p = refl
-marked_put Black kings i l p = refl
+added_if : (t : Bool) (s a : ℕ) → added (kind_if t) s a ≡ cond t (bit_or a s) a
+unfolding added
+added_if true s a = refl
+added_if false s a = refl
+
+marked_put : (c : Color) (kings i : ℕ) (l : List ℕ) (p : Parts) → marked c kings l (with_squares c (kind_if (has kings i)) (2 ^ i) p) ≡ marked c kings (i ∷ l) p
+unfolding marked marks with_squares always
+marked_put White kings i l p = parts_are refl refl (ap (λ (k : ℕ). marks (has kings) k l) (added_if (has kings i) (2 ^ i) p.kings))
+marked_put Black kings i l p = parts_are refl refl (ap (λ (k : ℕ). marks (has kings) k l) (added_if (has kings i) (2 ^ i) p.kings))
 
 marked_step : (c : Color) (kings i : ℕ) (l : List ℕ) (p : Parts) → on_board i ≡ true
-    → marked c kings l (with_squares c (contains_of kings (square_at_bit i)) (run (square_at_bit i) (square_at_bit i + 1 - square_at_bit i)) p) ≡ marked c kings (i ∷ l) p
+    → marked c kings l (with_squares c (kind_if (contains_of kings (square_at_bit i))) (run (square_at_bit i) (square_at_bit i + 1 - square_at_bit i)) p) ≡ marked c kings (i ∷ l) p
 marked_step c kings i l p h =
-    ap₂ (λ (k : Bool) (s : ℕ). marked c kings l (with_squares c k s p)) (contains_at kings i h) (one_square (square_at_bit i) ∙ ap (λ (j : ℕ). 2 ^ j) (bit_back i h))
+    ap₂ (λ (k : Bool) (s : ℕ). marked c kings l (with_squares c (kind_if k) s p)) (contains_at kings i h) (one_square (square_at_bit i) ∙ ap (λ (j : ℕ). 2 ^ j) (bit_back i h))
     ∙ marked_put c kings i l p
 
 marked_none : (c : Color) (kings : ℕ) (p : Parts) → marked c kings [] p ≡ p
@@ -102,7 +109,7 @@ items_law c kings [] p h = ap Ok (sym (marked_none c kings p))
 items_law c kings (i ∷ l) p h =
     let o = and_left (on_board i) _ h in
     let n = square_at_bit i in
-    let e : item_of c p (trim blank (item_text kings n)) ≡ Ok (with_squares c (contains_of kings n) (run n (n + 1 - n)) p)
+    let e : item_of c p (trim blank (item_text kings n)) ≡ Ok (with_squares c (kind_if (contains_of kings n)) (run n (n + 1 - n)) p)
     = ap (item_of c p) (trim_lacks blank (item_text kings n) (lacks_of blanks _ (bit_clean kings i o))) ∙ item_law c p kings n (digits_law n (bit_square i o)) in
     rw e (items_law c kings l _ (and_right (on_board i) _ h) ∙ ap Ok (marked_step c kings i l p o))
 

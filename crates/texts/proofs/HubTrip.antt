@@ -24,9 +24,6 @@ use Rattle.texts.specs.Bytes.{ascii}
 use Rattle.texts.specs.Parts.{added, with_squares, begun}
 use Rattle.texts.specs.Hub.{squares_from, standing_char, hub_char, hub_text, hub_byte_of, hub_from, hub_parts}
 use Rattle.texts.specs.declared.parts.Parts.{Parts}
-use Rattle.texts.specs.Lent.{over, text_of}
-use Rattle.texts.specs.declared.space.Space.{Space}
-use Rattle.texts.proofs.Overs.{over_text}
 use Rattle.texts.proofs.ListLaws.{each}
 use Rattle.texts.proofs.Marks.{elem, marks, has_marks, marks_lt}
 use Rattle.texts.proofs.FenTrip.{parts_of, parts_are}
@@ -34,9 +31,6 @@ use Rattle.texts.proofs.FenTrip.{parts_of, parts_are}
 pub hub_length : (b : Board) → length (hub_text b) ≡ 51
 unfolding hub_text squares_from
 hub_length b = refl
-
-pub hub_written : (b : Board) (s : Space) → s.at ≡ 0 → length s.bytes.now ≡ 51 → text_of (over (hub_text b) s) ≡ hub_text b
-hub_written b s z e = over_text (hub_text b) s z (omega (arith, hub_length b, e))
 
 -- whose piece is on bit i, by the letter
 is_white : Board → ℕ → Bool

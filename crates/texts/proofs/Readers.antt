@@ -1,7 +1,7 @@
 -- What the reading loops do in one turn: the definition at the whole is the definition at what is left.
 use Rattle.std.specs.Prelude.{Err, Ok, Result}
 use Prim.Native.Nat.{ℕ, suc, ◌+◌, ◌-◌, ◌≤◌, ◌<◌}
-use mathlib.Core.Path.{◌≡◌, refl, ap, sym, ◌∙◌}
+use mathlib.Core.Path.{◌≡◌, refl, ap, ap₂, sym, ◌∙◌}
 use mathlib.Core.List.{List, [], ◌∷◌}
 use mathlib.Core.Bool.{Bool, true, false, cond, ◌&&◌, ◌||◌}
 use native.Mathlib.Omega.{arith}
@@ -12,12 +12,17 @@ use borrow.Author.Tests.{eqb-true, ne_eqb, le-leb}
 use Rattle.squares.specs.Squares.{is_square, bit_of, run, single}
 use Rattle.squares.specs.declared.refusal.Refusal.{Refusal}
 use Rattle.squares.specs.declared.refusal.Refusal.TheVariants.{NoSide, NotFifty}
+use Rattle.squares.specs.declared.piece.Color.{Color}
 use Rattle.squares.specs.declared.piece.Color.TheVariants.{White, Black}
+use Rattle.squares.specs.declared.piece.PieceKind.{PieceKind}
+use Rattle.positions.specs.Boards.{kind_if}
 use Rattle.squares.proofs.Bools.{imp, imp_elim, and_both}
 use Rattle.squares.proofs.Below.{below, below_at}
 use Rattle.squares.proofs.Numbers.{range_square}
 use Rattle.texts.specs.Parts.{and_then, OnSquare}
-use Rattle.texts.specs.Fen.{fen_color_of, end_of, side_of}
+use Rattle.texts.specs.Bytes.{starts_with, strip}
+use Prim.Native.Char.{code}
+use Rattle.texts.specs.Fen.{fen_color_of, end_of, range_of, item_of, side_of}
 use Rattle.texts.specs.Hub.{hub_byte_of, hub_from}
 use Rattle.texts.specs.declared.parts.Parts.{Parts}
 use Rattle.texts.proofs.Cuts.{rest}
@@ -112,3 +117,10 @@ module _ (n : ℕ) (p : Parts) (s : List ℕ) (w : Result Parts Refusal) (g : hu
       go : (t : List ℕ) → cond (eqb (length t) 0) (Ok p) (Err NotFifty) ≡ hub_from 0 51 p t
       go [] = refl
       go (x ∷ t) = rw (ne_eqb (length (x ∷ t)) 0 (λ z. omega (arith, z)))
+
+-- an item that is not empty: what comes after its leading K, read as the pieces that the K says
+pub item_read : (c : Color) (p : Parts) (s t : List ℕ) (k : PieceKind) (r : Result Parts Refusal) → 1 ≤ length s → k ≡ kind_if (eqb (get_or s 0 0) (code "K")) → t ≡ strip (code "K") s
+    → r ≡ range_of c k p t → r ≡ item_of c p s
+unfolding item_of starts_with
+item_read c p [] t k r h e f g = absurd (omega arith)
+item_read c p (x ∷ s) t k r h e f g = g ∙ ap₂ (λ (k : PieceKind) (t : List ℕ). range_of c k p t) e f

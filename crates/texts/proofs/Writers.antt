@@ -1,10 +1,12 @@
 -- A text that grows in a space: numbers, items, and the loops over squares.
 use Prim.Native.Nat.{ℕ, suc, ◌+◌, ◌-◌, ◌*◌, ◌≤◌, ◌<◌, ◌^◌, ◌/◌, ◌%◌}
 use mathlib.Core.Path.{◌≡◌, refl, ap, sym, ◌∙◌}
-use mathlib.Core.List.{List, [], ◌∷◌, ◌++◌, map, append-nil}
+use mathlib.Core.List.{List, [], ◌∷◌, ◌++◌, map, append-nil, append_assoc}
 use mathlib.Core.Bool.{Bool, true, false, cond}
 use native.Mathlib.Omega.{arith}
-use lib.ListN.{length, length-append}
+use lib.ListN.{length, length-append, take, set}
+use lib.Seq.{take_all}
+use Rattle.std.proofs.lemmas.List.{take_more_set}
 use lib.Bits.{bit_and}
 use lib.Dec.{ltb}
 use Rattle.squares.specs.Sets.{members, lowest}
@@ -105,26 +107,23 @@ left_next b n x h q =
     let k : 51 - n ≡ suc (51 - (n + 1)) = omega arith in
     rw k (ap (λ (y : ℕ). y ∷ squares_left b (n + 1)) q)
 
--- one turn of the loop: w is the space after the whole text
-pub hub_turn : (b : Board) (n x : ℕ) (w a c : Space) → n ≤ 50 → x ≡ hub_char b n → over (squares_left b n) a ≡ w → c ≡ over (x ∷ []) a
-    → over (squares_left b (n + 1)) c ≡ w
-hub_turn b n x w a c l q g y =
-    ap (over (squares_left b (n + 1))) y
-    ∙ sym (over_append (x ∷ []) (squares_left b (n + 1)) a)
-    ∙ ap (λ (t : List ℕ). over t a) (left_next b n x l q) ∙ g
+-- one turn of the loop: the letters that were written, and what remains, are the whole text h
+pub hub_turn : (b : Board) (n x : ℕ) (t h : List ℕ) → n ≤ 50 → length t ≡ 51 → x ≡ hub_char b n → take n t ++ squares_left b n ≡ h
+    → take (n + 1) (set t n x) ++ squares_left b (n + 1) ≡ h
+hub_turn b n x t h l s q g =
+    ap (λ (u : List ℕ). u ++ squares_left b (n + 1)) (take_more_set t n x (omega (arith, l, s)))
+    ∙ append_assoc (take n t) (x ∷ []) (squares_left b (n + 1))
+    ∙ ap (λ (u : List ℕ). take n t ++ u) (left_next b n x l q) ∙ g
 
 left_none : (b : Board) (n : ℕ) → n ≡ 51 → [] ≡ squares_left b n
 unfolding squares_from
 left_none b n e = rw e
 
-pub hub_done : (b : Board) (n : ℕ) (w a : Space) → n ≡ 51 → over (squares_left b n) a ≡ w → a ≡ w
-hub_done b n w a e g = sym (over_none a) ∙ ap (λ (t : List ℕ). over t a) (left_none b n e) ∙ g
+pub hub_done : (b : Board) (n : ℕ) (t h : List ℕ) → n ≡ 51 → length t ≡ 51 → take n t ++ squares_left b n ≡ h → t ≡ h
+hub_done b n t h e s g =
+    sym (take_all n t (omega (arith, e, s))) ∙ sym (append-nil (take n t)) ∙ ap (λ (u : List ℕ). take n t ++ u) (left_none b n e) ∙ g
 
+-- at the start there is the side's letter
 pub hub_parts_lem : (b : Board) (x : ℕ) → x ≡ color_char b.side → (x ∷ []) ++ squares_left b 1 ≡ hub_text b
 unfolding hub_text
 hub_parts_lem b x q = ap (λ (y : ℕ). y ∷ squares_left b 1) q
-
-pub hub_over : (b : Board) (x : ℕ) (a s : Space) → x ≡ color_char b.side → a ≡ over (x ∷ []) s → over (squares_left b 1) a ≡ over (hub_text b) s
-hub_over b x a s q e =
-    ap (over (squares_left b 1)) e ∙ sym (over_append (x ∷ []) (squares_left b 1) s)
-    ∙ ap (λ (t : List ℕ). over t s) (hub_parts_lem b x q)

@@ -6,9 +6,10 @@ use Rattle.squares.specs.Squares.{run, square_at_bit, contains_of}
 use Rattle.squares.specs.Pieces.{color_char}
 use Rattle.squares.specs.declared.piece.Color.{Color}
 use Rattle.squares.specs.declared.piece.Color.TheVariants.{White, Black}
+use Rattle.squares.specs.declared.piece.PieceKind.{PieceKind}
 use Rattle.squares.specs.declared.refusal.Refusal.{Refusal}
 use Rattle.squares.specs.Refusals.{refusal}
-use Rattle.positions.specs.Boards.{Board, board_of}
+use Rattle.positions.specs.Boards.{Board, board_of, kind_if}
 use Rattle.positions.specs.Acceptance.{sound}
 use Rattle.positions.specs.declared.position.Position.{Position}
 use Rattle.texts.specs.Bytes.{longest_text, readable, blank, is, trim_start, trim_end, trim, split_on, joined, up_to, after_or_all, starts_with, strip, read_square, digits}
@@ -78,19 +79,19 @@ unfoldable pub end_of : List ℕ → Result ℕ Refusal
 end_of s = read_square (trim_start (is (code "K")) (trim blank s))
 
 -- the squares from lo to hi are added; none where lo is above hi
-abbrev pub ends_of : Color → Bool → Parts → Result ℕ Refusal → Result ℕ Refusal → Result Parts Refusal
-ends_of c king p (Ok lo) (Ok hi) = Ok (with_squares c king (run lo (hi + 1 - lo)) p)
-ends_of c king p (Ok lo) (Err e) = Err e
-ends_of c king p (Err e) q = Err e
+abbrev pub ends_of : Color → PieceKind → Parts → Result ℕ Refusal → Result ℕ Refusal → Result Parts Refusal
+ends_of c k p (Ok lo) (Ok hi) = Ok (with_squares c k (run lo (hi + 1 - lo)) p)
+ends_of c k p (Ok lo) (Err e) = Err e
+ends_of c k p (Err e) q = Err e
 
 -- an item whose leading K was taken off: a range, cut at its first -, or one square
-unfoldable pub range_of : Color → Bool → Parts → List ℕ → Result Parts Refusal
-range_of c king p s = ends_of c king p (end_of (up_to (code "-") s)) (end_of (after_or_all (code "-") s))
+unfoldable pub range_of : Color → PieceKind → Parts → List ℕ → Result Parts Refusal
+range_of c k p s = ends_of c k p (end_of (up_to (code "-") s)) (end_of (after_or_all (code "-") s))
 
 -- a trimmed item; an empty one is skipped, and a leading K makes kings
 unfoldable pub item_of : Color → Parts → List ℕ → Result Parts Refusal
 item_of c p [] = Ok p
-item_of c p (x ∷ s) = range_of c (starts_with (code "K") (x ∷ s)) p (strip (code "K") (x ∷ s))
+item_of c p (x ∷ s) = range_of c (kind_if (starts_with (code "K") (x ∷ s))) p (strip (code "K") (x ∷ s))
 
 -- each part is trimmed and given to `read`, in order: the first refusal, or all that was read
 unfoldable pub read_each : (Parts → List ℕ → Result Parts Refusal) → Parts → List (List ℕ) → Result Parts Refusal

@@ -1,11 +1,9 @@
 -- Hub (docs/RULES.md, "Hub"): the side, W or B, then a letter for each of the 50 squares: w and b for men, W and B for
 -- kings, e for an empty square.
-use Rattle.std.specs.Prelude.{ℕ, zero, suc, ◌+◌, List, [], ◌∷◌, map, Bool, true, false, cond, eqb, Err, None, Ok, Result, Some}
+use Rattle.std.specs.Prelude.{ℕ, zero, suc, ◌+◌, List, [], ◌∷◌, map, cond, eqb, Err, None, Ok, Result, Some}
 use Prim.Native.Char.{code}
 use Rattle.squares.specs.Squares.{single}
 use Rattle.squares.specs.Pieces.{color_char, color_from_char_of, piece_char, piece_from_char_of}
-use Rattle.squares.specs.declared.piece.PieceKind.{PieceKind}
-use Rattle.squares.specs.declared.piece.PieceKind.TheVariants.{Man, King}
 use Rattle.squares.specs.Refusals.{refusal}
 use Rattle.positions.specs.Boards.{Board, board_of, piece_at_of}
 use Rattle.positions.specs.Acceptance.{sound}
@@ -48,13 +46,9 @@ unfoldable pub hub_lent : Position → List ℕ → List ℕ
 hub_lent p out = cond (sound p) (emitted (hub_text (board_of p)) out) out
 
 -- ---- reading
-abbrev pub is_king : PieceKind → Bool
-is_king Man = false
-is_king King = true
-
 -- the piece is added on square n; the refusal is 5 where the byte is no piece
 abbrev pub known_on : ℕ → Parts → Result Piece Refusal → Result Parts Refusal
-known_on n p (Ok q) = Ok (with_squares q.color (is_king q.kind) (single n) p)
+known_on n p (Ok q) = Ok (with_squares q.color q.kind (single n) p)
 known_on n p (Err e) = Err e
 
 -- the byte x is read for square n

@@ -1,23 +1,26 @@
 -- The board that is read from a text, before it is accepted: its sets and its side, or the first refusal.
-use Rattle.std.specs.Prelude.{ℕ, ◌≤◌, Bool, cond, Err, Ok, Result}
+use Rattle.std.specs.Prelude.{ℕ, ◌≤◌, Err, Ok, Result}
 use Rattle.std.specs.Int.Bits.{bit_or}
 use Rattle.squares.specs.declared.piece.Color.{Color}
 use Rattle.squares.specs.declared.piece.Color.TheVariants.{White, Black}
+use Rattle.squares.specs.declared.piece.PieceKind.{PieceKind}
+use Rattle.squares.specs.declared.piece.PieceKind.TheVariants.{Man, King}
 use Rattle.positions.specs.Acceptance.{from_parts_of}
 use Rattle.texts.specs.declared.parts.Parts.{Parts}
 use Rattle.positions.specs.declared.position.Position.{Position}
 use Rattle.squares.specs.declared.refusal.Refusal.{Refusal}
 
--- a, with the squares of s added where `on` holds
-unfoldable pub added : Bool → ℕ → ℕ → ℕ
-added on s a = cond on (bit_or a s) a
+-- the kings a, with the squares of s added where pieces of the kind are kings
+unfoldable pub added : PieceKind → ℕ → ℕ → ℕ
+added Man s a = a
+added King s a = bit_or a s
 
 -- the squares of s are added to a colour; a square is a king's where it was once added as one
-unfoldable pub with_squares : Color → Bool → ℕ → Parts → Parts
-with_squares White king s p =
-    record { white = bit_or p.white s; black = p.black; kings = added king s p.kings; side = p.side }
-with_squares Black king s p =
-    record { white = p.white; black = bit_or p.black s; kings = added king s p.kings; side = p.side }
+unfoldable pub with_squares : Color → PieceKind → ℕ → Parts → Parts
+with_squares White k s p =
+    record { white = bit_or p.white s; black = p.black; kings = added k s p.kings; side = p.side }
+with_squares Black k s p =
+    record { white = p.white; black = bit_or p.black s; kings = added k s p.kings; side = p.side }
 
 -- the empty board, this colour to move
 unfoldable pub begun : Color → Parts

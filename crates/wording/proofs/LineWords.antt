@@ -32,13 +32,13 @@ unfolding cons_head parts_at first_word up_to after_word after_first after_or
 heads b [] = refl
 heads b (c ∷ t) = ap (cons_head b) (step c t (heads c t) (eqb c 32) refl)
 
-whole : (l : List ℕ) → 0 < length l → parts_at 32 l ≡ first_word l ∷ parts_at 32 (after_word l)
-whole [] h = absurd (omega arith)
-whole (b ∷ t) h = step b t (heads b t) (eqb b 32) refl
+words_of_lem : (l : List ℕ) → 0 < length l → parts_at 32 l ≡ first_word l ∷ parts_at 32 (after_word l)
+words_of_lem [] h = absurd (omega arith)
+words_of_lem (b ∷ t) h = step b t (heads b t) (eqb b 32) refl
 
 module _ (l word after : List ℕ) (w : word ≡ first_word l) (a : after ≡ after_word l) (h : 0 < length l) where
   pub words_first : parts_at 32 l ≡ word ∷ parts_at 32 after
-  words_first = whole l h ∙ sym (ap₂ (λ (x y : List ℕ). x ∷ parts_at 32 y) w a)
+  words_first = words_of_lem l h ∙ sym (ap₂ (λ (x y : List ℕ). x ∷ parts_at 32 y) w a)
 
   pub fewer : length (parts_at 32 after) < length (parts_at 32 l)
   fewer = omega (arith, ap length words_first)
@@ -57,9 +57,9 @@ word_none (suc k) = word_none k
 indexed : (k : ℕ) (l : List ℕ) → word_at k l ≡ unwrap_or (slice_get (parts_at 32 l) k) []
 unfolding word_at
 indexed k [] = word_none k ∙ ap (λ (w : List (List ℕ)). unwrap_or (slice_get w k) []) (sym (words_none [] refl))
-indexed zero (b ∷ t) = ap (λ (w : List (List ℕ)). unwrap_or (slice_get w 0) []) (sym (whole (b ∷ t) (omega arith)))
+indexed zero (b ∷ t) = ap (λ (w : List (List ℕ)). unwrap_or (slice_get w 0) []) (sym (words_of_lem (b ∷ t) (omega arith)))
 indexed (suc k) (b ∷ t) =
-    indexed k (after_word (b ∷ t)) ∙ ap (λ (w : List (List ℕ)). unwrap_or (slice_get w (suc k)) []) (sym (whole (b ∷ t) (omega arith)))
+    indexed k (after_word (b ∷ t)) ∙ ap (λ (w : List (List ℕ)). unwrap_or (slice_get w (suc k)) []) (sym (words_of_lem (b ∷ t) (omega arith)))
 
 -- w is what was found at k, and none where there is no word there
 pub word_found : (l : List ℕ) (k : ℕ) (r : Option (Bor (List ℕ))) (none w : Bor (List ℕ)) → option_map (λ (x : Bor (List ℕ)). x.now) r ≡ slice_get (parts_at 32 l) k

@@ -55,7 +55,8 @@ pub fn put_hex(out: &mut Space, n: u64)
     out.put(&digits[..k]);
 }
 
-// Writes the 16 hexadecimal digits of a hash.
+// Writes the 16 hexadecimal digits of a hash. One function for this and `put_hex` is no plainer: it has to say how many
+// digits there are.
 #[tactic(auto, using(texts::proofs::Overs::over_as, crate::proofs::Numerals::hash_is))]
 pub fn put_hash(out: &mut Space, n: u64)
     ensures { out.new ≡ over (hash n) out.old }

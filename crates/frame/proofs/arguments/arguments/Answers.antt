@@ -6,6 +6,7 @@ use Prim.Native.Nat.{ℕ}
 use Rattle.texts.proofs.Overs.{same_name}
 use Rattle.frame.proofs.Joining as laws
 use borrow.Author.Rules.{rules}
+use native.Mathlib.Omega.{arith}
 use Rattle.frame.proofs.arguments.arguments.Goals as goal
 
 pub loop-i-init : goal.loop-i-init
@@ -18,5 +19,5 @@ pub returns : goal.returns
 returns g c =
     let n = laws.kept_name c.loop-i.invariant.1 ∙ same_name _ _ _ c.put.ensures in
     let m = ap (λ (r : MutBor (List ℕ)). r.ghost_name) c.new-space.ensures.bytes in
-    let h = laws.all_given c.loop-i.invariant.1 c.if-space.false in
+    let h = laws.all_given c.loop-i.invariant.1 (λ e. omega (arith, c.if-space.false, e)) in
     search (rules, h, n, m)

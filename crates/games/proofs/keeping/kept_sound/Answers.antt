@@ -1,27 +1,16 @@
--- Up to the place reached every position is sound; the first that is not ends the walk.
-use mathlib.Core.Path.{◌≡◌, sym, ◌∙◌}
-use lib.ListN.{length}
-use Rattle.games.specs.Games.{blank_position, window_of}
-use Rattle.squares.proofs.Lengths.{length_of_map}
-use Rattle.games.proofs.Window.{all_none, all_more, all_fails}
-use borrow.Author.Rules.{rules}
-use native.Mathlib.Omega.{arith}
+-- All kept positions are looked at.
+use Rattle.std.proofs.Common.{◌≡◌, ◌∙◌, rules, tests}
+use Rattle.std.proofs.lemmas.Iterator.{YieldsList-from_slice}
+use Rattle.std.proofs.lemmas.Iterator.Search.{all_from_yields_List}
+use Rattle.std.specs.List.{list_all}
+use Rattle.positions.specs.Acceptance.{sound}
+use Rattle.games.specs.Games.{window_of}
+use Rattle.games.proofs.Window.{all_tested}
 use Rattle.games.proofs.keeping.kept_sound.Goals as goal
 
-pub loop-at-init : goal.loop-at-init
-loop-at-init c = (omega arith, all_none c.args.g.kept)
-
-pub loop-at-preserved : goal.loop-at-preserved
-loop-at-preserved c =
-    let g = c.args.g in
-    let k : length g.kept ≡ 51 = search (rules, length_of_map) in
-    let s = sym c.sound.ensures ∙ c.if-not-sound.false in
-    (omega arith, all_more blank_position g.kept c.loop-at.at (omega arith) c.loop-at.invariant.1 s)
-
-pub returns-then-not-sound : goal.returns-then-not-sound
+pub returns : goal.returns
 unfolding window_of
-returns-then-not-sound c =
-    let g = c.args.g in
-    let k : length g.kept ≡ 51 = search (rules, length_of_map) in
-    let s = sym c.sound.ensures ∙ c.if-not-sound.true in
-    sym (all_fails blank_position g.kept g.len c.loop-at.at (omega arith) (omega arith) s)
+returns c =
+    let looked : c.iter.result.rest.now ≡ window_of c.args.g = search rules in
+    let all : c.all.result ≡ list_all sound (window_of c.args.g) = all_from_yields_List sound _ _ c.all.result c.all.ensures.ran (YieldsList-from_slice _ looked) (λ x b q k. search (rules, tests)) in
+    all ∙ all_tested (window_of c.args.g)

@@ -4,10 +4,7 @@ use Rattle.std.proofs.Common.{rules}
 use Rattle.std.specs.Prelude.{Ok, Err}
 use mathlib.Core.Path.{◌≡◌, sym, ap, ◌∙◌}
 use Rattle.squares.specs.declared.refusal.Refusal.TheVariants.{NoMoveFits}
-use Rattle.squares.proofs.Refusals.{holds, fails, stopped, passed}
-use Rattle.positions.specs.Acceptance.{sound}
-use Rattle.positions.specs.Moves.{squares_of}
-use Rattle.movegen.specs.Lists.{played_of, after_of}
+use Rattle.squares.proofs.Refusals.{holds, fails}
 use Rattle.movegen.proofs.Generated.{generated_is}
 use Rattle.movegen.proofs.Listed.{many_ltb, few_ltb, found_law, played_many, played_none, played_one, after_at}
 use Rattle.movegen.proofs.movegen.after.Goals as goal

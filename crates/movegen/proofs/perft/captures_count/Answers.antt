@@ -1,7 +1,6 @@
 -- A short list that has a length has as many moves as the long one.
 use Rattle.std.proofs.Common.{rules, ◌≡◌, sym, ap, ◌∙◌}
 use Rattle.std.specs.Prelude.{Err}
-use Rattle.captures.specs.View.{own_men_of, own_kings_of, empty_of}
 use Rattle.captures.specs.Record.{list_in}
 use Rattle.captures.specs.declared.movegen.Captures.{Captures}
 use Rattle.movegen.specs.Generate.{capture_moves_of}
@@ -11,8 +10,8 @@ use Rattle.movegen.proofs.perft.captures_count.Goals as goal
 
 pub returns-in-Some : goal.returns-in-Some
 returns-in-Some c =
-    let v = c.args.v in
-    as_many (own_men_of v) (own_kings_of v) v.them (empty_of v) _ c.all_captures-few.ensures c.in-Some.len c.in-Some.is
+    let s = c.args.s in
+    as_many s.men s.kings s.them s.empty _ c.all_captures-few.ensures c.in-Some.len c.in-Some.is
 
 pub returns-in_err-len : goal.returns-in_err-len
 unfolding capture_moves_of

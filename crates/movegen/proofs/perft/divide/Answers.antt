@@ -4,7 +4,6 @@ use lib.Dec.{leb}
 use borrow.Author.Tests.{leb-true}
 use native.Mathlib.Omega.{arith}
 use Rattle.squares.proofs.Refusals.{holds}
-use Rattle.positions.specs.Acceptance.{sound}
 use Rattle.movegen.proofs.Generated.{seen_accepted}
 use Rattle.movegen.proofs.perft.divide.Goals as goal
 

@@ -3,7 +3,6 @@ use mathlib.Core.Path.{sym, ◌∙◌}
 use lib.Dec.{leb}
 use borrow.Author.Tests.{leb-true}
 use Rattle.squares.proofs.Refusals.{holds}
-use Rattle.positions.specs.Acceptance.{sound}
 use Rattle.movegen.proofs.Generated.{seen_accepted}
 use Rattle.movegen.proofs.perft.perft.Goals as goal
 

@@ -12,15 +12,8 @@ pub returns-in_default : goal.returns-in_default
 returns-in_default c =
     divided_refused c.args.plies (seen c.args.v) _ (sym (depth_many c.args.plies (seen c.args.v) (many c.args.v c.requires.0 (sym c.in_default.is ∙ c.generate.ensures))))
 
-pub offset_bounds-list-i : goal.offset_bounds-list-i
-offset_bounds-list-i c =
-    let d = c.loop-i.invariant.1 in
-    record { fits = omega (arith, in_array c.args.v c.requires.0 _ c.in-Some.ensures c.args.plies _ _ d.counting c.loop-i-test.true) }
-
-pub bounds-list-i : goal.bounds-list-i
-bounds-list-i c =
-    let d = c.loop-i.invariant.1 in
-    in_array c.args.v c.requires.0 _ c.in-Some.ensures c.args.plies _ _ d.counting c.loop-i-test.true
+pub shared_ref_as_front-mv-items : goal.shared_ref_as_front-mv-items
+shared_ref_as_front-mv-items c = in_array c.args.v c.requires.0 c.in-Some.list c.in-Some.ensures
 
 pub count-requires : goal.count-requires
 count-requires c =
@@ -28,16 +21,6 @@ count-requires c =
       next_accepted c.args.v c.requires.0 _ c.in-Some.ensures c.args.plies _ _ d.counting c.loop-i-test.true _ c.next.ensures,
       omega (arith, c.requires.1),
     )
-
-pub offset_bounds-counts-i : goal.offset_bounds-counts-i
-offset_bounds-counts-i c =
-    let d = c.loop-i.invariant.1 in
-    record { fits = omega (arith, in_array c.args.v c.requires.0 _ c.in-Some.ensures c.args.plies _ _ d.counting c.loop-i-test.true) }
-
-pub bounds-counts-i : goal.bounds-counts-i
-bounds-counts-i c =
-    let d = c.loop-i.invariant.1 in
-    in_array c.args.v c.requires.0 _ c.in-Some.ensures c.args.plies _ _ d.counting c.loop-i-test.true
 
 pub returns-in_err-counts : goal.returns-in_err-counts
 returns-in_err-counts c =

@@ -1,20 +1,31 @@
--- The sum of the four flights; each has at most 64 landings.
-use native.Mathlib.Omega.{arith}
+-- The sum of the four flights; a king has at most 256 moves.
+use Rattle.std.proofs.Common.{◌*◌, ◌%◌, ◌^◌, ◌∙◌, arith, rules, tests, ℕ, List, [], ◌∷◌, length}
+use Rattle.std.proofs.lemmas.Iterator.{YieldsList-from_range, YieldsList-from_map}
+use Rattle.std.proofs.lemmas.Iterator.Consumers.{sum_by_from_yields_List, fits_by_from_yields_list}
 use Rattle.squares.proofs.Pointwise.{one_bit}
-use Rattle.quiets.proofs.Counts.{few, king_sum}
+use Rattle.quiets.specs.Quiets.{flight_of}
+use Rattle.quiets.proofs.Counts.{four_sum, king_most}
 use Rattle.quiets.proofs.quiets.king_count.Goals as goal
 
-pub overflow_add-a : goal.overflow_add-a
-overflow_add-a c = omega (arith, few _ _ _ _ c.flight_count.ensures, few _ _ _ _ c.flight_count-2.ensures)
+-- the directions that the chain goes over, and how many they are
+abbrev directions : List ℕ
+directions = 0 ∷ 1 ∷ 2 ∷ 3 ∷ []
 
-pub overflow_add-b : goal.overflow_add-b
-overflow_add-b c =
-    omega (arith, few _ _ _ _ c.flight_count.ensures, few _ _ _ _ c.flight_count-2.ensures, few _ _ _ _ c.flight_count-3.ensures)
+abbrev number : ℕ
+number = 4
 
-pub overflow_add-result : goal.overflow_add-result
-overflow_add-result c =
-    omega (arith, few _ _ _ _ c.flight_count.ensures, few _ _ _ _ c.flight_count-2.ensures, few _ _ _ _ c.flight_count-3.ensures, few _ _ _ _ c.flight_count-4.ensures)
+pub sum-requires-clause-fits : goal.sum-requires-clause-fits
+sum-requires-clause-fits c =
+    let at = (1 * 2 ^ c.args.bit) % 2 ^ 64 in
+    let h = λ (d : ℕ). length (flight_of at c.args.empty d) in
+    fits_by_from_yields_list h directions _ (2 ^ 32)
+    (YieldsList-from_map _ h (YieldsList-from_range 0 number number (cc) (omega arith)) c.map.ensures.closure (λ x r q k. search (rules, tests)))
+    (omega (arith, four_sum c.args.empty at c.args.bit (one_bit _ c.requires), king_most c.args.empty c.args.bit))
 
 pub returns : goal.returns
 returns c =
-    king_sum _ _ _ _ _ _ _ (one_bit _ c.requires) c.flight_count.ensures c.flight_count-2.ensures c.flight_count-3.ensures c.flight_count-4.ensures
+    let at = (1 * 2 ^ c.args.bit) % 2 ^ 64 in
+    let h = λ (d : ℕ). length (flight_of at c.args.empty d) in
+    sum_by_from_yields_List h directions _ c.sum.result c.sum.ensures.ran
+    (YieldsList-from_map _ h (YieldsList-from_range 0 number number (cc) (omega arith)) c.map.ensures.closure (λ x r q k. search (rules, tests)))
+    ∙ four_sum c.args.empty at c.args.bit (one_bit _ c.requires)

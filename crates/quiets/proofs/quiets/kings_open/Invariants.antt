@@ -7,5 +7,5 @@ use Rattle.quiets.proofs.quiets.kings_open.Given as goal
 
 abbrev pub invariant-loop-bit : goal.invariant-loop-bit
 invariant-loop-bit l =
-    (any_in (king_open l.v.them l.empty) (members l.bit-iterator.0) ≡ any_in (king_open l.v.them l.empty) (members l.initial.bit-iterator.0))
+    (any_in (king_open l.s.them l.s.empty) (members l.bit-iterator.0) ≡ any_in (king_open l.s.them l.s.empty) (members l.initial.bit-iterator.0))
     × (l.bit-iterator.0 < 2 ^ 64)

@@ -9,7 +9,8 @@ use Rattle.squares.proofs.Shifts.{shifted_lt}
 use Rattle.positions.specs.Moves.{move}
 use Rattle.captures.specs.Rays.{far, landings}
 use Rattle.captures.proofs.Steps.{ray_falls}
-use Rattle.quiets.specs.Quiets.{kept, put_of, put_all, quiet_move, flight_of}
+use Rattle.captures.specs.Lists.{kept, put_of}
+use Rattle.quiets.specs.Quiets.{put_all, quiet_move, flight_of}
 use Rattle.quiets.proofs.Added.{fly_start, fly_step, fly_stop, fly_end}
 use Rattle.quiets.proofs.quiets.put_flight.Goals as goal
 
@@ -21,8 +22,8 @@ unfolding flight_of
 returns-in_err-put c =
     let q : c.from_residual.result ≡ None = search rules in
     let l = c.loop-land in
-    ap (kept c.put.new.list) q
-    ∙ fly_stop _ _ _ _ l.list l.land l.invariant c.loop-land-test.true (c.in_err-put.ensures ∙ ap₂ (λ (f t : ℕ). put_of l.list (move f t 0)) c.first-from.ensures c.first.ensures)
+    ap (kept c.put.new.self) q
+    ∙ fly_stop _ _ _ _ l.list l.land l.invariant _ c.loop-land-test.true (c.in_err-put.ensures ∙ ap₂ (λ (f t : ℕ). put_of l.list (move f t 0)) c.first-from.ensures c.first.ensures)
     ∙ ap (λ (t : ℕ). put_all c.args.list.now (map (quiet_move c.args.at) (landings far (direction_at c.args.d) c.args.empty (bit_and t c.args.empty)))) c.shift.ensures
 
 pub loop-land-smaller : goal.loop-land-smaller
@@ -33,7 +34,7 @@ loop-land-smaller c =
 pub loop-land-preserved : goal.loop-land-preserved
 loop-land-preserved c =
     let l = c.loop-land in
-    fly_step _ _ _ _ l.list l.land l.invariant c.put.new.list c.shift-in-loop-land.result c.loop-land-test.true c.shift-in-loop-land.ensures
+    fly_step _ _ _ _ l.list l.land l.invariant c.put.new.self c.shift-in-loop-land.result c.loop-land-test.true c.shift-in-loop-land.ensures
     (c.in_ok-put.ensures ∙ ap₂ (λ (f t : ℕ). put_of l.list (move f t 0)) c.first-from.ensures c.first.ensures)
 
 pub returns : goal.returns

@@ -3,7 +3,8 @@ use Rattle.std.proofs.Common.{rules, arith, ◌≡◌, ap, ap₂, ◌∙◌, ℕ
 use Rattle.std.specs.Prelude.{None}
 use Rattle.squares.proofs.Pointwise.{one_bit}
 use Rattle.captures.specs.Walks.{up_to}
-use Rattle.quiets.specs.Quiets.{kept, put_all, flight_of, flights}
+use Rattle.captures.specs.Lists.{kept}
+use Rattle.quiets.specs.Quiets.{put_all, flight_of, flights}
 use Rattle.quiets.proofs.Added.{walk_start, walk_on, walk_stop}
 use Rattle.quiets.proofs.quiets.put_king.Goals as goal
 
@@ -14,7 +15,7 @@ pub returns-in_err-put_flight : goal.returns-in_err-put_flight
 unfolding flights
 returns-in_err-put_flight c =
     let q : c.from_residual.result ≡ None = search rules in
-    ap (kept c.put_flight.new.list) q ∙ walk_stop _ _ c.loop-d.list c.loop-d.d 4 c.loop-d-test.true c.loop-d.invariant.0 c.in_err-put_flight.ensures
+    ap (kept c.put_flight.new.list) q ∙ walk_stop _ _ c.loop-d.list _ c.loop-d.d 4 c.loop-d-test.true c.loop-d.invariant.0 c.in_err-put_flight.ensures
     ∙ ap (λ (x : ℕ). put_all c.args.list.now (up_to (flight_of x c.args.empty) 4)) (one_bit _ c.requires)
 
 pub loop-d-preserved : goal.loop-d-preserved

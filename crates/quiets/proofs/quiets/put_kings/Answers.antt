@@ -2,7 +2,8 @@
 use Rattle.std.proofs.Common.{rules, ◌≡◌, ap, ◌∙◌, ℕ}
 use Rattle.std.specs.Prelude.{None}
 use Rattle.squares.specs.declared.bitboard.Members.{Members}
-use Rattle.quiets.specs.Quiets.{kept, put_all, flights, king_quiets}
+use Rattle.captures.specs.Lists.{kept}
+use Rattle.quiets.specs.Quiets.{put_all, flights, king_quiets}
 use Rattle.quiets.proofs.Added.{adding_start, adding_turn, adding_stop, adding_done}
 use Rattle.quiets.proofs.quiets.put_kings.Goals as goal
 
@@ -23,7 +24,7 @@ returns-in_err-put_king c =
     let s = c.in-Some.ensures.steps in
     let l = c.loop-bit in
     ap (kept c.put_king.new.list) q
-    ∙ adding_stop _ _ l.list l.bit-iterator.0 l.invariant s.0 (c.in_err-put_king.ensures ∙ ap (λ (i : ℕ). put_all l.list (flights c.args.empty i)) s.1)
+    ∙ adding_stop _ _ l.list l.bit-iterator.0 l.invariant _ s.0 (c.in_err-put_king.ensures ∙ ap (λ (i : ℕ). put_all l.list (flights c.args.empty i)) s.1)
 
 pub returns : goal.returns
 returns c = adding_done _ _ c.loop-bit.list c.loop-bit.bit-iterator.0 c.loop-bit.invariant c.in-None.ensures.steps.0

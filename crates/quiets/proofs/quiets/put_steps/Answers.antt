@@ -1,6 +1,6 @@
 -- Each turn puts in the step to the lowest bit left; where it has no room, neither have all.
 use Rattle.std.proofs.Common.{rules, ◌≡◌, sym, ap, ◌∙◌, ℕ, ◌-◌, ◌*◌, ◌%◌, ◌^◌, ◌<◌, [], ◌∷◌}
-use Rattle.std.specs.Prelude.{Option, None}
+use Rattle.std.specs.Prelude.{Result, None}
 use mathlib.Core.List.{map, flat_map}
 use lib.Bits.{bit_and}
 use Rattle.squares.specs.Sets.{lowest, members}
@@ -10,12 +10,13 @@ use Rattle.squares.proofs.Members.{lowest_lt}
 use Rattle.positions.specs.Moves.{move}
 use Rattle.captures.specs.declared.moves.MoveList.{MoveList}
 use Rattle.captures.proofs.Loops.{one_at}
-use Rattle.quiets.specs.Quiets.{kept, put_of, put_all, step_move, men_steps}
+use Rattle.captures.specs.Lists.{kept, put_of}
+use Rattle.quiets.specs.Quiets.{put_all, step_move, men_steps}
 use Rattle.quiets.proofs.Added.{adding_turn, adding_stop, adding_done, ones, put_one, step_made}
 use Rattle.quiets.proofs.quiets.put_steps.Goals as goal
 
 -- the move that is put in is the step to the lowest bit left
-put_step : (d left bit back from to : ℕ) (l : MoveList) (r : Option MoveList) → left < 2 ^ 64 → 0 < left → bit ≡ lowest left
+put_step : (d left bit back from to : ℕ) (l : MoveList) (r : Result MoveList MoveList) → left < 2 ^ 64 → 0 < left → bit ≡ lowest left
     → back ≡ shifted (direction_at (3 - d)) ((1 * 2 ^ bit) % 2 ^ 64) → from ≡ first_of back → to ≡ first_of ((1 * 2 ^ bit) % 2 ^ 64)
     → r ≡ put_of l (move from to 0) → r ≡ put_all l (step_move d (lowest left) ∷ [])
 put_step d left bit back from to l r h p b eb ef et e =
@@ -32,7 +33,7 @@ loop-bit-preserved c =
     let s = c.in-Some.ensures.steps in
     let l = c.loop-bit in
     rw s.2
-    (adding_turn _ _ l.list l.bit-iterator.0 l.invariant c.put.new.list s.0
+    (adding_turn _ _ l.list l.bit-iterator.0 l.invariant c.put.new.self s.0
     (put_step _ _ _ _ _ _ l.list _ l.invariant.fits s.0 s.1 c.shift-back.ensures c.first.ensures c.first-in-loop-bit.ensures c.in_ok-put.ensures))
 
 pub returns-in_err-put : goal.returns-in_err-put
@@ -40,8 +41,8 @@ returns-in_err-put c =
     let q : c.from_residual.result ≡ None = search rules in
     let s = c.in-Some.ensures.steps in
     let l = c.loop-bit in
-    ap (kept c.put.new.list) q
-    ∙ adding_stop _ _ l.list l.bit-iterator.0 (rw c.into_iter-bit-iterator.ensures.into_iter_gives at l.invariant) s.0
+    ap (kept c.put.new.self) q
+    ∙ adding_stop _ _ l.list l.bit-iterator.0 (rw c.into_iter-bit-iterator.ensures.into_iter_gives at l.invariant) _ s.0
     (put_step _ _ _ _ _ _ l.list _ l.invariant.fits s.0 s.1 c.shift-back.ensures c.first.ensures c.first-in-loop-bit.ensures c.in_err-put.ensures)
     ∙ steps_are _ _ _ _ _ c.shift.ensures
 

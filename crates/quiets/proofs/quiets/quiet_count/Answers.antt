@@ -1,16 +1,11 @@
 -- A list of steps is as long as the set of squares reached.
-use mathlib.Core.Path.{ap, ap₂, ◌∙◌}
-use Prim.Native.Nat.{ℕ}
 use native.Mathlib.Omega.{arith}
-use lib.ListN.{length}
-use Rattle.captures.specs.View.{own_men_of, empty_of}
-use Rattle.quiets.specs.Quiets.{all_quiets}
 use Rattle.quiets.proofs.Forward.{forward_le}
 use Rattle.quiets.proofs.Counts.{at_most, kings_at_most, all_sum}
 use Rattle.quiets.proofs.quiets.quiet_count.Goals as goal
 
 pub overflow_add-first : goal.overflow_add-first
-overflow_add-first c = omega (arith, forward_le c.args.v.side, c.forward-first.ensures)
+overflow_add-first c = omega (arith, forward_le c.args.s.side, c.forward-first.ensures)
 
 pub overflow_add-steps : goal.overflow_add-steps
 overflow_add-steps c = omega (arith, at_most _ _ c.count-a.ensures, at_most _ _ c.count-b.ensures)
@@ -21,6 +16,5 @@ overflow_add-result c =
 
 pub returns : goal.returns
 returns c =
-    all_sum c.men-men.result c.own_kings.result c.empty-empty.result c.args.v.side c.forward-first.result _ _ _ _ _ c.forward-first.ensures c.shift.ensures c.shift-2.ensures c.count-a.ensures c.count-b.ensures c.kings_count.ensures
-    ∙ ap₂ (λ (m e : ℕ). length (all_quiets m c.own_kings.result e c.args.v.side)) c.men-men.ensures c.empty-empty.ensures
-    ∙ ap (λ (k : ℕ). length (all_quiets (own_men_of c.args.v) k (empty_of c.args.v) c.args.v.side)) c.own_kings.ensures
+    let s = c.args.s in
+    all_sum s.men s.kings s.empty s.side c.forward-first.result _ _ _ _ _ c.forward-first.ensures c.shift.ensures c.shift-2.ensures c.count-a.ensures c.count-b.ensures c.kings_count.ensures

@@ -1,54 +1,18 @@
--- The men's steps in both directions, then the kings' moves; where some have no room, neither have all.
-use Rattle.std.proofs.Common.{rules, arith, ◌≡◌, refl, ap, ap₂, ◌∙◌, ℕ, ◌+◌}
+-- Where the empty list has room for all, they are the list.
+use Rattle.std.proofs.Common.{rules, ◌≡◌, ap, ◌∙◌}
 use Rattle.std.specs.Prelude.{None}
 use Rattle.captures.specs.declared.moves.MoveList.{MoveList}
-use Rattle.captures.specs.View.{own_men_of, own_kings_of, empty_of}
-use Rattle.quiets.specs.Quiets.{put_all, men_steps, king_quiets}
-use Rattle.quiets.proofs.Filled.{first_full, second_full, kings_last}
-use Rattle.quiets.proofs.Forward.{forward_le}
+use Rattle.quiets.specs.Quiets.{put_all, all_quiets}
+use Rattle.quiets.proofs.Filled.{all_room, no_room}
 use Rattle.quiets.proofs.quiets.quiet_moves.Goals as goal
 
--- steps from equal lists, sets and directions
-steps_are : {l k : MoveList} {m n e o f g : ℕ} → l ≡ k → m ≡ n → e ≡ o → f ≡ g → put_all l (men_steps m e f) ≡ put_all k (men_steps n o g)
-steps_are a b c d = rw (a, b, c, d) refl
-
-pub overflow_add-first : goal.overflow_add-first
-overflow_add-first c = omega (arith, forward_le c.args.v.side, c.forward-first.ensures)
-
-pub put_steps-requires-2 : goal.put_steps-requires-2
-put_steps-requires-2 c = omega (arith, forward_le c.args.v.side, c.forward-first.ensures)
-
-pub returns-in_err-put_steps : goal.returns-in_err-put_steps
-returns-in_err-put_steps c =
-    let v = c.args.v in
+pub returns-in_err-put_quiets : goal.returns-in_err-put_quiets
+returns-in_err-put_quiets c =
+    let s = c.args.s in
     let q : c.from_residual.result ≡ None = search rules in
-    q
-    ∙ first_full (own_men_of v) (own_kings_of v) (empty_of v) v.side
-    (c.in_err-put_steps.ensures ∙ steps_are c.new-list.ensures c.men-men.ensures c.empty-empty.ensures c.forward-first.ensures)
-
-pub returns-in_err-put_steps-2 : goal.returns-in_err-put_steps-2
-returns-in_err-put_steps-2 c =
-    let v = c.args.v in
-    let q : c.from_residual-in_err-put_steps-2.result ≡ None = search rules in
-    q
-    ∙ second_full (own_men_of v) (own_kings_of v) (empty_of v) v.side c.put_steps.new.list
-    (c.in_ok-put_steps.ensures ∙ steps_are c.new-list.ensures c.men-men.ensures c.empty-empty.ensures c.forward-first.ensures)
-    (c.in_err-put_steps-2.ensures ∙ steps_are refl c.men-men.ensures c.empty-empty.ensures (ap (λ (d : ℕ). d + 1) c.forward-first.ensures))
-
-pub returns-in_err-put_kings : goal.returns-in_err-put_kings
-returns-in_err-put_kings c =
-    let v = c.args.v in
-    let q : c.from_residual-in_err-put_kings.result ≡ None = search rules in
-    q
-    ∙ kings_last (own_men_of v) (own_kings_of v) (empty_of v) v.side c.put_steps.new.list c.put_steps-2.new.list None
-    (c.in_ok-put_steps.ensures ∙ steps_are c.new-list.ensures c.men-men.ensures c.empty-empty.ensures c.forward-first.ensures)
-    (c.in_ok-put_steps-2.ensures ∙ steps_are refl c.men-men.ensures c.empty-empty.ensures (ap (λ (d : ℕ). d + 1) c.forward-first.ensures))
-    (c.in_err-put_kings.ensures ∙ ap₂ (λ (k e : ℕ). put_all c.put_steps-2.new.list (king_quiets k e)) c.own_kings.ensures c.empty-empty.ensures)
+    q ∙ no_room s.men s.kings s.empty s.side _ (c.in_err-put_quiets.ensures ∙ ap (λ (l : MoveList). put_all l (all_quiets s.men s.kings s.empty s.side)) c.new-list.ensures)
 
 pub returns : goal.returns
 returns c =
-    let v = c.args.v in
-    kings_last (own_men_of v) (own_kings_of v) (empty_of v) v.side c.put_steps.new.list c.put_steps-2.new.list _
-    (c.in_ok-put_steps.ensures ∙ steps_are c.new-list.ensures c.men-men.ensures c.empty-empty.ensures c.forward-first.ensures)
-    (c.in_ok-put_steps-2.ensures ∙ steps_are refl c.men-men.ensures c.empty-empty.ensures (ap (λ (d : ℕ). d + 1) c.forward-first.ensures))
-    (c.in_ok-put_kings.ensures ∙ ap₂ (λ (k e : ℕ). put_all c.put_steps-2.new.list (king_quiets k e)) c.own_kings.ensures c.empty-empty.ensures)
+    let s = c.args.s in
+    all_room s.men s.kings s.empty s.side _ (c.in_ok-put_quiets.ensures ∙ ap (λ (l : MoveList). put_all l (all_quiets s.men s.kings s.empty s.side)) c.new-list.ensures)

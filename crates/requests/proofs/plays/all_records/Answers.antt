@@ -1,15 +1,13 @@
--- Word by word.
-use mathlib.Core.Path.{sym, ◌∙◌}
+-- Each word is asked.
+use Rattle.std.proofs.Common.{◌∙◌, Bor, List, ℕ, refl, rules}
+use Rattle.std.proofs.lemmas.Iterator.Consumers.{YieldsList-from_first}
+use Rattle.std.proofs.lemmas.Iterator.Search.{all_from_yields_List}
+use Rattle.wording.specs.Steps.{words_left}
+use Rattle.requests.specs.Plays.{is_record_of, words_of}
 use Rattle.requests.proofs.PlayLaws as laws
 use Rattle.requests.proofs.plays.all_records.Goals as goal
 
-pub returns-then-not-is_record : goal.returns-then-not-is_record
-returns-then-not-is_record c =
-    laws.records_stop _ _ _ c.in-Some.ensures.steps (sym c.is_record.ensures ∙ c.if-not-is_record.true) ∙ c.loop-word.invariant
-
-pub loop-word-preserved : goal.loop-word-preserved
-loop-word-preserved c =
-    laws.records_next _ _ _ c.in-Some.ensures.steps (sym c.is_record.ensures ∙ c.if-not-is_record.false) ∙ c.loop-word.invariant
-
 pub returns : goal.returns
-returns c = laws.records_end _ c.in-None.ensures.steps.0 ∙ c.loop-word.invariant
+returns c =
+    all_from_yields_List is_record_of c.all.new.self _ c.all.result c.all.ensures.ran (YieldsList-from_first (λ (w : Bor (List ℕ)). w.now) words_left {s = record { 0 = c.args.s }} (words_of c.args.s.now) refl) (λ x b q k. search rules)
+    ∙ laws.records_all (words_of c.args.s.now)

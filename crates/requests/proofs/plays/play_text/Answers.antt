@@ -1,12 +1,11 @@
--- The escapes undone; then at most 4,097 bytes are read.
-use mathlib.Core.Path.{refl, sym}
-use lib.Seq.{length-take-le}
-use Rattle.requests.proofs.Readings as readings
+-- Read of the word's text.
+use mathlib.Core.Path.{◌≡◌}
+use borrow.Author.Rules.{rules}
+use Rattle.gametexts.specs.Texts.{play_str_of}
 use Rattle.requests.proofs.PlayLaws as laws
 use Rattle.requests.proofs.plays.play_text.Goals as goal
 
-pub slice_bounds-play_str-end : goal.slice_bounds-play_str-end
-slice_bounds-play_str-end c = sym (length-take-le _ _ (readings.fits _ _ _ _ refl c.unescape-n.ensures))
-
 pub returns : goal.returns
-returns c = laws.text_played _ _ _ _ refl c.unescape-n.ensures c.args.g _ c.play_str.ensures
+returns c =
+    let q : c.unescaped.result ≡ play_str_of c.args.g c.unescaped.ensures.0.now = search rules in
+    laws.text_played c.args.word.now _ c.args.g _ q c.unescaped.ensures.2

@@ -16,9 +16,3 @@ loop-word-preserved c =
     (ap (λ (g : Game). over (word_told c.args.given c.play_word-r.result ++ game_text c.args.given g (words_left c.next.new.self)) c.loop-word.out) c.played_on-g.ensures
     ∙ ap (λ (t : List ℕ). over t c.loop-word.out) (laws.game_next _ _ _ c.in-Some.ensures.steps c.args.given c.loop-word.g _ c.play_word-r.ensures) ∙ c.loop-word.invariant)
     c.tell_word.ensures
-
-pub returns : goal.returns
-returns c =
-    c.put_end.ensures
-    ∙ ap (λ (t : List ℕ). over t c.loop-word.out) (laws.game_end _ c.args.given c.loop-word.g c.in-None.ensures.steps.0)
-    ∙ c.loop-word.invariant

@@ -1,11 +1,11 @@
--- The escapes undone; then at most 4,097 bytes are read.
-use mathlib.Core.Path.{refl, sym}
-use lib.Seq.{length-take-le}
+-- Read of the word's text.
+use mathlib.Core.Path.{◌≡◌}
+use borrow.Author.Rules.{rules}
+use Rattle.notation.specs.Choice.{parse_move_of}
 use Rattle.requests.proofs.Readings as readings
 use Rattle.requests.proofs.reading.listed_move.Goals as goal
 
-pub slice_bounds-parse_move-end : goal.slice_bounds-parse_move-end
-slice_bounds-parse_move-end c = sym (length-take-le _ _ (readings.fits _ _ _ _ refl c.unescape-n.ensures))
-
 pub returns : goal.returns
-returns c = readings.move_read _ _ _ _ refl c.unescape-n.ensures c.args.p _ c.parse_move.ensures
+returns c =
+    let q : c.unescaped.result ≡ parse_move_of c.args.p c.unescaped.ensures.0.now = search rules in
+    readings.move_read c.args.word.now _ c.args.p _ q c.unescaped.ensures.2

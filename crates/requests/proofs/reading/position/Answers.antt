@@ -1,11 +1,11 @@
--- The escapes undone; then at most 4,097 bytes are read.
-use mathlib.Core.Path.{refl, sym}
-use lib.Seq.{length-take-le}
+-- Read of the word's text.
+use mathlib.Core.Path.{◌≡◌}
+use borrow.Author.Rules.{rules}
+use Rattle.requests.specs.Reading.{read_of}
 use Rattle.requests.proofs.Readings as readings
 use Rattle.requests.proofs.reading.position.Goals as goal
 
-pub slice_bounds-read-end : goal.slice_bounds-read-end
-slice_bounds-read-end c = sym (length-take-le _ _ (readings.fits _ _ _ _ refl c.unescape-n.ensures))
-
 pub returns : goal.returns
-returns c = readings.position_read _ _ _ _ refl c.unescape-n.ensures c.args.form _ c.read.ensures
+returns c =
+    let q : c.unescaped.result ≡ read_of c.args.form c.unescaped.ensures.0.now = search rules in
+    readings.position_read c.args.word.now _ c.args.form _ q c.unescaped.ensures.2

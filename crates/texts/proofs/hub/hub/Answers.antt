@@ -6,10 +6,8 @@ use borrow.Author.Rules.{rules}
 use Rattle.std.specs.Prelude.{Err}
 use Rattle.squares.proofs.Refusals.{holds, fails}
 use Rattle.squares.specs.declared.refusal.Refusal.TheVariants.{BadPosition}
-use Rattle.texts.specs.Lent.{emit_of, emitted, text_of}
+use Rattle.texts.specs.Lent.{emit_of, emitted}
 use Rattle.texts.specs.Hub.{hub_of, hub_lent}
-use Rattle.texts.proofs.HubTrip.{hub_written}
-use Rattle.std.proofs.Common.{MutBor, length}
 use Rattle.texts.proofs.hub.hub.Goals as goal
 
 pub returns-in_err-unless : goal.returns-in_err-unless
@@ -22,10 +20,8 @@ returns-in_err-unless c =
 pub returns : goal.returns
 unfolding hub_lent hub_of
 returns c =
-    let o = c.args.out.now in
     let s = sym c.sound.ensures ∙ holds _ _ c.in_ok-unless.ensures in
-    let t = c.text.ensures ∙ ap text_of c.put_hub.ensures ∙ hub_written _ _ c.new-space.ensures.at (ap (λ (r : MutBor (List ℕ)). length r.now) c.new-space.ensures.bytes) in
     record {
-      value = rw s (c.emit.ensures.value ∙ ap (λ (x : List ℕ). emit_of x o) t);
-      out_after = rw s (c.emit.ensures.out_after ∙ ap (λ (x : List ℕ). emitted x o) t);
+      value = rw s (c.emit.ensures.value ∙ ap (λ (x : List ℕ). emit_of x c.args.out.now) c.hub_text.ensures);
+      out_after = rw s (c.emit.ensures.out_after ∙ ap (λ (x : List ℕ). emitted x c.args.out.now) c.hub_text.ensures);
     }

@@ -1,5 +1,6 @@
 -- Each return is one case of the definition: too few, more than before, found already, one more.
-use Rattle.std.proofs.Common.{arith, ◌≡◌, ap₂, refl, true, false, ◌∙◌, eqb, ltb}
+use Rattle.std.proofs.Common.{arith, ◌≡◌, sym, ap₂, refl, true, false, ◌∙◌, eqb, ltb, ℕ, take}
+use Rattle.positions.specs.declared.moves.Move.{Move}
 use mathlib.Core.Bool.{◌||◌, or-true}
 use borrow.Author.Tests.{eq-eqb, ne_eqb, lt-ltb, le-ltb}
 use Rattle.positions.specs.Moves.{move}
@@ -24,7 +25,8 @@ returns-then-holds g c =
     let a = c.args in
     let n = c.count-count.result in
     let enough : (eqb n 0 || ltb n a.self.now.best) ≡ false = rw (ne_eqb n 0 c.if-count-eq0.false, le-ltb n a.self.now.best (omega (arith, c.if-count-self.false))) refl in
-    let there : listed (moves_in a.self.now) (move_of a.self.now a.to a.captured) ≡ true = cc in
+    let made : move c.first.result c.first-2.result a.captured ≡ move_of a.self.now a.to a.captured = cc in
+    let there = ap₂ (λ (k : ℕ) (m : Move). listed (take k a.self.now.moves) m) (sym c.unwrap_or.ensures) (sym made) ∙ sym c.holds.ensures ∙ c.if-holds.true in
     record_there a.self.now a.to a.captured n c.count-count.ensures enough c.if-self-count.false there
 
 pub returns : goal.returns
