@@ -1,8 +1,8 @@
 -- The laws that crates above cite: on a fair board the search for captures by formula ends with the list of the rules, in its
 -- order, and every entry behind the moves is blank.
-use Rattle.std.specs.Prelude.{Some, None, option_map}
+use Rattle.std.specs.Prelude.{Option, Some, None, option_map, unwrap_or}
 use mathlib.Core.Path.{◌≡◌, refl, sym, ap, ap₂, ◌∙◌, subst}
-use Prim.Native.Nat.{ℕ}
+use Prim.Native.Nat.{ℕ, min}
 use mathlib.Core.Bool.{Bool, true, false, cond}
 use mathlib.Core.List.{List, [], ◌∷◌, ◌++◌, map}
 use lib.ListN.{length, take, replicate, length-map, length-take}
@@ -12,10 +12,11 @@ use Rattle.squares.specs.declared.piece.PieceKind.TheVariants.{Man, King}
 use Rattle.positions.specs.Boards.{Board, enemy, empty, pieces}
 use Rattle.positions.specs.declared.moves.Move.{Move}
 use Rattle.captures.specs.declared.movegen.Captures.{Captures}
+use Rattle.captures.specs.declared.moves.MoveList.{MoveList}
 use Rattle.captures.specs.Kings.{kings_captures_of}
 use Rattle.captures.specs.Lists.{blank, list_of, whole_list}
 use Rattle.captures.specs.Men.{men_captures_of}
-use Rattle.captures.specs.Record.{entered, list_in, start_of}
+use Rattle.captures.specs.Record.{entered, list_in, whole_in, start_of}
 use native.Mathlib.Omega.{arith}
 use Rattle.captures.proofs.Limit.{Found}
 use Rattle.rules.specs.Lists.{keep, distinct, best, longest}
@@ -28,45 +29,53 @@ use Rattle.captures.proofs.Stored.{filled, refilled}
 use Rattle.capture_laws.proofs.Search.{search_of, search_holds, found_law}
 use Rattle.capture_laws.proofs.Stored.{cut_entries}
 
--- the entries of a search are the first 256 of these moves, then blanks; it has their number where there are no more
+-- the list of a search is these moves, the first 256 of them, then blanks; it has their number where there are no more
 abbrev pub Filled : Captures 256 → List Move → Type 0
-Filled s ms = (s.moves ≡ (list_of ms).moves) × (s.len ≡ cond (ltb 256 (length ms)) None (Some (length ms)))
+Filled s ms = (list_in s ≡ list_of ms) × (s.len ≡ cond (ltb 256 (length ms)) None (Some (length ms)))
 
--- so as a list, where there are at most 256
-pub filled_list : (s : Captures 256) (ms : List Move) → Filled s ms → list_in s ≡ whole_list ms
-unfolding list_in list_of whole_list
-filled_list s ms f = ap (option_map (entered s.moves)) f.1 ∙ go (ltb 256 (length ms)) refl
+-- so where there are at most 256
+pub filled_whole : (s : Captures 256) (ms : List Move) → Filled s ms → whole_in s ≡ whole_list ms
+unfolding list_in whole_in list_of whole_list
+filled_whole s ms f = ap (option_map (entered s.moves)) f.1 ∙ go (ltb 256 (length ms)) refl
   where
     go : (t : Bool) → ltb 256 (length ms) ≡ t
         → option_map (entered s.moves) (cond t None (Some (length ms))) ≡ cond (leb (length ms) 256) (Some (list_of ms)) None
     go true e = sym (ap (λ (c : Bool). cond c (Some (list_of ms)) None) (lt-leb (length ms) 256 (ltb-true 256 (length ms) e)))
     go false e =
         let h = ltb-false 256 (length ms) e in
-        ap₂ (λ (l : List Move) (n : ℕ). Some (record { moves = l; len = n }))
-        (ap (λ (l : List Move). take 256 (l ++ replicate 256 blank)) f.0 ∙ refilled blank 256 256 ms h) (omega (arith, h))
+        ap₂ (λ (l : List Move) (n : ℕ). Some (record { moves = l; len = n })) (ap (λ (l : MoveList). l.moves) f.0) (omega (arith, h))
         ∙ sym (ap (λ (c : Bool). cond c (Some (list_of ms)) None) (le-leb (length ms) 256 h))
 
 module _ (b : Board) (fair : Fair b) where
   -- the longest captures, each once, in the order of the rules
   pub captures_filled : let s = kings_captures_of (men_captures_of (start_of 256 (enemy b) (empty b)) (pieces b Man) (empty b)) (pieces b King) (empty b) in
       Filled s (map numbered (longest same_bits count (captures b)))
-  unfolding list_of
-  captures_filled =
-      let l = longest same_bits count (captures b) in
-      let h = search_holds b fair in
-      let x = found_law b fair 256 in (
-        h.list ∙ ap (λ (x : Found). filled blank 256 x.moves) x ∙ cut_entries (map numbered l),
-        h.len ∙ ap number_in x ∙ go (ltb 256 (length l)) refl ∙ ap (λ (n : ℕ). cond (ltb 256 n) None (Some n)) (sym (length-map l numbered)),
-      )
+  unfolding list_in list_of
+  captures_filled = (
+    ap₂ (λ (l : List Move) (n : ℕ). record { moves = l; len = n })
+        (ap (λ (l : List Move). take 256 (l ++ replicate 256 blank)) entries ∙ refilled blank 256 256 (take 256 (map numbered l)) (omega (arith, length-take 256 (map numbered l))) ∙ cut_entries (map numbered l))
+        (ap (λ (o : Option ℕ). unwrap_or o 256) number ∙ at_most (ltb 256 (length (map numbered l))) refl),
+    number,
+  )
     where
-      go : (t : Bool) → ltb 256 (length (longest same_bits count (captures b))) ≡ t
-          → cond (ltb 256 (length (longest same_bits count (captures b)))) None (Some (length (take 256 (map numbered (longest same_bits count (captures b))))))
-          ≡ cond (ltb 256 (length (longest same_bits count (captures b)))) None (Some (length (longest same_bits count (captures b))))
-      go true e = rw e refl
-      go false e =
-          let l = longest same_bits count (captures b) in
-          let k : length (take 256 (map numbered l)) ≡ length l = omega (arith, ltb-false 256 (length l) e, length-take 256 (map numbered l), length-map l numbered) in
-          ap (λ (n : ℕ). cond (ltb 256 (length l)) None (Some n)) k
+      l : List BitMove
+      l = longest same_bits count (captures b)
+
+      entries : (search_of b).moves ≡ filled blank 256 (take 256 (map numbered l))
+      entries = (search_holds b fair).list ∙ ap (λ (x : Found). filled blank 256 x.moves) (found_law b fair 256)
+
+      go : (t : Bool) → ltb 256 (length l) ≡ t → cond t None (Some (length (take 256 (map numbered l)))) ≡ cond t None (Some (length l))
+      go true e = refl
+      go false e = ap Some (omega (arith, ltb-false 256 (length l) e, length-take 256 (map numbered l), length-map l numbered))
+
+      number : (search_of b).len ≡ cond (ltb 256 (length (map numbered l))) None (Some (length (map numbered l)))
+      number =
+          (search_holds b fair).len ∙ ap number_in (found_law b fair 256) ∙ go (ltb 256 (length l)) refl
+          ∙ ap (λ (n : ℕ). cond (ltb 256 n) None (Some n)) (sym (length-map l numbered))
+
+      at_most : (t : Bool) → ltb 256 (length (map numbered l)) ≡ t → unwrap_or (cond t None (Some (length (map numbered l)))) 256 ≡ min 256 (length (map numbered l))
+      at_most true e = let lt = ltb-true 256 (length (map numbered l)) e in omega arith
+      at_most false e = let ge = ltb-false 256 (length (map numbered l)) e in omega arith
 
   longest_legal : (c : BitMove) (cs : List BitMove) → captures b ≡ c ∷ cs → map numbered (longest same_bits count (captures b)) ≡ legal b
   unfolding legal

@@ -1,5 +1,5 @@
 -- A list of all captures that has room for them holds what a longer list holds.
-use Rattle.std.specs.Prelude.{Option, Some, None, option_map}
+use Rattle.std.specs.Prelude.{Some, None, option_map}
 use mathlib.Core.Path.{◌≡◌, refl, sym, ap, ◌∙◌, subst}
 use mathlib.Core.Bool.{Bool, true, false, cond, ◌||◌, false≢true}
 use mathlib.Core.List.{List, [], ◌∷◌, ◌++◌, map, foldl}
@@ -14,7 +14,7 @@ use Rattle.positions.specs.declared.moves.Move.{Move}
 use Rattle.captures.specs.declared.movegen.Came.TheVariants.{Nowhere}
 use Rattle.captures.specs.declared.movegen.Captures.{Captures}
 use Rattle.captures.specs.Lists.{listed, list_of}
-use Rattle.captures.specs.Record.{Ending, list_in, moves_in, start_of, note_of}
+use Rattle.captures.specs.Record.{Ending, whole_in, moves_in, start_of, note_of}
 use Rattle.captures.specs.All.{all_captures_of}
 use Rattle.captures.specs.Men.{onto, man_endings, man_captures, men_captures_of}
 use Rattle.captures.specs.Kings.{skip_of, king_endings, king_captures, kings_captures_of}
@@ -205,7 +205,7 @@ few_alike N M l men kings them empty = alike l them empty _ _ (all l them empty 
 
 -- the list of a search is its moves and then blanks, where it had room for them
 pub listed_all : (N : ℕ) → N ≤ 256 → (men kings them empty : ℕ)
-    → let s = all_captures_of N men kings them empty in list_in s ≡ option_map (λ n. list_of (moves_in s)) s.len
+    → let s = all_captures_of N men kings them empty in whole_in s ≡ option_map (λ n. list_of (moves_in s)) s.len
 listed_all N l men kings them empty = holds_list s w.short l w.short_holds ∙ sym (go w.short.overflow refl)
   where
     s : Captures N

@@ -14,8 +14,9 @@ use Rattle.squares.specs.Squares.{first_of}
 use Rattle.positions.specs.declared.moves.Move.{Move}
 use Rattle.positions.specs.Moves.{move}
 use Rattle.captures.specs.declared.movegen.Captures.{Captures}
+use Rattle.captures.specs.declared.moves.MoveList.{MoveList}
 use Rattle.captures.specs.Lists.{blank, listed, list_of}
-use Rattle.captures.specs.Record.{Ending, start_of, moves_in, entered, list_in, move_of, cleared_by, appended, no_room, more_at, more_by, record_of, note_of}
+use Rattle.captures.specs.Record.{Ending, start_of, moves_in, entered, list_in, whole_in, move_of, cleared_by, appended, no_room, more_at, more_by, record_of, note_of}
 use Rattle.captures.proofs.Limit.{Found, found, add_in, note_in}
 use Rattle.captures.proofs.Recorded.{anew_of, Kept, kept_refl, kept_trans, record_kept}
 use Rattle.captures.proofs.Stored.{filled, front_of, none_filled, store, refilled}
@@ -133,8 +134,8 @@ module _ {N : ℕ} where
       }
 
 -- as a list of 256 entries
-pub holds_list : {N : ℕ} (s : Captures N) (x : Found) → N ≤ 256 → Holds s x → list_in s ≡ cond x.overflow None (Some (list_of x.moves))
-unfolding list_in list_of
+pub holds_list : {N : ℕ} (s : Captures N) (x : Found) → N ≤ 256 → Holds s x → whole_in s ≡ cond x.overflow None (Some (list_of x.moves))
+unfolding whole_in list_of
 holds_list {N} s x w h = ap (option_map (entered s.moves)) h.len ∙ go x.overflow
   where
     go : (o : Bool) → option_map (entered s.moves) (cond o None (Some (length x.moves))) ≡ cond o None (Some (list_of x.moves))
@@ -142,3 +143,13 @@ holds_list {N} s x w h = ap (option_map (entered s.moves)) h.len ∙ go x.overfl
     go false =
         ap₂ (λ (ms : List Move) (n : ℕ). Some (record { moves = ms; len = n }))
         (ap (λ (ms : List Move). take 256 (ms ++ replicate 256 blank)) h.list ∙ refilled blank N 256 x.moves h.few) (omega (arith, h.few))
+
+-- the list of a search, where it had room for all or not
+pub whole_some : {N : ℕ} (s : Captures N) (n : ℕ) (l : MoveList) → s.len ≡ Some n → l ≡ list_in s → Some l ≡ whole_in s
+unfolding list_in whole_in
+whole_some {N} s n l e q =
+    ap Some (q ∙ ap (λ (o : Option ℕ). entered s.moves (unwrap_or o N)) e) ∙ sym (ap (option_map (entered s.moves)) e)
+
+pub whole_none : {N : ℕ} (s : Captures N) → s.len ≡ None → None ≡ whole_in s
+unfolding whole_in
+whole_none s e = sym (ap (option_map (entered s.moves)) e)

@@ -1,16 +1,19 @@
 -- Search in a list of moves, as a chain asks it, and what a list is after one more.
-use Rattle.std.specs.Prelude.{Option, Some, None, Result, Ok, Err}
-use mathlib.Core.Path.{◌≡◌, refl, ap, ◌∙◌}
+use Rattle.std.specs.Prelude.{Option, Some, None, Ok, Err}
+use mathlib.Core.Path.{◌≡◌, refl, sym, ap, ◌∙◌}
 use mathlib.Core.Bool.{Bool, true, false, cond, ◌||◌}
-use Prim.Native.Nat.{ℕ}
+use Prim.Native.Nat.{ℕ, min}
 use native.Mathlib.Omega.{arith}
-use lib.Dec.{ltb}
+use lib.Dec.{ltb, leb}
+use lib.ListN.{length, take}
+use lib.Seq.{take_all}
+use borrow.Author.Tests.{leb-true, leb-false}
 use mathlib.Core.List.{List, [], ◌∷◌}
 use Rattle.positions.specs.declared.moves.Move.{Move}
 use Rattle.positions.specs.Moves.{same}
 use Rattle.std.specs.List.{list_any}
 use Rattle.captures.specs.declared.moves.MoveList.{MoveList}
-use Rattle.captures.specs.Lists.{listed, push_of, kept, put_of}
+use Rattle.captures.specs.Lists.{entries, listed, push_of, kept, put_of}
 
 pub listed_any : (l : List Move) (m : Move) → listed l m ≡ list_any (λ x. same x m) l
 unfolding listed
@@ -30,3 +33,17 @@ put_push l k r m e = held r (ltb l.len 256) refl e
     held None false t e = let q : k ≡ l = cc in rw (full t) q
     held (Some u) true t e = cc
     held (Some u) false t e = absurd (let z : ◌≡◌ {A = ℕ} 0 1 = cc in omega arith)
+
+-- the moves of a list, taken from an array of 256
+pub entries_short : (l : MoveList) → length l.moves ≡ 256 → take (min l.len 256) l.moves ≡ entries l
+entries_short l h = go (leb l.len 256) refl
+  where
+    go : (b : Bool) → leb l.len 256 ≡ b → take (min l.len 256) l.moves ≡ entries l
+    go true e =
+        let le = leb-true l.len 256 e in
+        let k : min l.len 256 ≡ l.len = omega arith in
+        ap (λ (n : ℕ). take n l.moves) k
+    go false e =
+        let lt = leb-false l.len 256 e in
+        let k : min l.len 256 ≡ 256 = omega arith in
+        ap (λ (n : ℕ). take n l.moves) k ∙ take_all 256 l.moves (omega (arith, h)) ∙ sym (take_all l.len l.moves (omega (arith, h)))

@@ -30,9 +30,13 @@ module _ {N : ℕ} where
   abbrev pub moves_in : Captures N → List Move
   moves_in s = take (unwrap_or s.len 0) s.moves
 
-  -- the list that a search holds, where it had room for all
-  unfoldable pub list_in : Captures N → Option MoveList
-  list_in s = option_map (entered s.moves) s.len
+  -- the list that a search holds: as many moves as there was room for
+  unfoldable pub list_in : Captures N → MoveList
+  list_in s = entered s.moves (unwrap_or s.len N)
+
+  -- the same, where there was room for all
+  unfoldable pub whole_in : Captures N → Option MoveList
+  whole_in s = option_map (entered s.moves) s.len
 
   -- the move of a sequence that ends on `to` and has taken c
   abbrev pub move_of : Captures N → ℕ → ℕ → Move

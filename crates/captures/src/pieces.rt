@@ -14,7 +14,7 @@ pub const ROOM: usize = 14;
 
 // The captures of all men, by bit. The first square of the moving man counts as empty. A man without a jump is skipped:
 // it would record nothing.
-fn men_captures<const N: usize>(s: &mut Captures<N>, men: Bitboard, empty: Bitboard)
+pub fn men_captures<const N: usize>(s: &mut Captures<N>, men: Bitboard, empty: Bitboard)
     ensures { s.new ≡ men_captures_of s.old men empty }
 {
     for bit in Members(men) {
@@ -28,7 +28,7 @@ fn men_captures<const N: usize>(s: &mut Captures<N>, men: Bitboard, empty: Bitbo
 }
 
 // The captures of all kings, by bit. Test and search differ from the men's, so this is a loop of its own.
-fn kings_captures<const N: usize>(s: &mut Captures<N>, kings: Bitboard, empty: Bitboard)
+pub fn kings_captures<const N: usize>(s: &mut Captures<N>, kings: Bitboard, empty: Bitboard)
     ensures { s.new ≡ kings_captures_of s.old kings empty }
 {
     for bit in Members(kings) {

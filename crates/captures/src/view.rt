@@ -1,4 +1,4 @@
-// A board as the side to move sees it, for depth counts, and its sets as the search for moves takes them.
+// A board as the side to move sees it, and its sets as the search for moves takes them.
 ghost use Rattle.std.specs.Prelude.{◌≡◌};
 ghost use Rattle.positions.specs.Boards.{board_of};
 ghost use Rattle.captures.specs.View.{view_of, own_men_of, own_kings_of, empty_of, sets_of};
@@ -65,8 +65,8 @@ impl View {
     }
 }
 
-// What the search for moves and its tests take: the men and the kings of the side to move, the enemy's pieces, the empty
-// squares, and the side. They may be any sets: what is made of them is what the formulas give.
+// What the search for moves and its tests take: the men and the kings of the side to move, the enemy's pieces, the
+// empty squares, and the side. They may be any sets: what is made of them is what the formulas give.
 #[derive(Clone, Copy)]
 pub struct Sets {
     pub men: Bitboard,

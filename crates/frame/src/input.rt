@@ -39,11 +39,11 @@ pub fn read_line<R: Read>(from: &mut R, buf: &mut [u8]) -> Result<usize, Failure
     ensures line { TakenLine buf.old buf.new result }
     ensures line_from { LineFrom (R.remaining from.old) (R.remaining from.new) buf.new result }
 {
-    for n in 0..buf.len() {
+    for (n, place) in buf.iter_mut().enumerate() {
         match read_byte(from)? {
             None => return Ok(n),
             Some(b'\n') => return Ok(n),
-            Some(b) => buf[n] = b,
+            Some(b) => *place = b,
         }
     }
     Ok(buf.len())

@@ -22,7 +22,8 @@ pub fn write<W: Write>(to: &mut W, out: &[u8]) -> Result<(), Failure>
     ensures { Put (W.contents to.old) (W.contents to.new) out.now result }
 {
     let mut done = 0;
-    // A write takes as many bytes as it likes. Of what was written the library's `write_all` says nothing where it fails.
+    // A write takes as many bytes as it likes, so the place goes on by what it took. The library's `write_all` does not
+    // say how many were written where it fails.
     while done < out.len() {
         match to.write(&out[done..]) {
             Ok(0) | Err(_) => return Err(Failure::Write),

@@ -25,6 +25,21 @@ one_more n = go (leb 32 n) refl
         ap (λ (k : ℕ). min 32 (k + 1)) (min-eq_left l) ∙ sym (min-eq_left k)
     go false e = let l = leb-false 32 n e in let k : n ≤ 32 = omega arith in ap (λ (k : ℕ). min 32 (k + 1)) (min-eq_right k)
 
+-- the code stops the count at 31 and adds one
+pub one_below : (n : ℕ) → min n 31 + 1 ≡ min 32 (n + 1)
+one_below n = go (leb 31 n) refl
+  where
+    go : (t : Bool) → leb 31 n ≡ t → min n 31 + 1 ≡ min 32 (n + 1)
+    go true e =
+        let l = leb-true 31 n e in
+        let k : 32 ≤ n + 1 = omega arith in
+        ap (λ (k : ℕ). k + 1) (min-eq_right l) ∙ sym (min-eq_left k)
+    go false e =
+        let l = leb-false 31 n e in
+        let m : n ≤ 31 = omega arith in
+        let k : n + 1 ≤ 32 = omega arith in
+        ap (λ (k : ℕ). k + 1) (min-eq_left m) ∙ sym (min-eq_right k)
+
 pub second_agrees : (p : Board) (m : Move) (n k : ℕ) → n ≡ min 32 k → is_capture m ≡ takes m → promotes p m ≡ is_promotion p m
     → material_after p m n ≡ min 32 (cond (takes m || is_promotion p m) 0 (k + 1))
 unfolding material_after

@@ -1,7 +1,7 @@
 -- Laws on a list of plays, one play at a time, and on the numbers that records are lent as.
 use Rattle.std.specs.Prelude.{Err}
 use mathlib.Core.Path.{◌≡◌, refl, sym, ap, ap₂, ◌∙◌}
-use Prim.Native.Nat.{ℕ, zero, suc, ◌+◌, ◌*◌, ◌/◌, ◌<◌}
+use Prim.Native.Nat.{ℕ, zero, suc, ◌+◌, ◌*◌, ◌/◌, ◌<◌, ◌≤◌}
 use native.Mathlib.Omega.{arith}
 use native.Mathlib.Numerals.{add-one}
 use mathlib.Core.Bool.{Bool, true, false, cond}
@@ -9,6 +9,7 @@ use mathlib.Core.List.{List, [], ◌∷◌, ◌++◌}
 use lib.Dec.{leb}
 use lib.ListN.{length, take, drop, get_or, set}
 use lib.Seq.{append_snoc, take-suc, drop-cons, set_at}
+use Rattle.std.specs.Simd.{first_chunks}
 use Rattle.squares.specs.Refusals.{answer_number_of, refusal}
 use Rattle.squares.specs.Squares.{is_square}
 use Rattle.squares.proofs.Numbers.{high_square}
@@ -55,9 +56,6 @@ write_more xs l i v e h = rw (add-one, drop-cons l i 0, append_snoc) (set_at xs 
 
 -- ---- three numbers a move
 
-pub third : (i n : ℕ) → i < n / 3 → 3 * i + 2 < n
-third i n h = omega arith
-
 pub moves_length : (l : List ℕ) → length (moves_in l) ≡ length l / 3
 unfolding moves_in
 moves_length [] = refl
@@ -65,18 +63,16 @@ moves_length (a ∷ []) = refl
 moves_length (a ∷ (b ∷ [])) = refl
 moves_length (a ∷ (b ∷ (c ∷ l))) = let ih = moves_length l in omega arith
 
-pub moves_at : (d : Move) (l : List ℕ) (i : ℕ) → 3 * i + 2 < length l
-    → get_or (moves_in l) i d ≡ move (get_or l (3 * i) 0) (get_or l (3 * i + 1) 0) (get_or l (3 * i + 2) 0)
+-- of the first k chunks of three the i-th is the i-th move
+pub moves_at : (d : Move) (l : List ℕ) (k i : ℕ) → i < k → 3 * k ≤ length l
+    → get_or (moves_in l) i d ≡ move (get_or (get_or (first_chunks 3 k l) i []) 0 0) (get_or (get_or (first_chunks 3 k l) i []) 1 0) (get_or (get_or (first_chunks 3 k l) i []) 2 0)
 unfolding moves_in
-moves_at d [] i h = absurd (omega arith)
-moves_at d (a ∷ []) i h = absurd (omega arith)
-moves_at d (a ∷ (b ∷ [])) i h = absurd (omega arith)
-moves_at d (a ∷ (b ∷ (c ∷ l))) zero h = refl
-moves_at d (a ∷ (b ∷ (c ∷ l))) (suc i) h =
-    let k : 3 * suc i ≡ suc (suc (suc (3 * i))) = omega arith in
-    let m : 3 * suc i + 1 ≡ suc (suc (suc (3 * i + 1))) = omega arith in
-    let n : 3 * suc i + 2 ≡ suc (suc (suc (3 * i + 2))) = omega arith in
-    rw (m, n, k) (moves_at d l i (omega arith))
+moves_at d l zero i h g = absurd (omega arith)
+moves_at d [] (suc k) i h g = absurd (omega arith)
+moves_at d (a ∷ []) (suc k) i h g = absurd (omega arith)
+moves_at d (a ∷ (b ∷ [])) (suc k) i h g = absurd (omega arith)
+moves_at d (a ∷ (b ∷ (c ∷ l))) (suc k) zero h g = refl
+moves_at d (a ∷ (b ∷ (c ∷ l))) (suc k) (suc i) h g = moves_at d l k i (omega arith) (omega arith)
 
 -- ---- a number that is no square
 

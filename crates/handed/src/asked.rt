@@ -22,6 +22,7 @@ use std::io;
 use texts::{bytes, fen, hub};
 use wording::words;
 
+// The numbers of the entries, here and below, are those of the input (scripts/handed writes it).
 fn of_position(rt: &impl Print, entry: u64, n: u64, v: &Values) -> io::Result<()> {
     let p = v.position;
     match entry {
@@ -115,10 +116,8 @@ fn lend_answers(
     lent: &mut [u8],
 ) -> io::Result<()> {
     listed(s, list);
-    if count <= list.len() {
-        if answers <= lent.len() {
-            return replay(rt, p, &list[..count], &mut lent[..answers]);
-        }
+    if count <= list.len() && answers <= lent.len() {
+        return replay(rt, p, &list[..count], &mut lent[..answers]);
     }
     Ok(())
 }

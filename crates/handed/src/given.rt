@@ -18,7 +18,7 @@ use squares::piece::Color;
 use wording::{numbers, words};
 
 pub(crate) fn letter(s: &[u8]) -> u8 {
-    if 0 < s.len() { s[0] } else { 0 }
+    s.first().copied().unwrap_or(0)
 }
 
 // The number in the word with this index.

@@ -63,11 +63,7 @@ pub(crate) fn placed(rt: &impl Print, p: Result<Position, Refusal>) -> io::Resul
 }
 
 pub(crate) fn tested(rt: &impl Print, t: Result<bool, Refusal>) -> io::Result<()> {
-    match t {
-        Ok(yes) => print!(rt; "{}", if yes { "yes" } else { "no" })?,
-        Err(e) => refusal(rt, e)?,
-    }
-    println!(rt)
+    value(rt, t.map(|yes| if yes { "yes" } else { "no" }))
 }
 
 pub(crate) fn standing(rt: &impl Print, s: Result<Option<Piece>, Refusal>) -> io::Result<()> {

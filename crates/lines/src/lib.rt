@@ -12,6 +12,9 @@
 // The buffers (`buffers`) say which bytes they contain: `answer_lines` answers whole lines, `carry` keeps the line that
 // is not whole yet, `last_answer` answers it at the end of the input, and `given_answer` answers the arguments.
 //
+// The writer and the buffer of answers go from function to function as two arguments. One struct of both would be no
+// plainer: the contracts are about the bytes of the writer alone.
+//
 // The laws on runs are those of the crate line_laws, with `answer_of` for the answer to a line (`run_law`, `stop_law`,
 // `read_stop_law`). What is written for arguments is what is written for an input of that line alone (`given_law`).
 #![tactic(auto)]

@@ -160,10 +160,6 @@ module _ (v : View) (a : Accepted (seen v)) (l : MoveList) (e : Some l ≡ gener
   at_member (x ∷ xs) zero h = head refl
   at_member (x ∷ xs) (suc i) h = tail (at_member xs i (omega arith))
 
-  -- the list lies in its array
-  pub in_array : l.len ≤ 256
-  in_array = omega (arith, short.len, short.few)
-
   module _ (w : Short (seen v) l) (i : ℕ) (h : i < length (entries l)) where
     playable : Playable (seen v) (get_or (legal (seen v)) i blank)
     playable =
@@ -182,31 +178,43 @@ module _ (v : View) (a : Accepted (seen v)) (l : MoveList) (e : Some l ≡ gener
         → below n (seen v) (get_or (legal (seen v)) i blank) ≡ c
     counted n next res c q r s = ap (depth_count n) (sym (stepped next q)) ∙ sym r ∙ s
 
--- ---- the loop of a count, at any turn: n plies below each move, s counted before entry i
-module _ (v : View) (a : Accepted (seen v)) (l : MoveList) (e : Some l ≡ generate_of v) (n s i : ℕ) (c : Counting n (seen v) s i) where
+-- ---- the loop of a count, at any turn: n plies below each of the moves ms, s counted before entry i
+module _ (v : View) (a : Accepted (seen v)) (l : MoveList) (e : Some l ≡ generate_of v) (ms : List Move) (z : ms ≡ entries l) (n s i : ℕ) (c : Counting n (seen v) s i) where
   pub listing_short : Short (seen v) l
   listing_short = short v a l e
 
-  pub sum_done : length (entries l) ≤ i → Ok s ≡ depth_count (suc n) (seen v)
-  sum_done h = counting_done n (seen v) s i (omega (arith, ap length listing_short.moves)) c ∙ depth_more n (seen v) listing_short.few
+  are : ms ≡ legal (seen v)
+  are = z ∙ listing_short.moves
 
-  module _ (h : i < length (entries l)) (next : View) (q : next ≡ next_of v (get_or (entries l) i blank)) where
+  pub as_many : length ms ≡ length (legal (seen v))
+  as_many = ap length are
+
+  pub sum_done : length ms ≤ i → Ok s ≡ depth_count (suc n) (seen v)
+  sum_done h = counting_done n (seen v) s i (omega (arith, as_many)) c ∙ depth_more n (seen v) listing_short.few
+
+  module _ (h : i < length ms) (next : View) (q : next ≡ next_of v (get_or ms i blank)) where
+    in_list : i < length (entries l)
+    in_list = omega (arith, ap length z)
+
+    of_list : next ≡ next_of v (get_or (entries l) i blank)
+    of_list = q ∙ ap (λ (xs : List Move). next_of v (get_or xs i blank)) z
+
     pub next_accepted : Accepted (seen next)
-    next_accepted = step_accepted v a l e listing_short i h next q
+    next_accepted = step_accepted v a l e listing_short i in_list next of_list
 
     pub sum_below : (res x : Result ℕ Refusal) → res ≡ depth_count n (seen next) → res ≡ x → below n (seen v) (get_or (legal (seen v)) i blank) ≡ x
-    sum_below res x = counted v a l e listing_short i h n next res x q
+    sum_below res x = counted v a l e listing_short i in_list n next res x of_list
 
     module _ (low : n ≤ 6) (res : Result ℕ Refusal) (r : res ≡ depth_count n (seen next)) where
       pub sum_fits : (k : ℕ) → res ≡ Ok k → s + k < 2 ^ 64
-      sum_fits k z = omega (arith, c.small, count_le n _ k low (sum_below res (Ok k) r z), ap length listing_short.moves, listing_short.few)
+      sum_fits k y = omega (arith, c.small, count_le n _ k low (sum_below res (Ok k) r y), as_many, listing_short.few)
 
       pub sum_again : (k : ℕ) → res ≡ Ok k → Counting n (seen v) (s + k) (i + 1)
-      sum_again k z = counting_more n (seen v) s i k (omega (arith, ap length listing_short.moves)) low c (sum_below res (Ok k) r z)
+      sum_again k y = counting_more n (seen v) s i k (omega (arith, as_many)) low c (sum_below res (Ok k) r y)
 
       pub sum_refused : (x : Refusal) → res ≡ Err x → Err x ≡ depth_count (suc n) (seen v)
-      sum_refused x z =
-          counting_refused n (seen v) s i x (omega (arith, ap length listing_short.moves)) c (sum_below res (Err x) r z)
+      sum_refused x y =
+          counting_refused n (seen v) s i x (omega (arith, as_many)) c (sum_below res (Err x) r y)
           ∙ depth_more n (seen v) listing_short.few
 
 -- a depth that is not 0 is one more than the depth below

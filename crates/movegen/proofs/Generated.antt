@@ -30,7 +30,7 @@ use Rattle.captures.specs.declared.moves.MoveList.{MoveList}
 use Rattle.movegen.specs.Generate.{facing, seen, capture_moves_of, moves_by_sets, generate_of, next_of}
 use Rattle.captures.specs.declared.view.View.{View}
 use Rattle.capture_laws.proofs.Search.{search_of}
-use Rattle.capture_laws.proofs.Laws.{filled_list, captures_open}
+use Rattle.capture_laws.proofs.Laws.{filled_whole, captures_open}
 use Rattle.quiet_laws.proofs.Laws.{capture_open, legal_listed}
 
 -- ---- a board and what its side sees of it
@@ -62,7 +62,7 @@ sets_are b = ap (λ (s : ℕ). moves_by_sets (without (own b) b.kings) (bit_and 
 pub captures_are : (b : Board) → Fair b → has_capture_of (pieces b Man) (pieces b King) (enemy b) (empty b) ≡ true
     → capture_moves_of (pieces b Man) (pieces b King) (enemy b) (empty b) ≡ whole_list (legal b)
 unfolding capture_moves_of
-captures_are b fair e = filled_list (search_of b) (legal b) (captures_open b fair ((capture_open b fair).0 e))
+captures_are b fair e = filled_whole (search_of b) (legal b) (captures_open b fair ((capture_open b fair).0 e))
 
 -- the legal moves as a list, where there are at most 256
 pub generated : (b : Board) → Fair b → generate_of (view_of b) ≡ whole_list (legal b)

@@ -10,7 +10,7 @@ use Rattle.squares.specs.declared.piece.Color.TheVariants.{White, Black}
 use Rattle.positions.specs.Boards.{Board, board}
 use Rattle.positions.specs.Successor.{moved, kings_played}
 use Rattle.positions.specs.declared.moves.Move.{Move}
-use Rattle.captures.specs.Record.{list_in}
+use Rattle.captures.specs.Record.{whole_in}
 use Rattle.captures.specs.All.{all_captures_of}
 use Rattle.captures.specs.declared.movegen.Captures.{Captures}
 use Rattle.captures.specs.declared.moves.MoveList.{MoveList}
@@ -32,7 +32,7 @@ abbrev pub long_captures_of : ℕ → ℕ → ℕ → ℕ → Captures 256
 long_captures_of = all_captures_of 256
 
 unfoldable pub capture_moves_of : ℕ → ℕ → ℕ → ℕ → Option MoveList
-capture_moves_of men kings them empty = list_in (long_captures_of men kings them empty)
+capture_moves_of men kings them empty = whole_in (long_captures_of men kings them empty)
 
 -- captures where a jump is open, else quiet moves; none where there are more than 256
 unfoldable pub moves_by_sets : ℕ → ℕ → ℕ → ℕ → Color → Option MoveList

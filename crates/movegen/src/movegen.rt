@@ -41,12 +41,14 @@ pub(crate) fn generate(v: View) -> Option<MoveList>
         if bitboard::count(sets.kings) <= FEW_KINGS {
             let few = all_captures::<ROOM>(sets);
             if few.len.is_some() {
-                return few.list();
+                return few.whole();
             }
         }
-        return all_captures::<MAX_MOVES>(sets).list();
+        return all_captures::<MAX_MOVES>(sets).whole();
     }
-    quiets::quiets::quiet_moves(sets)
+    let mut list = MoveList::new();
+    quiets::quiets::put_quiets(&mut list, sets)?;
+    Some(list)
 }
 
 // All legal moves, at most `limit` of them. Refusals: 12, 10, 17.

@@ -103,7 +103,7 @@ fn count(v: View, depth: u32) -> Result<u64, Refusal>
         return Err(Refusal::TooManyMoves);
     };
     let mut sum: u64 = 0;
-    for &mv in &list.moves[..list.len] {
+    for &mv in list.entries() {
         sum += count(next(v, mv), depth - 1)?;
     }
     Ok(sum)
@@ -129,7 +129,7 @@ fn split(v: View, plies: u32) -> Result<Divided, Refusal>
         return Err(Refusal::TooManyMoves);
     };
     let mut counts = [0u64; 256];
-    for (i, &mv) in list.moves[..list.len].iter().enumerate() {
+    for (i, &mv) in list.entries().iter().enumerate() {
         counts[i] = count(next(v, mv), plies)?;
     }
     Ok(Divided { list, counts })

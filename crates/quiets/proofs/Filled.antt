@@ -1,5 +1,5 @@
 -- Moves put in one by one fill the list: it holds the first 256 of them, then blanks.
-use Rattle.std.specs.Prelude.{Some, None, Result, Ok, Err}
+use Rattle.std.specs.Prelude.{Option, Some, None, Result, Ok, Err}
 use mathlib.Core.Path.{◌≡◌, refl, sym, ap, ap₂, ◌∙◌}
 use Prim.Native.Nat.{ℕ, ◌+◌, ◌≤◌, ◌<◌, min}
 use native.Mathlib.Omega.{arith}
@@ -11,7 +11,7 @@ use lib.Dec.{ltb}
 use borrow.Author.Tests.{ltb-true, ltb-false, lt-ltb, le-ltb}
 use Rattle.positions.specs.declared.moves.Move.{Move}
 use Rattle.captures.specs.declared.moves.MoveList.{MoveList}
-use Rattle.captures.specs.Lists.{blank, no_moves, list_of, put_of, push_of, whole_list}
+use Rattle.captures.specs.Lists.{blank, no_moves, list_of, kept, put_of, push_of, whole_list}
 use Rattle.captures.proofs.Stored.{store}
 use Rattle.captures.proofs.Whole.{none_listed, whole_few, whole_many}
 use Rattle.squares.specs.declared.piece.Color.{Color}
@@ -119,3 +119,13 @@ module _ (men kings empty : ℕ) (side : Color) (l : MoveList) where
       go : (b : Bool) → ltb 256 (length all) ≡ b → Err l ≡ cond b (Err (list_of all)) (Ok (list_of all)) → None ≡ whole_list all
       go true t q = sym (whole_many all (ltb-true 256 (length all) t))
       go false t q = absurd (let z : ◌≡◌ {A = ℕ} 0 1 = cc in omega arith)
+
+-- with room or without, it has the first of them
+pub list_filled : (l k : MoveList) (r : Option Unit) (xs : List Move) → l ≡ no_moves → kept k r ≡ put_all l xs → k ≡ list_of xs
+list_filled l k r xs e q = go (ltb 256 (length xs)) r (q ∙ ap (λ (a : MoveList). put_all a xs) e ∙ fill_law xs)
+  where
+    go : (b : Bool) (r : Option Unit) → kept k r ≡ cond b (Err (list_of xs)) (Ok (list_of xs)) → k ≡ list_of xs
+    go true None p = cc
+    go true (Some u) p = absurd (let z : ◌≡◌ {A = ℕ} 0 1 = cc in omega arith)
+    go false None p = absurd (let z : ◌≡◌ {A = ℕ} 0 1 = cc in omega arith)
+    go false (Some u) p = cc

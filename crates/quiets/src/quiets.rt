@@ -8,7 +8,7 @@
 //
 // Most is computed for all pieces at once: their set is shifted by one step, and what falls on `empty` can step there.
 ghost use Rattle.std.specs.Prelude.{◌≡◌, ◌<◌, length};
-ghost use Rattle.captures.specs.Lists.{kept};
+ghost use Rattle.captures.specs.Lists.{kept, list_of};
 ghost use Rattle.squares.specs.Sets.{members};
 ghost use Rattle.quiets.specs.Tests.{forward_of, steps_open, has_quiet_of, men_jump, king_open, any_in, has_capture_of};
 ghost use Rattle.quiets.specs.Quiets.{
@@ -18,7 +18,6 @@ ghost use Rattle.quiets.specs.Quiets.{
   flights,
   king_quiets,
   all_quiets,
-  quiet_moves_of,
 };
 
 use captures::movegen;
@@ -163,13 +162,14 @@ pub fn put_quiets(list: &mut MoveList, s: Sets) -> Option<()>
     put_kings(list, s.kings, s.empty)
 }
 
-// All quiet moves, where there are at most 256.
-pub fn quiet_moves(s: Sets) -> Option<MoveList>
-    ensures { result ≡ quiet_moves_of s.men s.kings s.empty s.side }
+// The quiet moves in a list of their own, the first 256 of them. How many there are says `quiet_count`.
+#[tactic(auto, using(crate::proofs::Filled::list_filled))]
+pub fn quiet_moves(s: Sets) -> MoveList
+    ensures { result ≡ list_of (all_quiets s.men s.kings s.empty s.side) }
 {
     let mut list = MoveList::new();
-    put_quiets(&mut list, s)?;
-    Some(list)
+    put_quiets(&mut list, s);
+    list
 }
 
 // The number of squares that a king on `at` can reach in direction `d`.

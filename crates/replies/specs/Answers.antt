@@ -79,14 +79,14 @@ counted_answer c = on_ok c (λ n. ok (decimal n))
 
 -- ---- squares
 
--- a bit or a row; nothing where there is none
-abbrev pub numbered_word : Result ℕ Refusal → List ℕ
-numbered_word (Ok n) = decimal n
-numbered_word (Err e) = []
+-- a number; nothing where it is refused
+abbrev pub count_word : Result ℕ Refusal → List ℕ
+count_word (Ok n) = decimal n
+count_word (Err e) = []
 
 -- number, bit, row
 abbrev pub square_word : ℕ → List ℕ
-square_word n = decimal n ++ (code " " ∷ (numbered_word (of_square n (bit_of n)) ++ (code " " ∷ numbered_word (of_square n (row_of (bit_of n))))))
+square_word n = decimal n ++ (code " " ∷ (count_word (of_square n (bit_of n)) ++ (code " " ∷ count_word (of_square n (row_of (bit_of n))))))
 
 abbrev pub square_answer : ℕ → List ℕ
 square_answer n = ok (square_word n)

@@ -11,7 +11,7 @@ use Rattle.games.specs.declared.game.Outcome.{Outcome}
 use Rattle.games.specs.declared.game.Termination.{Termination}
 use Rattle.games.specs.declared.game.Termination.TheVariants.{NoMoves, Repetition, TwentyFiveMoves, SixteenMoves, FiveMoves}
 use Rattle.wording.specs.Output.{decimal, number_word}
-use Rattle.replies.specs.Answers.{fen_word}
+use Rattle.replies.specs.Answers.{fen_word, count_word}
 use Rattle.squares.specs.declared.piece.Color.{Color}
 use Rattle.std.specs.declared.option.Option.{Option}
 use Rattle.positions.specs.declared.position.Position.{Position}
@@ -39,10 +39,6 @@ judged_word (Ok None) = bytes "none"
 judged_word (Err e) = []
 
 -- ---- counts
-abbrev pub count_word : Result ℕ Refusal → List ℕ
-count_word (Ok n) = decimal n
-count_word (Err e) = []
-
 -- plies without capture or man move, plies since capture or promotion (up to 32); a mark before each
 unfoldable pub plies_text : ℕ → Game → List ℕ
 plies_text mark g = mark ∷ (count_word (reversible_plies_of g) ++ (mark ∷ decimal g.material))

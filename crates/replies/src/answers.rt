@@ -5,7 +5,7 @@ ghost use Rattle.std.specs.Prelude.{◌≡◌, ◌∷◌, [], min};
 ghost use Rattle.texts.specs.Lent.{over};
 ghost use Rattle.texts.specs.Bytes.{bytes};
 ghost use Rattle.wording.specs.Output.{hash};
-ghost use Rattle.replies.specs.Answers.{on_ok, Tells, yes_no, set_word, fen_word, hub_word, bits_word, bits_answer, scored_answer, tested_answer, counted_answer, hub_answer, hash_answer, placed_answer, numbered_word, square_word, square_answer, move_word, moves_text, counts_text, list_word, list_answer, divided_word, divided_answer, record_word, full_word, move_answer, after_text, after_answer};
+ghost use Rattle.replies.specs.Answers.{on_ok, Tells, yes_no, set_word, fen_word, hub_word, bits_word, bits_answer, scored_answer, tested_answer, counted_answer, hub_answer, hash_answer, placed_answer, count_word, square_word, square_answer, move_word, moves_text, counts_text, list_word, list_answer, divided_word, divided_answer, record_word, full_word, move_answer, after_text, after_answer};
 
 use captures::moves::{MAX_MOVES, MoveList};
 use movegen::perft::Divided;
@@ -16,27 +16,27 @@ use texts::space::Space;
 use texts::{fen, hub};
 use wording::output;
 
-// A text is written into bytes of its own, and what was written is passed on; so in `put_hub` and `put_move`. One
-// function for the three would have to require of its closure that the length fits: it would be no plainer.
+// The FEN of a position. It is written into bytes of its own, and what was written is passed on; so in `put_hub` and
+// `put_move`. One function for the three would have to require of its closure that the length fits: it would be no
+// plainer.
 #[tactic(auto, using(crate::proofs::Told::fen_rules))]
 pub fn put_fen(out: &mut Space, p: Position)
     ensures { out.new ≡ over (fen_word p) out.old }
 {
     let mut space = [0u8; 200];
-    match fen::fen(p, &mut space) {
-        Ok(n) => out.put(&space[..n]),
-        Err(_) => {}
+    if let Ok(n) = fen::fen(p, &mut space) {
+        out.put(&space[..n]);
     }
 }
 
+// The Hub text of a position.
 #[tactic(auto, using(crate::proofs::Told::hub_rules))]
 fn put_hub(out: &mut Space, p: Position)
     ensures { out.new ≡ over (hub_word p) out.old }
 {
     let mut space = [0u8; 51];
-    match hub::hub(p, &mut space) {
-        Ok(n) => out.put(&space[..n]),
-        Err(_) => {}
+    if let Ok(n) = hub::hub(p, &mut space) {
+        out.put(&space[..n]);
     }
 }
 
@@ -136,13 +136,12 @@ pub fn tell_counted(out: &mut Space, c: Result<u64, Refusal>)
     tell(out, c, output::put_decimal);
 }
 
-// A square's bit or row.
-fn put_numbered(out: &mut Space, n: Result<u32, Refusal>)
-    ensures { out.new ≡ over (numbered_word n) out.old }
+// A number, or nothing where it is refused.
+pub(crate) fn put_count(out: &mut Space, c: Result<u64, Refusal>)
+    ensures { out.new ≡ over (count_word c) out.old }
 {
-    match n {
-        Ok(k) => output::put_decimal(out, k as u64),
-        Err(_) => {}
+    if let Ok(n) = c {
+        output::put_decimal(out, n);
     }
 }
 
@@ -152,9 +151,9 @@ fn put_square(out: &mut Space, n: u32)
 {
     output::put_decimal(out, n as u64);
     out.put_byte(b' ');
-    put_numbered(out, squares::square::bit(n));
+    put_count(out, squares::square::bit(n).map(u64::from));
     out.put_byte(b' ');
-    put_numbered(out, squares::square::row(n));
+    put_count(out, squares::square::row(n).map(u64::from));
 }
 
 pub fn tell_square(out: &mut Space, n: Result<u32, Refusal>)
@@ -169,9 +168,8 @@ pub fn put_move(out: &mut Space, m: Move)
     ensures { out.new ≡ over (move_word m) out.old }
 {
     let mut space = [0u8; 200];
-    match notation::moves::to_hub(m, &mut space) {
-        Ok(n) => out.put(&space[..n]),
-        Err(_) => {}
+    if let Ok(n) = notation::moves::to_hub(m, &mut space) {
+        out.put(&space[..n]);
     }
 }
 

@@ -1,12 +1,12 @@
-// What is written of a game: the outcome, both counts, how often the position has occurred; at the end also the position
-// and the number of its legal moves.
+// What is written of a game: the outcome, both counts, how often the position has occurred; at the end also the
+// position and the number of its legal moves.
 #![tactic(auto, using(texts::proofs::Overs::over_append, texts::proofs::Overs::over_none), unfolding(texts::specs::Lent::over, crate::specs::States::plies_text, crate::specs::States::state_text, crate::specs::States::moves_word, crate::specs::States::end_text))]
 
 ghost use Rattle.std.specs.Prelude.{◌≡◌};
 ghost use Rattle.texts.specs.Lent.{over};
 ghost use Rattle.games.specs.Play.{outcome_of};
 ghost use Rattle.replies.specs.Answers.{ok, on_ok};
-ghost use Rattle.replies.specs.States.{winner_word, outcome_word, judged_word, count_word, plies_text, state_text, stand_word, moves_word, end_text};
+ghost use Rattle.replies.specs.States.{winner_word, outcome_word, judged_word, plies_text, state_text, stand_word, moves_word, end_text};
 
 use crate::answers;
 use captures::moves::{MAX_MOVES, MoveList};
@@ -21,10 +21,8 @@ fn put_winner(out: &mut Space, w: Option<Color>)
     ensures { out.new ≡ over (winner_word w) out.old }
 {
     match w {
-        Some(color) => match color {
-            Color::White => out.put(b"white"),
-            Color::Black => out.put(b"black"),
-        },
+        Some(Color::White) => out.put(b"white"),
+        Some(Color::Black) => out.put(b"black"),
         None => {}
     }
 }
@@ -66,21 +64,12 @@ pub fn tell_outcome(out: &mut Space, g: Result<Game, Refusal>)
     answers::tell(out, g, put_verdict);
 }
 
-fn put_count(out: &mut Space, c: Result<u64, Refusal>)
-    ensures { out.new ≡ over (count_word c) out.old }
-{
-    match c {
-        Ok(n) => output::put_decimal(out, n),
-        Err(_) => {}
-    }
-}
-
 // Both counts, a mark before each.
 fn put_plies(out: &mut Space, g: Game, mark: u8)
     ensures { out.new ≡ over (plies_text mark g) out.old }
 {
     out.put_byte(mark);
-    put_count(out, g.reversible_plies());
+    answers::put_count(out, g.reversible_plies());
     out.put_byte(mark);
     output::put_decimal(out, g.material as u64);
 }
@@ -93,15 +82,14 @@ pub fn put_state(out: &mut Space, g: Game, mark: u8)
     put_judged(out, g.outcome());
     put_plies(out, g, mark);
     out.put_byte(mark);
-    put_count(out, g.repetitions());
+    answers::put_count(out, g.repetitions());
 }
 
 fn put_stand(out: &mut Space, p: Result<Position, Refusal>)
     ensures { out.new ≡ over (stand_word p) out.old }
 {
-    match p {
-        Ok(q) => answers::put_fen(out, q),
-        Err(_) => {}
+    if let Ok(q) = p {
+        answers::put_fen(out, q);
     }
 }
 

@@ -48,8 +48,8 @@ use Rattle.gametexts.specs.declared.game.PlayedText.{PlayedText}
 use Rattle.wording.specs.Escapes.{undone}
 use Rattle.wording.specs.Output.{decimal, number_word}
 use Rattle.texts.specs.Bytes.{cons_head, parts_at}
-use Rattle.replies.specs.Answers.{move_word}
-use Rattle.replies.specs.States.{winner_word, ending_word, judged_word, count_word, plies_text, state_text, stand_word, moves_word, end_text}
+use Rattle.replies.specs.Answers.{move_word, count_word}
+use Rattle.replies.specs.States.{winner_word, ending_word, judged_word, plies_text, state_text, stand_word, moves_word, end_text}
 use Rattle.requests.specs.Plays.{words_of, record_of, play_text_of, play_move, play_record_of, play_word_of, text_told, record_told, word_told, game_text}
 use Rattle.requests.specs.declared.plays.Given.{Given}
 use Rattle.requests.specs.declared.plays.Given.TheVariants as given
@@ -170,7 +170,7 @@ judged_most (Ok (Some o)) = ending_most o.termination o.winner
 judged_most (Ok None) = omega arith
 judged_most (Err e) = omega arith
 
-count_most : (c : Result ℕ Refusal) → length (count_word c) ≤ 20
+pub count_most : (c : Result ℕ Refusal) → length (count_word c) ≤ 20
 count_most (Ok n) = decimal_most n
 count_most (Err e) = omega arith
 

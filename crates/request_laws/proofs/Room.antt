@@ -29,19 +29,18 @@ use Rattle.wording.specs.Output.{decimal, hex, hash, signed, bad}
 use Rattle.wording.specs.Words.{first_word, after_word, word_at, blanks_in}
 use Rattle.wording.specs.declared.output.Flaw.{Flaw}
 use Rattle.wording.specs.declared.output.Flaw.TheVariants as flaw
-use Rattle.replies.specs.Answers.{ok, fen_answer, hub_answer, hash_answer, set_word, bits_answer, placed_answer, scored_answer, tested_answer, counted_answer, move_word, record_word, move_answer, after_answer, list_answer, divided_answer, on_ok, fen_word, after_text, yes_no, numbered_word}
+use Rattle.replies.specs.Answers.{ok, fen_answer, hub_answer, hash_answer, set_word, bits_answer, placed_answer, scored_answer, tested_answer, counted_answer, move_word, record_word, move_answer, after_answer, list_answer, divided_answer, on_ok, fen_word, after_text, yes_no, count_word}
 use Rattle.requests.specs.Asked.{on_parsed, on_sided, on_weights, moves_request, atmost_request, parse_request, after_request, perft_request, divide_request, eval_request, weights_of, evalw_request, square_request, side_of, sets_answer, parts_request}
 use Rattle.requests.specs.Plays.{words_of, all_records, game_answer, play_request, record_request, outcome_request}
-use Rattle.requests.specs.Reading.{position_in, move_in, square_in}
+use Rattle.requests.specs.Reading.{fen_in, hub_in, position_in, move_in, square_in}
 use Rattle.requests.specs.Requests.{whole_position, first_position, request_of, request_answer, named_answer, longest, answer_room, answer_of}
 use Rattle.replies.specs.States.{judged_word}
 use Rattle.requests.specs.declared.plays.Given.{Given}
 use Rattle.requests.specs.declared.plays.Given.TheVariants as given
-use Rattle.requests.specs.declared.reading.Form.TheVariants as form
 use Rattle.requests.specs.declared.requests.Request.{Request}
 use Rattle.requests.specs.declared.requests.Request.TheVariants as request
 use Rattle.request_laws.proofs.Lengths.{decimal_most, hex_most, hash_long, signed_most, refusal_most, bad_most, fen_most, hub_most, move_most, list_most, divided_most}
-use Rattle.request_laws.proofs.Falling.{new_good, judged_most, game_cost, pieces_most, words_most}
+use Rattle.request_laws.proofs.Falling.{new_good, judged_most, count_most, game_cost, pieces_most, words_most}
 use Rattle.std.specs.declared.option.Option.{Option}
 use Rattle.squares.specs.declared.refusal.Refusal.{Refusal}
 
@@ -137,7 +136,7 @@ moves_most x n = about x (λ q. list_answer (legal_moves_of q n)) (λ q. list_mo
 
 atmost_most : (arg : List ℕ) → length (atmost_request arg) ≤ 45380
 unfolding atmost_request
-atmost_most arg = on_parsed_lem (unsigned_of (first_word arg)) _ (λ n. moves_most (position_in form.Either (after_word arg)) n)
+atmost_most arg = on_parsed_lem (unsigned_of (first_word arg)) _ (λ n. moves_most (position_in (after_word arg)) n)
 
 parse_most : (x : Result Position Refusal) (t : List ℕ) → length (parse_request x t) ≤ 45380
 parse_most x t = about x (λ q. on_ok (move_in q t) move_answer) (λ q. about (move_in q t) move_answer move_answer_lem)
@@ -161,29 +160,25 @@ evalw_most : (arg : List ℕ) → length (evalw_request arg) ≤ 45380
 unfolding evalw_request
 evalw_most arg = cond_most (eqb (blanks_in arg) 5) _ flaw.Words 45380 (omega arith) (go (weights_of arg))
   where
-    go : (x : Option Classical) → length (on_weights x (λ w. eval_request (position_in form.Either (first_word arg)) w)) ≤ 45380
-    go (Some w) = eval_most (position_in form.Either (first_word arg)) w
+    go : (x : Option Classical) → length (on_weights x (λ w. eval_request (position_in (first_word arg)) w)) ≤ 45380
+    go (Some w) = eval_most (position_in (first_word arg)) w
     go None = omega (arith, bad_most flaw.Number)
 
 outcome_most : (x : Result Position Refusal) → length (outcome_request x) ≤ 45380
 outcome_most x = about x (λ q. ok (judged_word (outcome_of (game_of (new_of q))))) (λ q. omega (arith, judged_most (outcome_of (game_of (new_of q)))))
 
 -- ---- squares and sets
-number_most : (x : Result ℕ Refusal) → length (numbered_word x) ≤ 20
-number_most (Ok n) = decimal_most n
-number_most (Err e) = omega arith
-
 square_most : (x : Result ℕ Refusal) → length (square_request x) ≤ 45380
 square_most (Ok n) =
-    let b = numbered_word (of_square n (bit_of n)) in
-    let r = numbered_word (of_square n (row_of (bit_of n))) in
+    let b = count_word (of_square n (bit_of n)) in
+    let r = count_word (of_square n (row_of (bit_of n))) in
     omega (
       arith,
       length-append (decimal n) (32 ∷ (b ++ (32 ∷ r))),
       length-append b (32 ∷ r),
       decimal_most n,
-      number_most (of_square n (bit_of n)),
-      number_most (of_square n (row_of (bit_of n))),
+      count_most (of_square n (bit_of n)),
+      count_most (of_square n (row_of (bit_of n))),
     )
 square_most (Err e) = omega (arith, refusal_most e)
 
@@ -216,10 +211,10 @@ unfolding after_word
 after_word_lem s = omega (arith, ap length (after_is 32 s), length-drop (index_of (is 32) s + 1) s)
 
 request_most : (r : Request) (arg : List ℕ) → length arg ≤ longest → length (request_answer r arg) ≤ 1442469
-request_most request.Fen arg h = omega (arith, placed_most (position_in form.Fen arg))
-request_most request.Hub arg h = omega (arith, about (position_in form.Hub arg) hub_answer hub_answer_lem)
-request_most request.Fen2hub arg h = omega (arith, about (position_in form.Fen arg) hub_answer hub_answer_lem)
-request_most request.Hub2fen arg h = omega (arith, placed_most (position_in form.Hub arg))
+request_most request.Fen arg h = omega (arith, placed_most (fen_in arg))
+request_most request.Hub arg h = omega (arith, about (hub_in arg) hub_answer hub_answer_lem)
+request_most request.Fen2hub arg h = omega (arith, about (fen_in arg) hub_answer hub_answer_lem)
+request_most request.Hub2fen arg h = omega (arith, placed_most (hub_in arg))
 request_most request.Square arg h = omega (arith, square_most (square_in arg))
 request_most request.Parts arg h = omega (arith, parts_most arg)
 request_most request.Bits arg h = omega (arith, about (whole_position arg) bits_answer bits_most)

@@ -21,9 +21,7 @@ use Rattle.notation.specs.Choice.{parse_move_of}
 use Rattle.wording.specs.Escapes.{Undid}
 use Rattle.texts.specs.Bytes.{longest_text}
 use Rattle.wording.specs.Escapes.{undone}
-use Rattle.requests.specs.Reading.{either_of, read_of, position_in, move_in, square_in}
-use Rattle.requests.specs.declared.reading.Form.{Form}
-use Rattle.requests.specs.declared.reading.Form.TheVariants as form
+use Rattle.requests.specs.Reading.{either_of, fen_in, hub_in, position_in, move_in, square_in}
 use Rattle.positions.specs.declared.moves.Move.{Move}
 use Rattle.squares.specs.declared.refusal.Refusal.{Refusal}
 
@@ -57,11 +55,6 @@ either_refused s e = rw (fen_refused s e, hub_refused s e) (go (eqb (length s) 5
     go true = refl
     go false = refl
 
-read_cut : (f : Form) (t : List ℕ) → read_of f (take 4097 t) ≡ read_of f t
-read_cut form.Fen t = cut from_fen_of _ fen_refused t
-read_cut form.Hub t = cut from_hub_of _ hub_refused t
-read_cut form.Either t = cut either_of _ either_refused t
-
 square_refused : (s : List ℕ) → readable longest_text s ≡ false → from_str_of s ≡ Err TextTooLong
 unfolding from_str_of
 square_refused s e = rw e
@@ -81,9 +74,17 @@ module _ (s o out : List ℕ) (n : ℕ) (long : length o ≡ 4097) (u : Undid s 
 
 -- ---- what is read of the text t of the word s, as far as it was written
 module _ (s t : List ℕ) where
-  pub position_read : (f : Form) (a : Result Position Refusal) → a ≡ read_of f t → t ≡ take 4097 (undone s) → a ≡ position_in f s
+  pub fen_read : (a : Result Position Refusal) → a ≡ from_fen_of t → t ≡ take 4097 (undone s) → a ≡ fen_in s
+  unfolding fen_in
+  fen_read a q e = q ∙ ap from_fen_of e ∙ cut from_fen_of _ fen_refused (undone s)
+
+  pub hub_read : (a : Result Position Refusal) → a ≡ from_hub_of t → t ≡ take 4097 (undone s) → a ≡ hub_in s
+  unfolding hub_in
+  hub_read a q e = q ∙ ap from_hub_of e ∙ cut from_hub_of _ hub_refused (undone s)
+
+  pub position_read : (a : Result Position Refusal) → a ≡ either_of t → t ≡ take 4097 (undone s) → a ≡ position_in s
   unfolding position_in
-  position_read f a q e = q ∙ ap (read_of f) e ∙ read_cut f (undone s)
+  position_read a q e = q ∙ ap either_of e ∙ cut either_of _ either_refused (undone s)
 
   pub move_read : (p : Position) (a : Result Move Refusal) → a ≡ parse_move_of p t → t ≡ take 4097 (undone s) → a ≡ move_in p s
   unfolding move_in

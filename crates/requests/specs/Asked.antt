@@ -13,10 +13,10 @@ use Rattle.movegen.specs.Counts.{perft_of, divide_of}
 use Rattle.wording.specs.Output.{bad}
 use Rattle.wording.specs.Words.{first_word, after_word, word_at, blanks_in}
 use Rattle.wording.specs.Numbers.{unsigned_of, set_of, signed_of}
+use Rattle.wording.specs.declared.output.Flaw.{Flaw}
 use Rattle.wording.specs.declared.output.Flaw.TheVariants as flaw
 use Rattle.requests.specs.Reading.{position_in, move_in}
 use Rattle.replies.specs.Answers.{on_ok, square_answer, hub_answer, bits_answer, hash_answer, placed_answer, scored_answer, tested_answer, counted_answer, list_answer, divided_answer, move_answer, after_answer}
-use Rattle.requests.specs.declared.reading.Form.TheVariants as form
 use Rattle.std.specs.declared.option.Option.{Option}
 use Rattle.squares.specs.declared.refusal.Refusal.{Refusal}
 
@@ -28,6 +28,11 @@ on_parsed None k = bad flaw.Number
 abbrev pub on_sided : Result Color Refusal → (Color → List ℕ) → List ℕ
 on_sided (Ok c) k = k c
 on_sided (Err e) k = bad flaw.Side
+
+-- the answer of what was read of a line, or what of it cannot be read
+abbrev pub on_read : {A : Type 0} → Result A Flaw → (A → List ℕ) → List ℕ
+on_read (Ok x) say = say x
+on_read (Err f) say = bad f
 
 -- ---- of a position alone
 abbrev pub fen_request : Result Position Refusal → List ℕ
@@ -77,7 +82,7 @@ divide_request p depth = on_ok p (λ q. on_parsed (unsigned_of depth) (λ n. div
 
 -- atmost: a limit, which is read first, then the position
 unfoldable pub atmost_request : List ℕ → List ℕ
-atmost_request arg = on_parsed (unsigned_of (first_word arg)) (λ n. moves_request (position_in form.Either (after_word arg)) n)
+atmost_request arg = on_parsed (unsigned_of (first_word arg)) (λ n. moves_request (position_in (after_word arg)) n)
 
 -- evalw: the position and five weights, which are read first
 abbrev pub on_signed : Option ℤ → (ℤ → Option Classical) → Option Classical
@@ -96,7 +101,7 @@ on_weights None k = bad flaw.Number
 
 unfoldable pub evalw_request : List ℕ → List ℕ
 evalw_request arg =
-    cond (eqb (blanks_in arg) 5) (on_weights (weights_of arg) (λ w. eval_request (position_in form.Either (first_word arg)) w)) (bad flaw.Words)
+    cond (eqb (blanks_in arg) 5) (on_weights (weights_of arg) (λ w. eval_request (position_in (first_word arg)) w)) (bad flaw.Words)
 
 -- ---- of a square, and of sets
 

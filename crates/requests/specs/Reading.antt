@@ -7,8 +7,6 @@ use Rattle.texts.specs.Fen.{from_fen_of}
 use Rattle.texts.specs.Hub.{from_hub_of}
 use Rattle.notation.specs.Choice.{parse_move_of}
 use Rattle.wording.specs.Escapes.{undone}
-use Rattle.requests.specs.declared.reading.Form.{Form}
-use Rattle.requests.specs.declared.reading.Form.TheVariants as form
 use Rattle.positions.specs.declared.moves.Move.{Move}
 use Rattle.squares.specs.declared.refusal.Refusal.{Refusal}
 
@@ -16,14 +14,15 @@ use Rattle.squares.specs.declared.refusal.Refusal.{Refusal}
 unfoldable pub either_of : List ℕ → Result Position Refusal
 either_of t = cond (eqb (length t) 51 && eqb (index_of (is (code ":")) t) 51) (from_hub_of t) (from_fen_of t)
 
-abbrev pub read_of : Form → List ℕ → Result Position Refusal
-read_of form.Fen t = from_fen_of t
-read_of form.Hub t = from_hub_of t
-read_of form.Either t = either_of t
+-- the position that a word means: as FEN, as Hub, or as whichever of the two it looks like
+unfoldable pub fen_in : List ℕ → Result Position Refusal
+fen_in word = from_fen_of (undone word)
 
--- the position that a word means
-unfoldable pub position_in : Form → List ℕ → Result Position Refusal
-position_in f word = read_of f (undone word)
+unfoldable pub hub_in : List ℕ → Result Position Refusal
+hub_in word = from_hub_of (undone word)
+
+unfoldable pub position_in : List ℕ → Result Position Refusal
+position_in word = either_of (undone word)
 
 -- the listed move that a word means on a position
 unfoldable pub move_in : Position → List ℕ → Result Move Refusal

@@ -9,10 +9,9 @@ use Rattle.wording.specs.Escapes.{plain, is_plain}
 use Rattle.wording.specs.Output.{bad}
 use Rattle.wording.specs.Words.{same_text, first_word, after_word}
 use Rattle.wording.specs.declared.output.Flaw.TheVariants as flaw
-use Rattle.requests.specs.Reading.{position_in, square_in}
+use Rattle.requests.specs.Reading.{fen_in, hub_in, position_in, square_in}
 use Rattle.requests.specs.Asked.{fen_request, hub_request, square_request, parts_request, bits_request, moves_request, atmost_request, parse_request, after_request, perft_request, divide_request, eval_request, evalw_request, hash_request, flip_request, caps_request, quiet_request}
 use Rattle.requests.specs.Plays.{play_request, outcome_request, record_request}
-use Rattle.requests.specs.declared.reading.Form.TheVariants as form
 use Rattle.requests.specs.declared.requests.Request.{Request}
 use Rattle.requests.specs.declared.requests.Request.TheVariants as request
 use Rattle.positions.specs.declared.position.Position.{Position}
@@ -77,17 +76,17 @@ request_of name = named name requests
 
 -- the position that the whole argument means, or its first word alone
 unfoldable pub whole_position : List ℕ → Result Position Refusal
-whole_position arg = position_in form.Either arg
+whole_position arg = position_in arg
 
 unfoldable pub first_position : List ℕ → Result Position Refusal
-first_position arg = position_in form.Either (first_word arg)
+first_position arg = position_in (first_word arg)
 
 -- what each request answers to its argument, which is what follows its name
 abbrev pub request_answer : Request → List ℕ → List ℕ
-request_answer request.Fen arg = fen_request (position_in form.Fen arg)
-request_answer request.Hub arg = hub_request (position_in form.Hub arg)
-request_answer request.Fen2hub arg = hub_request (position_in form.Fen arg)
-request_answer request.Hub2fen arg = fen_request (position_in form.Hub arg)
+request_answer request.Fen arg = fen_request (fen_in arg)
+request_answer request.Hub arg = hub_request (hub_in arg)
+request_answer request.Fen2hub arg = hub_request (fen_in arg)
+request_answer request.Hub2fen arg = fen_request (hub_in arg)
 request_answer request.Square arg = square_request (square_in arg)
 request_answer request.Parts arg = parts_request arg
 request_answer request.Bits arg = bits_request (whole_position arg)

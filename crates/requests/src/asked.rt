@@ -1,15 +1,15 @@
-// The requests about a position or a square, one function each.
+// The requests about a position, one function each. Those that only tell what was read of their text have none here:
+// see `answer_request`.
 //
 // The position that a request is about comes as what was read of its text. If that is a refusal, it is the answer.
 ghost use Rattle.std.specs.Prelude.{◌≡◌};
 ghost use Rattle.texts.specs.Lent.{over};
 ghost use Rattle.wording.specs.Output.{bad};
 ghost use Rattle.wording.specs.declared.output.Flaw.TheVariants as flaw;
-ghost use Rattle.replies.specs.Answers.{on_ok};
-ghost use Rattle.requests.specs.Asked.{fen_request, hub_request, square_request, side_of, sets_answer, parts_request, bits_request, moves_request, atmost_request, parse_request, after_request, perft_request, divide_request, eval_request, weights_of, evalw_request, hash_request, flip_request, caps_request, quiet_request};
+ghost use Rattle.replies.specs.Answers.{on_ok, placed_answer};
+ghost use Rattle.requests.specs.Asked.{on_read, side_of, parts_request, moves_request, atmost_request, parse_request, after_request, perft_request, divide_request, eval_request, weights_of, evalw_request, flip_request, caps_request, quiet_request};
 
 use crate::reading;
-use crate::reading::Form;
 use positions::position;
 use positions::position::Position;
 use replies::answers;
@@ -19,24 +19,6 @@ use squares::refusal::Refusal;
 use texts::space::Space;
 use wording::output::Flaw;
 use wording::{numbers, output, words};
-
-pub(crate) fn fen(p: Result<Position, Refusal>, out: &mut Space)
-    ensures { out.new ≡ over (fen_request p) out.old }
-{
-    answers::tell_fen(out, p);
-}
-
-pub(crate) fn hub(p: Result<Position, Refusal>, out: &mut Space)
-    ensures { out.new ≡ over (hub_request p) out.old }
-{
-    answers::tell_hub(out, p);
-}
-
-pub(crate) fn bits(p: Result<Position, Refusal>, out: &mut Space)
-    ensures { out.new ≡ over (bits_request p) out.old }
-{
-    answers::tell_bits(out, p);
-}
 
 // The legal moves, if there are no more than the limit.
 pub(crate) fn moves(p: Result<Position, Refusal>, limit: usize, out: &mut Space)
@@ -51,11 +33,7 @@ pub(crate) fn atmost(arg: &[u8], out: &mut Space)
     ensures { out.new ≡ over (atmost_request arg.now) out.old }
 {
     match numbers::unsigned(words::first(arg)) {
-        Some(n) => moves(
-            reading::position(Form::Either, words::rest(arg)),
-            n as usize,
-            out,
-        ),
+        Some(n) => moves(reading::position(words::rest(arg)), n as usize, out),
         None => output::put_bad(out, Flaw::Number),
     }
 }
@@ -75,7 +53,7 @@ pub(crate) fn after(p: Result<Position, Refusal>, text: &[u8], out: &mut Space)
     );
 }
 
-// A number cannot be read. The refusal of the position comes first.
+// A number cannot be read. The refusal of the position comes first. This is no `answers::tell`, which writes `ok`.
 pub(crate) fn no_number(p: Result<Position, Refusal>, out: &mut Space)
     ensures { out.new ≡ over (on_ok p (λ _. bad flaw.Number)) out.old }
 {
@@ -85,6 +63,8 @@ pub(crate) fn no_number(p: Result<Position, Refusal>, out: &mut Space)
     }
 }
 
+// `perft` and `divide` are two: one function would take what is counted and how it is written as two closures, and its
+// contract would have to say what these do together.
 pub(crate) fn perft(p: Result<Position, Refusal>, depth: &[u8], out: &mut Space)
     ensures { out.new ≡ over (perft_request p depth.now) out.old }
 {
@@ -141,15 +121,9 @@ pub(crate) fn evalw(arg: &[u8], out: &mut Space)
         return output::put_bad(out, Flaw::Words);
     }
     match read_weights(arg) {
-        Some(w) => eval(reading::position(Form::Either, words::first(arg)), w, out),
+        Some(w) => eval(reading::position(words::first(arg)), w, out),
         None => output::put_bad(out, Flaw::Number),
     }
-}
-
-pub(crate) fn hash(p: Result<Position, Refusal>, out: &mut Space)
-    ensures { out.new ≡ over (hash_request p) out.old }
-{
-    answers::tell_hash(out, p);
 }
 
 pub(crate) fn flip(p: Result<Position, Refusal>, out: &mut Space)
@@ -170,12 +144,6 @@ pub(crate) fn quiet(p: Result<Position, Refusal>, out: &mut Space)
     answers::tell_tested(out, p.and_then(movegen::movegen::has_quiet_moves));
 }
 
-pub(crate) fn square(n: Result<u32, Refusal>, out: &mut Space)
-    ensures { out.new ≡ over (square_request n) out.old }
-{
-    answers::tell_square(out, n);
-}
-
 // The side that a word means: W or B alone.
 #[tactic(auto, using(crate::proofs::Sides::side_one, crate::proofs::Sides::side_other))]
 fn side(word: &[u8]) -> Result<Color, Refusal>
@@ -187,33 +155,26 @@ fn side(word: &[u8]) -> Result<Color, Refusal>
     Err(Refusal::NoSide)
 }
 
-// The position of three sets and a side.
-#[tactic(auto, unfolding(crate::specs::Asked::sets_answer))]
-fn sets(arg: &[u8], out: &mut Space)
-    ensures { out.new ≡ over (sets_answer arg.now) out.old }
+// The position of three sets and a side, or why they cannot be read.
+#[tactic(auto, unfolding(crate::specs::Asked::parts_request, crate::specs::Asked::sets_answer))]
+fn read_parts(arg: &[u8]) -> Result<Result<Position, Refusal>, Flaw>
+    ensures { on_read result placed_answer ≡ parts_request arg.now }
 {
-    let Some(white) = numbers::set(words::word(arg, 0)) else {
-        return output::put_bad(out, Flaw::Number);
-    };
-    let Some(black) = numbers::set(words::word(arg, 1)) else {
-        return output::put_bad(out, Flaw::Number);
-    };
-    let Some(kings) = numbers::set(words::word(arg, 2)) else {
-        return output::put_bad(out, Flaw::Number);
-    };
-    let Ok(c) = side(words::word(arg, 3)) else {
-        return output::put_bad(out, Flaw::Side);
-    };
-    answers::tell_fen(out, position::from_parts(white, black, kings, c));
+    if words::blanks(arg) != 3 {
+        return Err(Flaw::Words);
+    }
+    let white = numbers::set(words::word(arg, 0)).ok_or(Flaw::Number)?;
+    let black = numbers::set(words::word(arg, 1)).ok_or(Flaw::Number)?;
+    let kings = numbers::set(words::word(arg, 2)).ok_or(Flaw::Number)?;
+    let color = side(words::word(arg, 3)).map_err(|_| Flaw::Side)?;
+    Ok(position::from_parts(white, black, kings, color))
 }
 
-#[tactic(auto, unfolding(crate::specs::Asked::parts_request))]
 pub(crate) fn parts(arg: &[u8], out: &mut Space)
     ensures { out.new ≡ over (parts_request arg.now) out.old }
 {
-    if words::blanks(arg) == 3 {
-        sets(arg, out);
-    } else {
-        output::put_bad(out, Flaw::Words);
+    match read_parts(arg) {
+        Ok(p) => answers::tell_fen(out, p),
+        Err(flaw) => output::put_bad(out, flaw),
     }
 }

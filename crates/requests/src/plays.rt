@@ -1,9 +1,9 @@
 // The requests about games: `play FEN TEXT ..`, `record FEN FIRST,LAST,SET ..` and `outcome FEN`.
 //
-// `play` and `record` begin a game from the position and play every word in order. A text is a move text. A record is the
-// numbers of a move's first and last square and its set in hexadecimal. `play` writes ` HUB/OUTCOME/COUNT1/COUNT2/TIMES`
-// for each text, or ` !N` where it is refused; `record` writes ` N` for each record, 0 where it is accepted. Both end with
-// ` | FEN OUTCOME COUNT1 COUNT2 TIMES MOVES`.
+// `play` and `record` begin a game from the position and play every word in order. A text is a move text. A record is
+// the numbers of a move's first and last square and its set in hexadecimal. `play` writes
+// ` HUB/OUTCOME/COUNT1/COUNT2/TIMES` for each text, or ` !N` where it is refused; `record` writes ` N` for each record,
+// 0 where it is accepted. Both end with ` | FEN OUTCOME COUNT1 COUNT2 TIMES MOVES`.
 ghost use Rattle.std.specs.Prelude.{◌≡◌};
 ghost use Rattle.texts.specs.Lent.{over};
 ghost use Rattle.gametexts.specs.Texts.{played_on};
@@ -25,7 +25,9 @@ use texts::space::Space;
 use wording::words::Words;
 use wording::{numbers, output};
 
-// How the plays of a game are given. It is no closure, since the definitions take it too.
+// How the plays of a game are given. Two closures, one to play a word and one to tell it, would be no plainer: the
+// definition of what is written of all words (`game_text`) names both by `Given`, and `play_words` and `play_game`
+// would have to require that the closures do what it says.
 #[derive(Clone, Copy)]
 pub enum Given {
     Text,
@@ -150,7 +152,8 @@ fn new_game(p: Position) -> Game
     Game::from_position(p).unwrap_or(Game::empty())
 }
 
-// Begins a game and plays the words.
+// Begins a game and plays the words. This is no `answers::tell`: that writes `ok` and a space, but here each play
+// writes the space before its own answer.
 #[tactic(auto, using(texts::proofs::Overs::over_append), unfolding(texts::specs::Lent::over, crate::specs::Plays::game_answer))]
 fn play_game(given: Given, p: Result<Position, Refusal>, s: &[u8], out: &mut Space)
     ensures { out.new ≡ over (on_ok p (λ q. game_answer given q s.now)) out.old }

@@ -4,7 +4,7 @@
 ghost use Rattle.std.specs.Prelude.{◌≡◌, take};
 ghost use Rattle.std.specs.Fn.{FnOnceReturnsAt};
 ghost use Rattle.wording.specs.Escapes.{undone};
-ghost use Rattle.requests.specs.Reading.{either_of, read_of, position_in, move_in, square_in};
+ghost use Rattle.requests.specs.Reading.{either_of, fen_in, hub_in, position_in, move_in, square_in};
 
 use positions::moves::Move;
 use positions::position::Position;
@@ -12,36 +12,15 @@ use squares::refusal::Refusal;
 use texts::{bytes, fen, hub};
 use wording::escapes;
 
-// How the text of a position is read: as FEN, as Hub, or as whichever of the two it looks like. It is no closure, since
-// the definitions take it too.
-#[derive(Clone, Copy)]
-pub enum Form {
-    Fen,
-    Hub,
-    Either,
-}
-
 // 51 bytes without a colon are Hub. Everything else is FEN.
 #[tactic(auto, unfolding(crate::specs::Reading::either_of))]
 fn either(text: &[u8]) -> Result<Position, Refusal>
     ensures { result ≡ either_of text.now }
 {
-    if text.len() != 51 {
-        return fen::from_fen(text);
-    }
-    if bytes::find(text, b':') != 51 {
-        return fen::from_fen(text);
-    }
-    hub::from_hub(text)
-}
-
-fn read(form: Form, text: &[u8]) -> Result<Position, Refusal>
-    ensures { result ≡ read_of form text.now }
-{
-    match form {
-        Form::Fen => fen::from_fen(text),
-        Form::Hub => hub::from_hub(text),
-        Form::Either => either(text),
+    if text.len() == 51 && bytes::find(text, b':') == 51 {
+        hub::from_hub(text)
+    } else {
+        fen::from_fen(text)
     }
 }
 
@@ -55,11 +34,25 @@ pub(crate) fn unescaped<T, F: FnOnce(&[u8]) -> T>(word: &[u8], read: F) -> T
     read(&space[..n])
 }
 
-// The position that a word means.
-pub(crate) fn position(form: Form, word: &[u8]) -> Result<Position, Refusal>
-    ensures { result ≡ position_in form word.now }
+// The position that a word means as FEN.
+pub(crate) fn fen(word: &[u8]) -> Result<Position, Refusal>
+    ensures { result ≡ fen_in word.now }
 {
-    unescaped(word, |text| read(form, text))
+    unescaped(word, fen::from_fen)
+}
+
+// The position that a word means as Hub.
+pub(crate) fn hub(word: &[u8]) -> Result<Position, Refusal>
+    ensures { result ≡ hub_in word.now }
+{
+    unescaped(word, hub::from_hub)
+}
+
+// The position that a word means, as FEN or as Hub.
+pub(crate) fn position(word: &[u8]) -> Result<Position, Refusal>
+    ensures { result ≡ position_in word.now }
+{
+    unescaped(word, either)
 }
 
 // The listed move that a word means on a position.

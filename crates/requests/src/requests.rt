@@ -1,12 +1,14 @@
 // A request line and its answer. The table holds the requests; the first word of a line picks its row.
 ghost use Rattle.std.specs.Prelude.{◌≡◌, min, length};
 ghost use Rattle.texts.specs.Lent.{over, written, Adds};
+ghost use Rattle.wording.specs.Words.{after_word};
+ghost use Rattle.requests.specs.Asked.{on_read};
 ghost use Rattle.requests.specs.Requests.{help_text, request_of, whole_position, first_position, request_answer, answer_of};
 
-use crate::reading::Form;
 use crate::{asked, plays, reading};
 use captures::moves::MAX_MOVES;
 use positions::position::Position;
+use replies::answers;
 use scores::eval::Classical;
 use squares::refusal::Refusal;
 use texts::bytes;
@@ -96,7 +98,8 @@ const REQUESTS: [Request; 22] = [
     Request::Record,
 ];
 
-// The request with this name.
+// The request with this name. The loop is no `zip` of the table's lines and REQUESTS: the laws of the rows (`Table`)
+// are about the text that is left.
 #[tactic(auto, using(crate::proofs::Table::next, crate::proofs::Table::none))]
 fn request_of(name: &[u8]) -> Option<Request>
     ensures { result ≡ request_of name.now }
@@ -117,27 +120,27 @@ fn request_of(name: &[u8]) -> Option<Request>
 fn whole(arg: &[u8]) -> Result<Position, Refusal>
     ensures { result ≡ whole_position arg.now }
 {
-    reading::position(Form::Either, arg)
+    reading::position(arg)
 }
 
 #[tactic(auto, unfolding(crate::specs::Requests::first_position))]
 fn first(arg: &[u8]) -> Result<Position, Refusal>
     ensures { result ≡ first_position arg.now }
 {
-    reading::position(Form::Either, words::first(arg))
+    reading::position(words::first(arg))
 }
 
 fn answer_request(request: Request, arg: &[u8], out: &mut Space)
     ensures { out.new ≡ over (request_answer request arg.now) out.old }
 {
     match request {
-        Request::Fen => asked::fen(reading::position(Form::Fen, arg), out),
-        Request::Hub => asked::hub(reading::position(Form::Hub, arg), out),
-        Request::Fen2hub => asked::hub(reading::position(Form::Fen, arg), out),
-        Request::Hub2fen => asked::fen(reading::position(Form::Hub, arg), out),
-        Request::Square => asked::square(reading::square(arg), out),
+        Request::Fen => answers::tell_fen(out, reading::fen(arg)),
+        Request::Hub => answers::tell_hub(out, reading::hub(arg)),
+        Request::Fen2hub => answers::tell_hub(out, reading::fen(arg)),
+        Request::Hub2fen => answers::tell_fen(out, reading::hub(arg)),
+        Request::Square => answers::tell_square(out, reading::square(arg)),
         Request::Parts => asked::parts(arg, out),
-        Request::Bits => asked::bits(whole(arg), out),
+        Request::Bits => answers::tell_bits(out, whole(arg)),
         Request::Moves => asked::moves(whole(arg), MAX_MOVES, out),
         Request::Atmost => asked::atmost(arg, out),
         Request::Parse => asked::parse(first(arg), words::rest(arg), out),
@@ -146,7 +149,7 @@ fn answer_request(request: Request, arg: &[u8], out: &mut Space)
         Request::Divide => asked::divide(first(arg), words::rest(arg), out),
         Request::Eval => asked::eval(whole(arg), Classical::new(), out),
         Request::Evalw => asked::evalw(arg, out),
-        Request::Hash => asked::hash(whole(arg), out),
+        Request::Hash => answers::tell_hash(out, whole(arg)),
         Request::Flip => asked::flip(whole(arg), out),
         Request::Caps => asked::caps(whole(arg), out),
         Request::Quiet => asked::quiet(whole(arg), out),
@@ -156,19 +159,26 @@ fn answer_request(request: Request, arg: &[u8], out: &mut Space)
     }
 }
 
+// What a line asks for, or why it asks for nothing.
 #[tactic(auto, unfolding(crate::specs::Requests::answer_of))]
+fn read_request(line: &[u8]) -> Result<Request, Flaw>
+    ensures { on_read result (λ r. request_answer r (after_word line.now)) ≡ answer_of line.now }
+{
+    if LONGEST < line.len() {
+        return Err(Flaw::Length);
+    }
+    if !escapes::is_plain(line) {
+        return Err(Flaw::Escape);
+    }
+    request_of(words::first(line)).ok_or(Flaw::Name)
+}
+
 fn put_answer(line: &[u8], out: &mut Space)
     ensures { out.new ≡ over (answer_of line.now) out.old }
 {
-    if LONGEST < line.len() {
-        output::put_bad(out, Flaw::Length);
-    } else if escapes::is_plain(line) {
-        match request_of(words::first(line)) {
-            Some(request) => answer_request(request, words::rest(line), out),
-            None => output::put_bad(out, Flaw::Name),
-        }
-    } else {
-        output::put_bad(out, Flaw::Escape);
+    match read_request(line) {
+        Ok(request) => answer_request(request, words::rest(line), out),
+        Err(flaw) => output::put_bad(out, flaw),
     }
 }
 
@@ -191,7 +201,9 @@ fn put_help(out: &mut Space)
     out.put(&table);
 }
 
-// The requests with their arguments, one a line, at the start of the lent bytes; what has no room is left out.
+// The requests with their arguments, one a line, at the start of the lent bytes; what has no room is left out. It
+// begins and ends as `answer` does. One function for both would take what is put as a closure, and would have to
+// require that it only adds: no plainer.
 pub fn help(out: &mut [u8]) -> usize
     ensures { Adds help_text out.old 0 out.new result }
 {

@@ -1,8 +1,10 @@
 -- The entries of the table of directions, and what a shift by each of them gives.
-use Rattle.std.proofs.Common.{◌≡◌, ℕ, zero, suc, ◌*◌, ◌/◌, ◌%◌, ◌^◌, ◌<◌, ◌≤◌, true, false, T, [], ◌∷◌, get_or, ℤ, pos, negsuc, ◌-ℤ◌, nat_abs, refl, true≢false, arith, w32, w64, Fits, SFits, to_z, of_z}
+use Rattle.std.proofs.Common.{◌≡◌, ℕ, zero, suc, ◌*◌, ◌/◌, ◌%◌, ◌^◌, ◌<◌, ◌≤◌, sym, true, false, T, [], ◌∷◌, get_or, ℤ, pos, negsuc, ◌-ℤ◌, nat_abs, refl, ap, ◌∙◌, true≢false, arith, w32, w64, Fits, SFits, to_z, of_z}
 use mathlib.Core.Bool.{false≢true}
+use Prim.Native.Nat.{min}
+use native.Mathlib.Nat.{min-eq_right, min-le_right}
 use lib.Signed.{lt_z, non_neg}
-use Rattle.squares.specs.Directions.{direction_at, down_right, shifted}
+use Rattle.squares.specs.Directions.{down_right, direction_at, shifted}
 
 -- an index above 2 is down-right
 pub beyond : (d : ℕ) → 3 ≤ d → direction_at d ≡ down_right
@@ -10,6 +12,19 @@ beyond zero h = absurd (omega arith)
 beyond (suc zero) h = absurd (omega arith)
 beyond (suc (suc zero)) h = absurd (omega arith)
 beyond (suc (suc (suc d))) h = refl
+
+-- an index above 3 is cut to 3
+pub index_lt : (at d : ℕ) → at ≡ min d 3 → at < 4
+index_lt at d e = omega (arith, e, min-le_right d 3)
+
+cut : (d : ℕ) → direction_at (min d 3) ≡ direction_at d
+cut zero = refl
+cut (suc zero) = refl
+cut (suc (suc zero)) = refl
+cut (suc (suc (suc d))) = ap direction_at (min-eq_right (omega arith)) ∙ sym (beyond (suc (suc (suc d))) (omega arith))
+
+pub same_direction : (at d : ℕ) → at ≡ min d 3 → direction_at at ≡ direction_at d
+same_direction at d e = ap direction_at e ∙ cut d
 
 -- the entry at d, and its opposite
 abbrev pub step : ℕ → ℤ

@@ -37,7 +37,7 @@ pub fn wrapping_mul(a: u64, b: u64) -> u64
 pub fn splitmix64(state: u64) -> Drawn
     ensures { result ≡ splitmix64_of state }
 {
-    let next = std::num::wrapping_add_u64(state, 0x9E37_79B9_7F4A_7C15);
+    let next = state.wrapping_add(0x9E37_79B9_7F4A_7C15);
     let y = wrapping_mul(next ^ (next >> 30), 0xBF58_476D_1CE4_E5B9);
     let z = wrapping_mul(y ^ (y >> 27), 0x94D0_49BB_1331_11EB);
     Drawn {

@@ -1,5 +1,5 @@
 -- What the byte loops find, place by place: trimming, finding, splitting at a place, a square's digits.
-use Prim.Native.Nat.{ℕ, suc, ◌+◌, ◌-◌, ◌≤◌, ◌<◌}
+use Prim.Native.Nat.{ℕ, zero, suc, ◌+◌, ◌-◌, ◌≤◌, ◌<◌}
 use mathlib.Core.Path.{◌≡◌, refl, ap, sym, subst, ◌∙◌}
 use mathlib.Core.List.{List, [], ◌∷◌, ◌++◌}
 use mathlib.Core.Bool.{Bool, true, false, cond, not, ◌||◌, ◌&&◌}
@@ -8,11 +8,13 @@ use native.Mathlib.Numerals.{add-one}
 use lib.ListN.{length, take, drop, get_or, length-drop}
 use lib.Seq.{drop-cons, take-suc, take_all, take-length}
 use lib.Dec.{leb, ltb, eqb, leb-suc-suc}
-use borrow.Author.Tests.{lt-ltb, ltb-true, ltb-false}
+use borrow.Author.Tests.{le-leb, lt-leb, lt-ltb, ltb-true, ltb-false}
 use Rattle.texts.specs.Bytes.{ascii, is, holds, trim_start, keep_end, trim_end, up_to, after_or, after_first, strip, index_of, IsIndex}
 use lib.Pointwise.{pointwise}
-use Rattle.std.specs.List.{list_all, position_or_len}
+use Rattle.std.specs.List.{position_or_len}
 use Rattle.std.specs.Option.{unwrap_or}
+use Rattle.std.specs.Bool.{MatchBool}
+use Rattle.std.specs.Str.{IsAscii, IsNotAscii}
 use Rattle.std.proofs.Common.{Bor}
 use Rattle.std.specs.Prelude.{None, Some, MatchOption}
 use Rattle.std.specs.declared.option.Option.{Option}
@@ -26,10 +28,25 @@ pub rest : (s : List ℕ) (i : ℕ) → take (length s - i) (drop i s) ≡ drop 
 rest s i = take_all (length s - i) (drop i s) (simp length-drop (omega arith))
 
 -- ---- ASCII
-pub all_ascii : (s : List ℕ) → list_all (λ b. leb b 127) s ≡ ascii s
+pub all_ascii : (s : List ℕ) → ((i : ℕ) → get_or s i 0 < 128) → true ≡ ascii s
 unfolding ascii
-all_ascii [] = refl
-all_ascii (b ∷ s) = ap (λ (t : Bool). leb b 127 && t) (all_ascii s)
+all_ascii [] h = refl
+all_ascii (b ∷ s) h = let l : b < 128 = h 0 in rw (le-leb b 127 (omega (arith, l))) (all_ascii s (λ i. h (suc i)))
+
+pub some_other : (s : List ℕ) (i : ℕ) → 128 ≤ get_or s i 0 → false ≡ ascii s
+unfolding ascii
+some_other [] i h = absurd (omega (arith, h))
+some_other (b ∷ s) zero h = rw (lt-leb b 127 (omega (arith, h))) refl
+some_other (b ∷ s) (suc i) h = go (leb b 127) (some_other s i h)
+  where
+    go : (t : Bool) → false ≡ ascii s → false ≡ (t && ascii s)
+    go true e = e
+    go false e = refl
+
+-- by the cases of the library
+pub ascii_cases : (r : Bool) (s : List ℕ) → MatchBool r (IsAscii s) (IsNotAscii s) → r ≡ ascii s
+ascii_cases true s h = all_ascii s h
+ascii_cases false s h = some_other s h.0 h.1
 
 -- ---- trimming
 pub start_cut : (p : ℕ → Bool) (s : List ℕ) → 0 < length s → p (get_or s 0 0) ≡ true → trim_start p s ≡ trim_start p (take (length s - 1) (drop 1 s))

@@ -4,11 +4,10 @@ use mathlib.Core.Path.{◌≡◌, refl, ap, sym, ◌∙◌, subst}
 use mathlib.Core.List.{List, [], ◌∷◌, ◌++◌, append_assoc, append-nil}
 use mathlib.Core.Bool.{Bool, true, false, cond, ◌&&◌, true≢false, false≢true}
 use native.Mathlib.Omega.{arith}
-use lib.ListN.{length, take, drop, get_or, length-drop, drop_of_length-le}
-use lib.Seq.{drop-drop}
+use lib.ListN.{length, take, drop, get_or, length-drop}
 use lib.Dec.{eqb, leb}
 use borrow.Author.Tests.{le-leb, lt-leb, eq-eqb, ne_eqb}
-use Rattle.texts.proofs.Cuts.{drop_next, rest}
+use Rattle.texts.proofs.Cuts.{rest}
 use Rattle.texts.proofs.Overs.{over_none, over_then, over_lent}
 use Rattle.texts.proofs.Pieces.{whole}
 use Rattle.texts.specs.Lent.{over}
@@ -42,19 +41,19 @@ pub pair_good : (a b : ℕ) (p : Option (ℕ × ℕ)) → a ≤ 15 → b ≤ 15 
 pair_good a b p k h = rw (le-leb a 15 k, le-leb b 15 h)
 
 -- ---- an escape
-pub escape_none : (s : List ℕ) → length s ≡ 0 → escape_of s ≡ None
+pub escape_none : (s : List ℕ) → length s < 1 → escape_of s ≡ None
 unfolding escape_of
 escape_none [] e = refl
 escape_none (c ∷ s) e = absurd (omega arith)
 
-pub escape_at : (s : List ℕ) (k : ℕ) → (length s ≡ 0 → ⊥) → get_or s 0 0 ≡ k → escape_of s ≡ escape_of (k ∷ drop 1 s)
-escape_at [] k h e = absurd (h refl)
+pub escape_at : (s : List ℕ) (k : ℕ) → 1 ≤ length s → get_or s 0 0 ≡ k → escape_of s ≡ escape_of (k ∷ drop 1 s)
+escape_at [] k h e = absurd (omega arith)
 escape_at (c ∷ s) k h e = ap (λ (x : ℕ). escape_of (x ∷ s)) e
 
-pub escape_other : (s : List ℕ) → (length s ≡ 0 → ⊥) → (get_or s 0 0 ≡ 92 → ⊥) → (get_or s 0 0 ≡ 115 → ⊥) → (get_or s 0 0 ≡ 116 → ⊥)
+pub escape_other : (s : List ℕ) → 1 ≤ length s → (get_or s 0 0 ≡ 92 → ⊥) → (get_or s 0 0 ≡ 115 → ⊥) → (get_or s 0 0 ≡ 116 → ⊥)
     → (get_or s 0 0 ≡ 110 → ⊥) → (get_or s 0 0 ≡ 114 → ⊥) → (get_or s 0 0 ≡ 120 → ⊥) → escape_of s ≡ None
 unfolding escape_of
-escape_other [] h a b c d e f = absurd (h refl)
+escape_other [] h a b c d e f = absurd (omega arith)
 escape_other (x ∷ s) h a b c d e f = rw (ne_eqb x 92 a, ne_eqb x 115 b, ne_eqb x 116 c, ne_eqb x 110 d, ne_eqb x 114 e, ne_eqb x 120 f)
 
 used_cond : (t : Bool) (p q : Option (ℕ × ℕ)) (k : ℕ) → UsedIn p k → UsedIn q k → UsedIn (cond t p q) k

@@ -1,10 +1,12 @@
 -- The texts of numbers, refusals and bad requests.
-use Rattle.std.specs.Prelude.{ℕ, zero, suc, ◌/◌, List, ◌∷◌, ◌++◌, true, false, ltb, ℤ, pos, negsuc}
+use Rattle.std.specs.Prelude.{◌≡◌, ℕ, zero, suc, ◌/◌, List, ◌∷◌, ◌++◌, true, false, ltb, ℤ, pos, negsuc}
 use Prim.Native.Char.{code}
-use Rattle.io.specs.Digits.{last_digits}
+use Rattle.io.specs.Digits.{last_digits, IsDigitCount}
 use Rattle.squares.specs.Refusals.{number_of, square_of}
 use Rattle.squares.specs.declared.refusal.Refusal.{Refusal}
 use Rattle.texts.specs.Bytes.{bytes}
+use Rattle.texts.specs.Lent.{over}
+use Rattle.texts.specs.declared.space.Space.{Space}
 use Rattle.wording.specs.declared.output.Flaw.{Flaw}
 use Rattle.wording.specs.declared.output.Flaw.TheVariants as flaw
 
@@ -25,6 +27,12 @@ hex n = last_digits 16 (places 16 15 n) n
 -- the 16 hexadecimal digits of a hash
 unfoldable pub hash : ℕ → List ℕ
 hash n = last_digits 16 16 n
+
+-- the digits of n that were written: at least so many, and no more than n needs
+pub record Wide (least n : ℕ) (old new : Space) : Type 0 where
+  pub k : ℕ
+  pub count : IsDigitCount 16 least n k
+  pub written : new ≡ over (last_digits 16 k n) old
 
 unfoldable pub signed : ℤ → List ℕ
 signed (pos n) = decimal n

@@ -29,11 +29,11 @@ fn high(b: u8) -> Option<u32>
 fn hex_escape(s: &[u8]) -> Option<(u8, usize)>
     ensures { result ≡ hex_escape s.now }
 {
-    if s.len() < 2 {
+    let [x, y, ..] = s else {
         return None;
-    }
-    let a = high(s[0])?;
-    let b = numbers::digit(s[1])?;
+    };
+    let a = high(*x)?;
+    let b = numbers::digit(*y)?;
     Some(((a * 16 + b) as u8, 3))
 }
 
@@ -43,16 +43,16 @@ fn hex_escape(s: &[u8]) -> Option<(u8, usize)>
 fn read_escape(s: &[u8]) -> Option<(u8, usize)>
     ensures { (result ≡ escape_of s.now) × UsedIn result (length s.now) }
 {
-    if s.len() == 0 {
+    let [letter, digits @ ..] = s else {
         return None;
-    }
-    match s[0] {
+    };
+    match *letter {
         b'\\' => Some((b'\\', 1)),
         b's' => Some((b' ', 1)),
         b't' => Some((b'\t', 1)),
         b'n' => Some((b'\n', 1)),
         b'r' => Some((b'\r', 1)),
-        b'x' => hex_escape(&s[1..]),
+        b'x' => hex_escape(digits),
         _ => None,
     }
 }
@@ -75,7 +75,8 @@ pub fn is_plain(s: &[u8]) -> bool
     true
 }
 
-// Writes the text of a word; nothing where an escape in it is invalid.
+// Writes the text of a word; nothing where an escape in it is invalid. The walk is that of `is_plain`. An iterator
+// for both is no plainer: each of its items would be a byte or an invalid escape, which ends the walk.
 #[tactic(auto, using(crate::proofs::Escaped::over_undone_none, crate::proofs::Escaped::undoing_start))]
 fn put_plain(out: &mut Space, s: &[u8])
     ensures { out.new ≡ over (undone s.now) out.old }

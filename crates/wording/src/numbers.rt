@@ -53,11 +53,8 @@ pub fn unsigned(s: &[u8]) -> Option<u64>
 pub fn given(s: &[u8], limit: u64) -> Option<u64>
     ensures { (result ≡ given_of limit s.now) × AtMost limit result }
 {
-    if 1 < s.len() {
-        if s[0] == b'0' {
-            return None;
-        }
-        return number(s, 10, limit);
+    if let [b'0', _, ..] = s {
+        return None;
     }
     number(s, 10, limit)
 }
@@ -93,7 +90,8 @@ fn positive(n: Option<u64>) -> Option<i32>
     i32::try_from(n?).ok()
 }
 
-// The number with its sign changed, down to -2^31. The opposite of that smallest number is past 32 bits, so the sign is changed in 64.
+// The number with its sign changed, down to -2^31. The opposite of that smallest number is past 32 bits, so the sign is
+// changed in 64.
 fn negative(n: Option<u64>) -> Option<i32>
     ensures { result ≡ negative_of n }
 {

@@ -1,7 +1,7 @@
 // Writers of answers. An answer is written piece by piece into a space; what has no room is left out.
-ghost use Rattle.std.specs.Prelude.{◌≡◌};
+ghost use Rattle.std.specs.Prelude.{◌≡◌, ◌≤◌};
 ghost use Rattle.texts.specs.Lent.{over};
-ghost use Rattle.wording.specs.Output.{decimal, hex, hash, signed, refusal_text, number_word, flaw_word, bad};
+ghost use Rattle.wording.specs.Output.{decimal, hex, hash, signed, refusal_text, number_word, flaw_word, bad, Wide};
 
 use squares::refusal::Refusal;
 use texts::space::Space;
@@ -33,37 +33,39 @@ pub fn put_decimal(out: &mut Space, n: u64)
     out.put(&digits[..k]);
 }
 
-// Writes a signed number. The smallest one has no opposite, so 1 is added before the sign is changed.
+// Writes a signed number.
 pub fn put_signed(out: &mut Space, z: i32)
     ensures { out.new ≡ over (signed z) out.old }
 {
     if z < 0 {
         out.put_byte(b'-');
-        put_decimal(out, (-(z + 1)) as u64 + 1);
-    } else {
-        put_decimal(out, z as u64);
     }
+    put_decimal(out, z.unsigned_abs() as u64);
+}
+
+// Writes a number in hexadecimal, with at least so many digits, and no more than it needs.
+#[tactic(auto)]
+fn put_wide(out: &mut Space, n: u64, least: usize)
+    requires { (1 ≤ least) × (least ≤ 16) }
+    ensures { Wide least n out.old out.new }
+{
+    let mut digits = [0u8; 16];
+    let k = io::hex(n, least, &mut digits);
+    out.put(&digits[..k]);
 }
 
 // Writes a number in hexadecimal, without needless zeros.
-#[tactic(auto, using(texts::proofs::Overs::over_as, crate::proofs::Numerals::hex_is))]
 pub fn put_hex(out: &mut Space, n: u64)
     ensures { out.new ≡ over (hex n) out.old }
 {
-    let mut digits = [0u8; 16];
-    let k = io::hex(n, 1, &mut digits);
-    out.put(&digits[..k]);
+    put_wide(out, n, 1);
 }
 
-// Writes the 16 hexadecimal digits of a hash. One function for this and `put_hex` is no plainer: it has to say how many
-// digits there are.
-#[tactic(auto, using(texts::proofs::Overs::over_as, crate::proofs::Numerals::hash_is))]
+// Writes the 16 hexadecimal digits of a hash.
 pub fn put_hash(out: &mut Space, n: u64)
     ensures { out.new ≡ over (hash n) out.old }
 {
-    let mut digits = [0u8; 16];
-    let k = io::hex(n, 16, &mut digits);
-    out.put(&digits[..k]);
+    put_wide(out, n, 16);
 }
 
 // Writes `err`, the number of the refusal and its square: `err 7 31`.

@@ -1,6 +1,7 @@
 -- After i plays the first i answers are written, the later ones are as they were, and the game is that of the first i moves.
 use mathlib.Core.Path.{◌≡◌, sym, ap, ap₂, ◌∙◌}
-use Prim.Native.Nat.{◌<◌, ◌+◌, ◌*◌, ◌/◌}
+use mathlib.Core.List.{[]}
+use Prim.Native.Nat.{◌<◌, ◌/◌}
 use lib.ListN.{length, take, get_or, length-set}
 use lib.Seq.{take_all, length-take-le}
 use Rattle.positions.specs.Moves.{move}
@@ -8,7 +9,7 @@ use Rattle.positions.specs.declared.moves.Move.{Move}
 use Rattle.games.specs.Play.{play_of}
 use Rattle.games.specs.Demand3.{answers_to, game_after}
 use Rattle.games.specs.Replay.{moves_in}
-use Rattle.games.proofs.Runs.{answers_length, answers_more, after_more, write_more, third, moves_length, moves_at, played_in}
+use Rattle.games.proofs.Runs.{answers_length, answers_more, after_more, write_more, moves_length, moves_at, played_in}
 use native.Mathlib.Omega.{arith}
 use Rattle.games.proofs.replay.play_all.Goals as goal
 
@@ -27,11 +28,13 @@ loop-i-preserved c =
     let e : length ms ≡ length ns / 3 = moves_length ns in
     let k : i < length ms = omega arith in
     let q : i < length out = omega (arith, c.requires) in
-    let m = moves_at blank ns i (third i (length ns) h) in
+    let r = get_or c.as_chunks.result.0.now i [] in
+    let m : get_or ms i blank ≡ move (get_or r 0 0) (get_or r 1 0) (get_or r 2 0) =
+    rw c.as_chunks.ensures.front (moves_at blank ns (length ns / 3) i h (omega arith)) in
     let p : c.play-played.result ≡ play_of now (get_or ms i blank) =
     c.play-played.ensures
     ∙ ap₂ play_of c.loop-i.invariant.3 c.move_in.ensures
-    ∙ played_in now (get_or ns (3 * i) 0) (get_or ns (3 * i + 1) 0) (get_or ns (3 * i + 2) 0)
+    ∙ played_in now (get_or r 0 0) (get_or r 1 0) (get_or r 2 0)
     ∙ ap (play_of now) (sym m) in
     let n : length (answers_to play_of start (take i ms)) ≡ i = answers_length start (take i ms) ∙ length-take-le i ms (omega arith) in (
       omega arith,

@@ -7,7 +7,7 @@ use Prim.Native.Nat.{ℕ, ◌-◌}
 use Rattle.movegen.specs.Counts.{depth_count}
 use Rattle.movegen.specs.Generate.{seen}
 use Rattle.movegen.proofs.LastPly.{last_ply}
-use Rattle.movegen.proofs.Counted.{depth_none, depth_many, one_more, many, in_array, sum_done, next_accepted, sum_fits, sum_again, sum_refused}
+use Rattle.movegen.proofs.Counted.{depth_none, depth_many, one_more, many, sum_done, next_accepted, sum_fits, sum_again, sum_refused}
 use Rattle.movegen.proofs.perft.+count.Goals as goal
 
 pub returns-then-depth-eq0 : goal.returns-then-depth-eq0
@@ -22,34 +22,31 @@ returns-in_default t c =
     depth_many (c.args.depth - 1) (seen c.args.v) (many c.args.v c.requires.0 (sym c.in_default.is ∙ c.generate.ensures))
     ∙ one_more c.args.depth (seen c.args.v) c.if-depth-eq0.false
 
-pub shared_ref_as_front-mv-items : goal.shared_ref_as_front-mv-items
-shared_ref_as_front-mv-items t c = in_array c.args.v c.requires.0 c.in-Some.list c.in-Some.ensures
-
 pub count-requires : goal.count-requires
 count-requires t c = (
   omega arith,
   (
-    next_accepted c.args.v c.requires.0 _ c.in-Some.ensures (c.args.depth - 1) _ _ c.loop-mv.invariant c.loop-mv-test.true _ c.next.ensures,
+    next_accepted c.args.v c.requires.0 _ c.in-Some.ensures _ c.entries-mv-items.ensures (c.args.depth - 1) _ _ c.loop-mv.invariant c.loop-mv-test.true _ c.next.ensures,
     omega (arith, c.requires.1),
   ),
 )
 
 pub overflow_add-sum : goal.overflow_add-sum
 overflow_add-sum t c =
-    omega (arith, sum_fits c.args.v c.requires.0 _ c.in-Some.ensures (c.args.depth - 1) _ _ c.loop-mv.invariant c.loop-mv-test.true _ c.next.ensures (omega (arith, c.requires.1)) _ c.in_ok-sum.ensures _ refl)
+    omega (arith, sum_fits c.args.v c.requires.0 _ c.in-Some.ensures _ c.entries-mv-items.ensures (c.args.depth - 1) _ _ c.loop-mv.invariant c.loop-mv-test.true _ c.next.ensures (omega (arith, c.requires.1)) _ c.in_ok-sum.ensures _ refl)
 
 pub returns-in_err-sum : goal.returns-in_err-sum
 returns-in_err-sum t c =
     let q : c.from_residual.result ≡ Err c.in_err-sum.field-0.0 = search rules in
     q
-    ∙ sum_refused c.args.v c.requires.0 _ c.in-Some.ensures (c.args.depth - 1) _ _ c.loop-mv.invariant c.loop-mv-test.true _ c.next.ensures (omega (arith, c.requires.1)) _ c.in_err-sum.ensures _ refl
+    ∙ sum_refused c.args.v c.requires.0 _ c.in-Some.ensures _ c.entries-mv-items.ensures (c.args.depth - 1) _ _ c.loop-mv.invariant c.loop-mv-test.true _ c.next.ensures (omega (arith, c.requires.1)) _ c.in_err-sum.ensures _ refl
     ∙ one_more c.args.depth (seen c.args.v) c.if-depth-eq0.false
 
 pub loop-mv-preserved : goal.loop-mv-preserved
 loop-mv-preserved t c =
-    sum_again c.args.v c.requires.0 _ c.in-Some.ensures (c.args.depth - 1) _ _ c.loop-mv.invariant c.loop-mv-test.true _ c.next.ensures (omega (arith, c.requires.1)) _ c.in_ok-sum.ensures _ refl
+    sum_again c.args.v c.requires.0 _ c.in-Some.ensures _ c.entries-mv-items.ensures (c.args.depth - 1) _ _ c.loop-mv.invariant c.loop-mv-test.true _ c.next.ensures (omega (arith, c.requires.1)) _ c.in_ok-sum.ensures _ refl
 
 pub returns : goal.returns
 returns t c =
-    sum_done c.args.v c.requires.0 _ c.in-Some.ensures (c.args.depth - 1) _ _ c.loop-mv.invariant (omega (arith, c.loop-mv-test.false))
+    sum_done c.args.v c.requires.0 _ c.in-Some.ensures _ c.entries-mv-items.ensures (c.args.depth - 1) _ _ c.loop-mv.invariant (omega (arith, c.loop-mv-test.false))
     ∙ one_more c.args.depth (seen c.args.v) c.if-depth-eq0.false

@@ -3,7 +3,7 @@ use Rattle.std.proofs.Common.{rules}
 use Rattle.std.specs.Prelude.{Err}
 use mathlib.Core.Path.{◌≡◌, refl, sym, ◌∙◌}
 use Rattle.movegen.specs.Generate.{seen}
-use Rattle.movegen.proofs.Counted.{depth_many, many, listing_short, in_array, sum_below, next_accepted, sum_again, sum_refused, sum_done}
+use Rattle.movegen.proofs.Counted.{depth_many, many, listing_short, as_many, sum_below, next_accepted, sum_again, sum_refused, sum_done}
 use Rattle.movegen.proofs.Divided.{dividing_more, dividing_done, divided_refused}
 use native.Mathlib.Omega.{arith}
 use Rattle.movegen.proofs.perft.split.Goals as goal
@@ -12,13 +12,10 @@ pub returns-in_default : goal.returns-in_default
 returns-in_default c =
     divided_refused c.args.plies (seen c.args.v) _ (sym (depth_many c.args.plies (seen c.args.v) (many c.args.v c.requires.0 (sym c.in_default.is ∙ c.generate.ensures))))
 
-pub shared_ref_as_front-mv-items : goal.shared_ref_as_front-mv-items
-shared_ref_as_front-mv-items c = in_array c.args.v c.requires.0 c.in-Some.list c.in-Some.ensures
-
 pub count-requires : goal.count-requires
 count-requires c =
     let d = c.loop-i.invariant.1 in (
-      next_accepted c.args.v c.requires.0 _ c.in-Some.ensures c.args.plies _ _ d.counting c.loop-i-test.true _ c.next.ensures,
+      next_accepted c.args.v c.requires.0 _ c.in-Some.ensures _ c.entries-mv-items.ensures c.args.plies _ _ d.counting c.loop-i-test.true _ c.next.ensures,
       omega (arith, c.requires.1),
     )
 
@@ -28,22 +25,24 @@ returns-in_err-counts c =
     let h = c.loop-i-test.true in
     let q : c.from_residual.result ≡ Err c.in_err-counts.field-0.0 = search rules in
     q
-    ∙ divided_refused c.args.plies (seen c.args.v) _ (sym (sum_refused c.args.v c.requires.0 _ c.in-Some.ensures c.args.plies _ _ d.counting h _ c.next.ensures c.requires.1 _ c.in_err-counts.ensures _ refl))
+    ∙ divided_refused c.args.plies (seen c.args.v) _ (sym (sum_refused c.args.v c.requires.0 _ c.in-Some.ensures _ c.entries-mv-items.ensures c.args.plies _ _ d.counting h _ c.next.ensures c.requires.1 _ c.in_err-counts.ensures _ refl))
 
 pub loop-i-preserved : goal.loop-i-preserved
 loop-i-preserved c =
     let d = c.loop-i.invariant.1 in
     let h = c.loop-i-test.true in
-    let w = listing_short c.args.v c.requires.0 _ c.in-Some.ensures c.args.plies _ _ d.counting in (
+    let w = listing_short c.args.v c.requires.0 _ c.in-Some.ensures _ c.entries-mv-items.ensures c.args.plies _ _ d.counting in
+    let m = as_many c.args.v c.requires.0 _ c.in-Some.ensures _ c.entries-mv-items.ensures c.args.plies _ _ d.counting in (
       omega (arith, h),
-      dividing_more c.args.plies (seen c.args.v) _ _ _ d (omega (arith, w.len, h)) (omega (arith, w.len, w.few, h))
-          (sum_below c.args.v c.requires.0 _ c.in-Some.ensures c.args.plies _ _ d.counting h _ c.next.ensures _ _ c.in_ok-counts.ensures refl)
-          (sum_again c.args.v c.requires.0 _ c.in-Some.ensures c.args.plies _ _ d.counting h _ c.next.ensures c.requires.1 _ c.in_ok-counts.ensures _ refl),
+      dividing_more c.args.plies (seen c.args.v) _ _ _ d (omega (arith, m, h)) (omega (arith, m, w.few, h))
+          (sum_below c.args.v c.requires.0 _ c.in-Some.ensures _ c.entries-mv-items.ensures c.args.plies _ _ d.counting h _ c.next.ensures _ _ c.in_ok-counts.ensures refl)
+          (sum_again c.args.v c.requires.0 _ c.in-Some.ensures _ c.entries-mv-items.ensures c.args.plies _ _ d.counting h _ c.next.ensures c.requires.1 _ c.in_ok-counts.ensures _ refl),
     )
 
 pub returns : goal.returns
 returns c =
     let d = c.loop-i.invariant.1 in
-    let w = listing_short c.args.v c.requires.0 _ c.in-Some.ensures c.args.plies _ _ d.counting in
-    dividing_done c.args.plies (seen c.args.v) _ _ _ d (omega (arith, w.len, c.loop-i.invariant.0, c.loop-i-test.false)) w.few w.whole
-    (sum_done c.args.v c.requires.0 _ c.in-Some.ensures c.args.plies _ _ d.counting c.loop-i-test.false)
+    let w = listing_short c.args.v c.requires.0 _ c.in-Some.ensures _ c.entries-mv-items.ensures c.args.plies _ _ d.counting in
+    let m = as_many c.args.v c.requires.0 _ c.in-Some.ensures _ c.entries-mv-items.ensures c.args.plies _ _ d.counting in
+    dividing_done c.args.plies (seen c.args.v) _ _ _ d (omega (arith, m, c.loop-i.invariant.0, c.loop-i-test.false)) w.few w.whole
+    (sum_done c.args.v c.requires.0 _ c.in-Some.ensures _ c.entries-mv-items.ensures c.args.plies _ _ d.counting c.loop-i-test.false)

@@ -1,5 +1,5 @@
 -- Each part is that of the definition.
-use mathlib.Core.Path.{ap, ap₂, ◌∙◌}
+use mathlib.Core.Path.{ap, ◌∙◌}
 use Prim.Native.Nat.{ℕ}
 use Rattle.squares.specs.Sets.{without}
 use Rattle.squares.specs.declared.piece.Color.{Color}

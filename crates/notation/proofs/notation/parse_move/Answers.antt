@@ -5,6 +5,8 @@ use mathlib.Core.Bool.{Bool, true, false, cond}
 use lib.Dec.{leb}
 use lib.ListN.{length}
 use Rattle.squares.specs.declared.refusal.Refusal.TheVariants.{BadPosition, TooManyMoves}
+use borrow.Author.Rules.{rules}
+use Rattle.squares.proofs.Refusals.{holds, fails}
 use Rattle.positions.specs.Acceptance.{sound}
 use Rattle.positions.specs.Boards.{board_of}
 use Rattle.positions.specs.declared.position.Position.{Position}
@@ -30,10 +32,12 @@ returns-in-Ok c =
     rw (← c.read_move.ensures, c.in-Ok.is)
     (c.fit.ensures ∙ position_first _ _)
 
-pub returns-then-sound : goal.returns-then-sound
+pub returns-in_err-unless-in-Err : goal.returns-in_err-unless-in-Err
 unfolding parse_move_of
-returns-then-sound c = rw (sym c.sound.ensures ∙ c.if-sound.true, ← c.read_move.ensures, c.in-Err.is) refl
+returns-in_err-unless-in-Err c =
+    let q : c.from_residual.result ≡ Err BadPosition = search rules in
+    rw (sym c.sound.ensures ∙ fails _ _ c.in_err-unless-in-Err.ensures) q
 
-pub returns-else-sound : goal.returns-else-sound
+pub returns-in_ok-unless-in-Err : goal.returns-in_ok-unless-in-Err
 unfolding parse_move_of
-returns-else-sound c = rw (sym c.sound.ensures ∙ c.if-sound.false) refl
+returns-in_ok-unless-in-Err c = rw (sym c.sound.ensures ∙ holds BadPosition c.sound.result c.in_ok-unless-in-Err.ensures, ← c.read_move.ensures, c.in-Err.is) refl

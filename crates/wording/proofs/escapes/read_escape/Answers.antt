@@ -8,4 +8,4 @@ use Rattle.wording.proofs.escapes.read_escape.Goals as goal
 pub returns-in-120 : goal.returns-in-120
 unfolding escape_of
 returns-in-120 c =
-    let s = c.args.s.now in laws.escaped s _ (c.hex_escape.ensures ∙ ap hex_escape (rest s 1) ∙ sym (laws.escape_at s 120 c.if-s-eq0.false c.in-120.is))
+    let s = c.args.s.now in laws.escaped s _ (c.hex_escape.ensures ∙ ap hex_escape (rest s 1) ∙ sym (laws.escape_at s 120 c.in-len1-up.len_at_least c.in-120.is))

@@ -5,7 +5,6 @@ use mathlib.Core.Path.{◌≡◌, ◌∙◌}
 use lib.Dec.{lit<}
 use Rattle.squares.specs.declared.refusal.Refusal.TheVariants.{BadPosition, BeyondLimit}
 use Rattle.squares.proofs.Refusals.{holds, fails}
-use Rattle.positions.specs.Acceptance.{sound}
 use Rattle.scores.proofs.Integers.{read}
 use Rattle.scores.proofs.ScoreSums.{refused_12, refused_10, scored_of}
 use Rattle.scores.proofs.eval.Classical.evaluate.Goals as goal

@@ -1,0 +1,10 @@
+-- The digits that were written are those of the definition.
+use mathlib.Core.Path.{refl}
+use Rattle.texts.proofs.Overs.{over_as}
+use Rattle.wording.proofs.Numerals.{hex_is}
+use Rattle.wording.proofs.output.put_hex.Goals as goal
+
+pub returns : goal.returns
+returns c =
+    let w = c.put_wide.ensures in
+    over_as _ _ _ _ (hex_is c.args.n w.k _ c.ranges.n.fits w.count refl) w.written
