@@ -29,10 +29,10 @@ module _ {N : ℕ} where
   pub king_kept : (them empty : ℕ) (s₀ : Captures N) (at c : ℕ) (skip : ℕ → Bool) (d : ℕ) (s : Captures N) (e : Bool) → kings.Walked note_of them empty s₀ at c skip d s e → Kept s₀ s
   king_kept them empty s₀ at c skip d s e w = folded (up_to (kings.branch them empty at c skip (size (without them c))) d) (w.found (size (without them c)) (omega arith))
 
-  pub ray_kept : (them empty c d o n : ℕ) (s₂ s : Captures N) (e₂ e : Bool) (land : ℕ) → kings.Rayed note_of them empty c d o n s₂ s e₂ e land → Kept s₂ s
-  ray_kept them empty c d o n s₂ s e₂ e land w =
+  pub ray_kept : (them empty c d o n : ℕ) (s₂ s : Captures N) (e₂ e : Bool) (left : List ℕ) → kings.Rayed note_of them empty c d o n s₂ s e₂ e left → Kept s₂ s
+  ray_kept them empty c d o n s₂ s e₂ e left w =
       let on = flat_map (kings.onward them empty c d o n (size (without them c))) in
-      both (on (landings far (direction_at d) empty n)) (on (landings w.fuel (direction_at d) empty land)) (w.same (size (without them c)) (omega arith))
+      both (on (landings far (direction_at d) empty n)) (on left) (w.same (size (without them c)) (omega arith))
 
   -- a search on from s is one on the board of s₀
   pub man_on : (s₀ s : Captures N) (at c : ℕ) (r : Captures N) → Kept s₀ s → Man note_of s.them s.empty s at c r → Man note_of s₀.them s₀.empty s at c r

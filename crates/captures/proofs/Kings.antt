@@ -2,24 +2,21 @@
 use mathlib.Core.Path.{◌≡◌, refl, sym, ap, ap₂, ◌∙◌}
 use mathlib.Core.Logic.{◌⊎◌, inl, inr, ⊎_elim}
 use mathlib.Core.Bool.{Bool, true, false, not, cond, ◌&&◌, ◌||◌}
-use mathlib.Core.List.{List, [], foldl, foldl-append, flat_map}
+use mathlib.Core.List.{List, [], ◌∷◌, foldl, foldl-append, flat_map}
 use Prim.Native.Nat.{ℕ, zero, suc, ◌+◌, ◌≤◌, ◌<◌, ◌^◌}
 use native.Mathlib.Nat.{not-suc-le-zero}
 use native.Mathlib.Numerals.{add-one}
 use native.Mathlib.Omega.{arith}
 use lib.Dec.{eqb}
 use lib.Bits.{bit_and, bit_or}
-use borrow.Author.Tests.{eq-eqb, ne_eqb, not-false}
+use borrow.Author.Tests.{ne_eqb, not-false}
 use Rattle.squares.specs.Sets.{size, without}
 use Rattle.squares.specs.Directions.{direction_at, shifted}
-use Rattle.squares.proofs.Pointwise.{and_lt}
-use Rattle.squares.proofs.Shifts.{shifted_lt}
 use Rattle.captures.specs.Rays.{far, slide_of, landings}
 use Rattle.captures.specs.Record.{Ending, ending}
 use Rattle.captures.specs.Walks.{up_to, any_up_to}
 use Rattle.captures.specs.Kings.{skip_of, landed_of, king_over, king_land, king_jumps, king_endings, King}
-use Rattle.captures.proofs.Steps.{Enough, enough_0, enough_step, enough_and}
-use Rattle.captures.proofs.Rays.{enough_far}
+use Rattle.captures.proofs.Rays.{none_ahead}
 use Rattle.captures.proofs.Walks.{or_yes, or_no, none_added}
 
 -- ---- one jump
@@ -56,62 +53,47 @@ no_branch them empty at c skip f d q = go (skip d) q
     go false p = rw (not-false (eqb n 0) p)
 
 module _ {S : Type 0} (note : S → Ending → S) (them empty : ℕ) where
-  -- in a walk along the landings: the state s, and the landings from `land` on, come to what s₂ and all of them come to
-  pub record Rayed (c d o n : ℕ) (s₂ s : S) (e₂ e : Bool) (land : ℕ) : Type 0 where
-    pub fits : land < 2 ^ 64
-    pub fuel : ℕ
-    pub enough : Enough (direction_at d) fuel land
+  -- in a walk along the landings: the state s, and the landings that are left, come to what s₂ and all of them come to
+  pub record Rayed (c d o n : ℕ) (s₂ s : S) (e₂ e : Bool) (left : List ℕ) : Type 0 where
     pub same : (f : ℕ) → size (without them c) < suc f
         → foldl note s₂ (flat_map (onward them empty c d o n f) (landings far (direction_at d) empty n))
-        ≡ foldl note s (flat_map (onward them empty c d o n f) (landings fuel (direction_at d) empty land))
-    pub any : ((e ≡ true) × (n ≡ 0 → ⊥)) ⊎ ((land ≡ n) × (e ≡ e₂))
+        ≡ foldl note s (flat_map (onward them empty c d o n f) left)
+    pub any : ((e ≡ true) × (n ≡ 0 → ⊥)) ⊎ ((left ≡ landings far (direction_at d) empty n) × (e ≡ e₂))
 
-  pub ray_start : (c d o n : ℕ) (s₂ : S) (e₂ : Bool) → n < 2 ^ 64 → Rayed c d o n s₂ s₂ e₂ e₂ n
-  ray_start c d o n s₂ e₂ h = record {
-    fits = h;
-    fuel = far;
-    enough = enough_far (direction_at d) n h;
-    same = λ f g. refl;
-    any = inr (refl, refl);
+  pub ray_start : (c d o n : ℕ) (s₂ : S) (e₂ : Bool) (left : List ℕ) → left ≡ landings far (direction_at d) empty n → Rayed c d o n s₂ s₂ e₂ e₂ left
+  ray_start c d o n s₂ e₂ left q = record {
+    same = λ f g. rw q refl;
+    any = inr (q, refl);
   }
 
-  module _ (c d o n : ℕ) (s₂ s : S) (e₂ e : Bool) (land : ℕ) (w : Rayed c d o n s₂ s e₂ e land) where
-    -- a landing follows a first landing
-    pub ray_first : (land ≡ 0 → ⊥) → n ≡ 0 → ⊥
-    ray_first ne = ⊎_elim (λ v. v.1) (λ v z. ne (v.0 ∙ z)) w.any
+  module _ (c d o n : ℕ) (s₂ s : S) (e₂ e : Bool) (left : List ℕ) (w : Rayed c d o n s₂ s e₂ e left) where
+    module _ (land : ℕ) (after : List ℕ) (q : left ≡ land ∷ after) where
+      -- a landing follows a first landing
+      pub ray_first : n ≡ 0 → ⊥
+      ray_first = ⊎_elim (λ v. v.1) (λ v z. apart (sym q ∙ v.0 ∙ none_ahead (direction_at d) empty far n z)) w.any
+        where
+          apart : land ∷ after ≡ [] → ⊥
+          apart e = let z : ◌≡◌ {A = ℕ} 0 1 = cc in omega arith
 
-    pub ray_step : (y : ℕ) (r : S) → size (without them (bit_or c o)) < size (without them c) → (land ≡ 0 → ⊥)
-        → y ≡ shifted (direction_at d) land → King note them empty s land (bit_or c o) (skip_of (landed_of n land d)) r → Rayed c d o n s₂ r e₂ true (bit_and y empty)
-    unfolding landings flat_map
-    ray_step y r less ne ey m = go w.fuel w.enough w.same
-      where
-        onto : (f : ℕ) → size (without them c) < suc f → r ≡ foldl note s (onward them empty c d o n f land)
-        onto f g = m.found f (omega arith)
+      pub ray_step : (r : S) → size (without them (bit_or c o)) < size (without them c) → King note them empty s land (bit_or c o) (skip_of (landed_of n land d)) r → Rayed c d o n s₂ r e₂ true after
+      unfolding flat_map
+      ray_step r less m = record {
+        same = λ f g. w.same f g ∙ rw (q, foldl-append, ← m.found f (omega arith));
+        any = inl (refl, ray_first);
+      }
 
-        go : (k : ℕ) → Enough (direction_at d) k land
-            → ((f : ℕ) → size (without them c) < suc f → foldl note s₂ (flat_map (onward them empty c d o n f) (landings far (direction_at d) empty n))
-            ≡ foldl note s (flat_map (onward them empty c d o n f) (landings k (direction_at d) empty land)))
-            → Rayed c d o n s₂ r e₂ true (bit_and y empty)
-        go zero en sa = absurd (ne (enough_0 (direction_at d) land w.fits en))
-        go (suc k) en sa = record {
-          fits = rw ey (and_lt (shifted (direction_at d) land) empty (shifted_lt (direction_at d) land w.fits));
-          fuel = k;
-          enough = rw ey (enough_and (direction_at d) k (shifted (direction_at d) land) empty (shifted_lt (direction_at d) land w.fits) (enough_step (direction_at d) k land w.fits ne en));
-          same = λ f g. sa f g ∙ rw (ey, ne_eqb _ _ ne, foldl-append, ← onto f g);
-          any = inl (refl, ray_first ne);
-        }
-
-    pub ray_any : land ≡ 0 → e ≡ (e₂ || not (eqb n 0))
+    pub ray_any : left ≡ [] → e ≡ (e₂ || not (eqb n 0))
+    unfolding landings far
     ray_any z =
-        ⊎_elim (λ v. v.0 ∙ or_yes e₂ (not (eqb n 0)) (ap not (ne_eqb _ _ v.1))) (λ v. v.1 ∙ or_no e₂ (not (eqb n 0)) (ap not (eq-eqb _ _ (sym v.0 ∙ z)))) w.any
-
-    pub ray_end : land ≡ 0 → (f : ℕ) → size (without them c) < suc f → s ≡ foldl note s₂ (flat_map (onward them empty c d o n f) (landings far (direction_at d) empty n))
-    unfolding landings flat_map
-    ray_end z f g = sym (w.same f g ∙ stop w.fuel)
+        ⊎_elim (λ v. v.0 ∙ or_yes e₂ (not (eqb n 0)) (ap not (ne_eqb _ _ v.1))) (λ v. v.1 ∙ or_no e₂ (not (eqb n 0)) (none (eqb n 0) (sym v.0 ∙ z))) w.any
       where
-        stop : (k : ℕ) → foldl note s (flat_map (onward them empty c d o n f) (landings k (direction_at d) empty land)) ≡ s
-        stop zero = refl
-        stop (suc k) = rw (eq-eqb _ _ z)
+        none : (b : Bool) → cond b [] (n ∷ landings 63 (direction_at d) empty (bit_and (shifted (direction_at d) n) empty)) ≡ [] → not b ≡ false
+        none true p = refl
+        none false p = let z : ◌≡◌ {A = ℕ} 0 1 = cc in absurd (omega arith)
+
+    pub ray_end : left ≡ [] → (f : ℕ) → size (without them c) < suc f → s ≡ foldl note s₂ (flat_map (onward them empty c d o n f) (landings far (direction_at d) empty n))
+    unfolding flat_map
+    ray_end z f g = sym (w.same f g ∙ rw z refl)
 
   -- ---- over the directions
   -- the state of the walk before the direction of index d
@@ -137,17 +119,17 @@ module _ {S : Type 0} (note : S → Ending → S) (them empty : ℕ) where
     }
 
     -- another adds the sequences from each of its landings
-    pub walked_ray : (o n : ℕ) (s : S) (e : Bool) (land : ℕ) → skip d ≡ false → Jumped them empty at c d o n → Rayed c d o n s₂ s e₂ e land
-        → land ≡ 0 → Walked s₀ at c skip (d + 1) s e
+    pub walked_ray : (o n : ℕ) (s : S) (e : Bool) (left : List ℕ) → skip d ≡ false → Jumped them empty at c d o n → Rayed c d o n s₂ s e₂ e left
+        → left ≡ [] → Walked s₀ at c skip (d + 1) s e
     unfolding any_up_to up_to
-    walked_ray o n s e land z j v end =
+    walked_ray o n s e left z j v end =
         let jumps : not (eqb n 0) ≡ king_jumps them empty at c skip d = ap (λ (m : ℕ). not (eqb m 0)) j.first_is ∙ rw z in
         record {
           fits = w.fits;
           within = omega arith;
-          any = rw add-one (ray_any c d o n s₂ s e₂ e land v end ∙ ap₂ ◌||◌ w.any jumps);
+          any = rw add-one (ray_any c d o n s₂ s e₂ e left v end ∙ ap₂ ◌||◌ w.any jumps);
           found = λ f h.
-              ray_end c d o n s₂ s e₂ e land v end f h
+              ray_end c d o n s₂ s e₂ e left v end f h
               ∙ ap₂ (λ (x y : ℕ). foldl note s₂ (flat_map (onward them empty c d x y f) (landings far (direction_at d) empty y))) j.over_is j.first_is
               ∙ rw (add-one, foldl-append, z, ← w.found f h);
         }

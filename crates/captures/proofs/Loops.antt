@@ -1,21 +1,15 @@
 -- The loops over the pieces: one piece's search is one step of a fold over the members of the set.
 use mathlib.Core.Path.{◌≡◌, ap, ◌∙◌}
 use mathlib.Core.List.{foldl}
-use Prim.Native.Nat.{ℕ, ◌*◌, ◌%◌, ◌^◌, ◌<◌, suc-le-suc}
+use Prim.Native.Nat.{ℕ, ◌^◌, ◌<◌, suc-le-suc}
 use lib.Bits.{bit_or}
 use Rattle.squares.specs.Sets.{size, without}
-use Rattle.squares.proofs.Pointwise.{one_bit}
 use Rattle.squares.proofs.Sizes.{size_most}
 use Rattle.captures.specs.declared.movegen.Came.TheVariants.{Nowhere}
 use Rattle.captures.specs.declared.movegen.Captures.{Captures}
 use Rattle.captures.specs.Record.{note_of}
-use Rattle.captures.specs.Men.{man_endings, Man, man_captures}
+use Rattle.captures.specs.Men.{set_onto, man_endings, Man, man_captures}
 use Rattle.captures.specs.Kings.{skip_of, king_endings, King, king_captures}
-use Rattle.captures.proofs.Shut.{set_onto}
-
--- the one bit that the loop makes
-pub one_at : (i j : ℕ) → j < 64 → i ≡ j → (1 * 2 ^ i) % 2 ^ 64 ≡ 2 ^ j
-one_at i j l e = ap (λ (k : ℕ). (1 * 2 ^ k) % 2 ^ 64) e ∙ one_bit j l
 
 pub few_enemies : (s : ℕ) → size s < 65
 few_enemies s = suc-le-suc (size_most s)

@@ -11,7 +11,7 @@ use Rattle.captures.specs.declared.movegen.Captures.{Captures}
 use Rattle.captures.specs.Open.{man_jump, king_jump}
 use Rattle.captures.specs.Record.{note_of, record_of}
 use Rattle.captures.specs.Walks.{any_up_to}
-use Rattle.captures.specs.Men.{man_jumps, man_endings, man_captures}
+use Rattle.captures.specs.Men.{set_onto, man_jumps, man_endings, man_captures}
 use Rattle.captures.specs.Kings.{skip_of, king_jumps, king_endings, king_captures}
 
 -- nothing is taken
@@ -27,10 +27,6 @@ module _ (them empty at : ℕ) where
   pub king_first : any_up_to (king_jumps them empty at 0 (skip_of Nowhere)) 4 ≡ any_up_to (king_jump at them empty) 4
   unfolding any_up_to king_jump skip_of
   king_first = rw (without_none them) refl
-
--- the search set onto a piece
-abbrev pub set_onto : {N : ℕ} → ℕ → Captures N → ℕ → Captures N
-set_onto empty s at = record { moves = s.moves; len = s.len; them = s.them; empty = bit_or empty at; from = at; best = s.best }
 
 pub man_shut : {N : ℕ} (empty : ℕ) (s : Captures N) (at i : ℕ) → at ≡ 2 ^ i → any_up_to (man_jump at s.them (bit_or empty at)) 4 ≡ false → set_onto empty s at ≡ man_captures empty s i
 unfolding man_captures man_endings

@@ -1,4 +1,4 @@
--- A set that is stepped on and on runs off the board: it falls in rank, and 64 steps are enough.
+-- A set that is stepped on and on runs off the board: 64 steps are enough.
 use mathlib.Core.Path.{◌≡◌, refl, sym, ap, ◌∙◌}
 use Prim.Native.Nat.{ℕ, zero, suc, ◌+◌, ◌-◌, ◌*◌, ◌%◌, ◌^◌, ◌≤◌, ◌<◌}
 use native.Mathlib.Nat.{pow-suc, mod-lt}
@@ -54,27 +54,6 @@ down k s p l h q = go ((s * 2 ^ k) % 2 ^ 64) refl
         let j = lowest (suc x) in
         let jl : j < 64 = lowest_lt 64 (suc x) (omega arith) lt in
         at j jl (sym (has_mod 64 (s * 2 ^ k) j jl) ∙ ap (λ (y : ℕ). has y j) (sym e) ∙ lowest_in 64 (suc x) (omega arith) lt) (ltb j k) refl
-
--- ---- the rank of a set that steps in direction d
-abbrev pub rank : Direction → ℕ → ℕ
-rank up_left s = s
-rank up_right s = s
-rank down_left s = 64 - lowest s
-rank down_right s = 64 - lowest s
-
-pub falls : (d : Direction) (s : ℕ) → s < 2 ^ 64 → (s ≡ 0 → ⊥) → rank d (shifted d s) < rank d s
-unfolding shifted
-falls up_left s h f = omega (arith, f)
-falls up_right s h f = omega (arith, f)
-falls down_left s h f = omega (arith, down 5 s (omega arith) (omega arith) h (omega arith), lowest_lt 64 s (omega arith) h)
-falls down_right s h f = omega (arith, down 6 s (omega arith) (omega arith) h (omega arith), lowest_lt 64 s (omega arith) h)
-
--- one step further on, within m
-pub ray_falls : (d : Direction) (s m : ℕ) → s < 2 ^ 64 → shifted d s < 2 ^ 64 → (s ≡ 0 → ⊥) → rank d (bit_and (shifted d s) m) < rank d s
-ray_falls up_left s m h l f = omega (arith, and_le_l (shifted up_left s) m, falls up_left s h f)
-ray_falls up_right s m h l f = omega (arith, and_le_l (shifted up_right s) m, falls up_right s h f)
-ray_falls down_left s m h l f = omega (arith, lowest_and (shifted down_left s) m l, falls down_left s h f)
-ray_falls down_right s m h l f = omega (arith, lowest_and (shifted down_right s) m l, falls down_right s h f)
 
 -- ---- n steps are enough to bring s off the board
 abbrev pub Enough : Direction → ℕ → ℕ → Type 0

@@ -2,7 +2,7 @@
 use mathlib.Core.Path.{◌≡◌, refl, sym, ap, ◌∙◌}
 use Prim.Native.Nat.{ℕ, zero, suc, ◌-◌, ◌≤◌, ◌<◌, min}
 use native.Mathlib.Omega.{arith}
-use mathlib.Core.Bool.{Bool, true, false, cond}
+use mathlib.Core.Bool.{Bool, true, false}
 use mathlib.Core.List.{List, [], ◌∷◌, ◌++◌, append-nil}
 use lib.ListN.{length, take, drop, set, replicate}
 use lib.Seq.{take-append-le, take-append_seam, take_all, take-take}
@@ -68,18 +68,20 @@ module _ {A : Type 0} (x : A) where
   over_filler (suc k) q (y ∷ xs) h l = ap (λ (m : List A). y ∷ m) (over_filler k q xs (omega arith) (omega arith))
 
   -- the first entries copied onto k of the filler, as many as go
-  pub copied : (n k i : ℕ) (xs : List A) → length xs ≡ n → i ≡ cond (ltb n k) n k → take i xs ++ drop i (replicate k x) ≡ take k (xs ++ replicate k x)
-  copied n k i xs h e = ap (λ (j : ℕ). take j xs ++ drop j (replicate k x)) e ∙ go (ltb n k) refl
+  pub copied : (n k i : ℕ) (xs : List A) → length xs ≡ n → i ≡ min n k → take i xs ++ drop i (replicate k x) ≡ take k (xs ++ replicate k x)
+  copied n k i xs h e = go (ltb n k) refl
     where
       nothing : (j : ℕ) → drop j (replicate j x) ≡ []
       nothing zero = refl
       nothing (suc j) = nothing j
 
-      go : (b : Bool) → ltb n k ≡ b → take (cond b n k) xs ++ drop (cond b n k) (replicate k x) ≡ take k (xs ++ replicate k x)
+      go : (b : Bool) → ltb n k ≡ b → take i xs ++ drop i (replicate k x) ≡ take k (xs ++ replicate k x)
       go true q =
           let lt = ltb-true n k q in
-          ap (λ (j : ℕ). take j xs ++ drop j (replicate k x)) (sym h) ∙ ap (λ (l : List A). l ++ drop (length xs) (replicate k x)) (take_all (length xs) xs (omega arith))
+          let all : i ≡ length xs = omega arith in
+          ap (λ (j : ℕ). take j xs ++ drop j (replicate k x)) all ∙ ap (λ (l : List A). l ++ drop (length xs) (replicate k x)) (take_all (length xs) xs (omega arith))
           ∙ over_filler k k xs (omega arith) (omega arith)
       go false q =
           let ge = ltb-false n k q in
-          ap (λ (l : List A). take k xs ++ l) (nothing k) ∙ append-nil (take k xs) ∙ sym (take-append-le k xs (replicate k x) (omega arith))
+          let some : i ≡ k = omega arith in
+          ap (λ (j : ℕ). take j xs ++ drop j (replicate k x)) some ∙ ap (λ (l : List A). take k xs ++ l) (nothing k) ∙ append-nil (take k xs) ∙ sym (take-append-le k xs (replicate k x) (omega arith))

@@ -36,9 +36,13 @@ module _ (them empty : ℕ) where
 pub record Man {S : Type 0} (note : S → Ending → S) (them empty : ℕ) (s : S) (at c : ℕ) (r : S) : Type 0 where
   pub found : (f : ℕ) → size (without them c) < f → r ≡ foldl note s (man_endings them empty f at c)
 
--- the search s turned to the piece at bit i, whose square counts as empty
+-- the search s turned to the piece on `at`, whose square counts as empty
+abbrev pub set_onto : {N : ℕ} → ℕ → Captures N → ℕ → Captures N
+set_onto empty s at = record { moves = s.moves; len = s.len; them = s.them; empty = bit_or empty at; from = at; best = s.best }
+
+-- the same, turned to the piece at bit i
 abbrev pub onto : {N : ℕ} → ℕ → Captures N → ℕ → Captures N
-onto empty s i = record { moves = s.moves; len = s.len; them = s.them; empty = bit_or empty (2 ^ i); from = 2 ^ i; best = s.best }
+onto empty s i = set_onto empty s (2 ^ i)
 
 -- s after the search from the man at bit i; 65 is above any number of enemies
 unfoldable pub man_captures : {N : ℕ} → ℕ → Captures N → ℕ → Captures N

@@ -2,7 +2,8 @@
 -- "Jumps", "Quiet moves"). Squares are sets of one bit here.
 use Rattle.std.specs.Prelude.{ℕ, zero, suc, cond, List, [], ◌∷◌, eqb}
 use Rattle.std.specs.Int.Bits.{bit_and}
-use Rattle.squares.specs.Directions.{Direction, shifted}
+use Rattle.squares.specs.Directions.{Direction, direction_at, shifted}
+use Rattle.captures.specs.declared.ray.Ray.{Ray}
 
 -- after this many steps every bit has left the 64 bits
 unfoldable pub far : ℕ
@@ -21,3 +22,11 @@ slide_of d empty from = slide_from far d empty (shifted d from)
 unfoldable pub landings : ℕ → Direction → ℕ → ℕ → List ℕ
 landings zero d empty land = []
 landings (suc n) d empty land = cond (eqb land 0) [] (land ∷ landings n d empty (bit_and (shifted d land) empty))
+
+-- the squares of `within` that follow `from` in direction d, near to far, up to the first that is not in it
+abbrev pub ray_of : Direction → ℕ → ℕ → List ℕ
+ray_of d within from = landings far d within (bit_and (shifted d from) within)
+
+-- those that a ray has still to give
+abbrev pub ray_left : Ray → List ℕ
+ray_left r = landings far (direction_at r.d) r.within r.next

@@ -6,4 +6,5 @@
 pub mod movegen;
 pub mod moves;
 pub mod pieces;
+pub mod ray;
 pub mod view;

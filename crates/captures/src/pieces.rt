@@ -7,7 +7,7 @@ ghost use Rattle.captures.specs.All.{all_captures_of};
 
 use crate::movegen::{Came, Captures, king_open, man_open};
 use crate::view::Sets;
-use squares::bitboard::{Bitboard, Members};
+use squares::bitboard::{Bitboard, Singles};
 
 // Most boards have no more captures than this.
 pub const ROOM: usize = 14;
@@ -17,25 +17,21 @@ pub const ROOM: usize = 14;
 pub fn men_captures<const N: usize>(s: &mut Captures<N>, men: Bitboard, empty: Bitboard)
     ensures { s.new ≡ men_captures_of s.old men empty }
 {
-    for bit in Members(men) {
-        let at = 1u64 << bit;
-        s.from = at;
-        s.empty = empty | at;
-        if man_open(at, s.them, empty | at) {
+    for at in Singles(men) {
+        s.set_onto(at, empty);
+        if man_open(at, s.them, s.empty) {
             s.man(at, 0);
         }
     }
 }
 
-// The captures of all kings, by bit. Test and search differ from the men's, so this is a loop of its own.
+// The captures of all kings, by bit. Test and search are not the men's, and nothing else is left to share.
 pub fn kings_captures<const N: usize>(s: &mut Captures<N>, kings: Bitboard, empty: Bitboard)
     ensures { s.new ≡ kings_captures_of s.old kings empty }
 {
-    for bit in Members(kings) {
-        let at = 1u64 << bit;
-        s.from = at;
-        s.empty = empty | at;
-        if king_open(at, s.them, empty | at) {
+    for at in Singles(kings) {
+        s.set_onto(at, empty);
+        if king_open(at, s.them, s.empty) {
             s.king(at, 0, Came::Nowhere);
         }
     }

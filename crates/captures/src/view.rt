@@ -18,15 +18,16 @@ pub struct View {
 }
 
 impl View {
+    // The board of a position, as its side to move sees it. By name and no `From`: the call reads as a view of the
+    // position.
     pub fn of(p: Position) -> View
         ensures { result ≡ view_of (board_of p) }
     {
-        let side = p.side;
         View {
-            us: p.pieces(side),
-            them: p.pieces(!side),
+            us: p.pieces(p.side),
+            them: p.pieces(!p.side),
             kings: p.kings,
-            side: side,
+            side: p.side,
         }
     }
 
@@ -51,7 +52,7 @@ impl View {
         bitboard::not(self.us | self.them)
     }
 
-    // Its sets, for the search.
+    // Its sets, for the search. By name and no `From`: the name says what is taken of the view.
     pub fn sets(self) -> Sets
         ensures { result ≡ sets_of self }
     {

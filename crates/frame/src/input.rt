@@ -57,7 +57,8 @@ pub fn read_all<R: Read>(from: &mut R, buf: &mut [u8]) -> Result<usize, Failure>
     ensures taken_from { TakenFrom (R.remaining from.old) (R.remaining from.new) buf.new result }
 {
     let mut n = 0;
-    // A read takes as many bytes as it likes, so the place goes on by what it took.
+    // A read takes as many bytes as it likes, so the place goes on by what it took. With a `&mut` slice that gets
+    // shorter in its place the proof does not close: after the loop only the length of the buffer is known.
     while n < buf.len() {
         let k = read_once(from, &mut buf[n..])?;
         if k == 0 {

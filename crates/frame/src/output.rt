@@ -17,17 +17,17 @@ pub enum Failure {
 }
 
 // Writes the bytes, all of them unless it fails.
-#[tactic(auto, using(crate::proofs::Putting::put_inside, crate::proofs::Putting::put_more))]
+#[tactic(auto, using(crate::proofs::Putting::by_writes))]
 pub fn write<W: Write>(to: &mut W, out: &[u8]) -> Result<(), Failure>
     ensures { Put (W.contents to.old) (W.contents to.new) out.now result }
 {
-    let mut done = 0;
-    // A write takes as many bytes as it likes, so the place goes on by what it took. The library's `write_all` does not
+    // A write takes as many bytes as it likes, and the rest gets shorter by those. The library's `write_all` does not
     // say how many were written where it fails.
-    while done < out.len() {
-        match to.write(&out[done..]) {
+    let mut rest = out;
+    while !rest.is_empty() {
+        match to.write(rest) {
             Ok(0) | Err(_) => return Err(Failure::Write),
-            Ok(n) => done += n,
+            Ok(n) => rest = &rest[n..],
         }
     }
     Ok(())

@@ -29,7 +29,7 @@ use Rattle.movegen.specs.Lists.{after_of}
 use Rattle.movegen.proofs.Answers.{after_many, after_none, after_one}
 use Rattle.games.specs.Book.{Book, tally_of, standing, begun_book, Verdict, goes_on, ends, book_outcome, over, book_answer, reached, book_next, book_answers, book_after}
 use Rattle.games.specs.Demand3.{answers_to, game_after, heard_of, heard, told_as, book_of, AtAccepted, TakesMost, NoneOpen, Demand3}
-use Rattle.games.specs.Games.{last_of, valid, stood, judged_of, ended}
+use Rattle.games.specs.Games.{last_of, valid, judged_of, ended}
 use Rattle.games.specs.Play.{fresh_of, new_of, moved_of, reached_of, play_of, after_play, outcome_of}
 use Rattle.games.specs.declared.game.Game.{Game}
 use Rattle.games.proofs.BookPlay.{meets, next_of, accepted_listed}
@@ -72,7 +72,7 @@ module _ (start : Board) (g : Game) (b : Book) (r : Stands start g b) (m : Move)
   accepted q e p k o h s = record {
     answer = ap answer_number_of p ∙ sym k;
     stands = rw (p, next_of b m true (eq-eqb (book_answer b m) 0 k))
-        (moved_stands start g b r m (room (board_of (last_of g)) (stood g) g.reversible g.material (unfold judged_of in o)) h q s e);
+        (moved_stands start g b r m (room g o) h q s e);
   }
 
   step : Step start g b m

@@ -25,7 +25,6 @@ use Rattle.movegen.proofs.Answers.{after_many, after_none, after_one}
 use Rattle.games.specs.Games.{last_of, valid, stood, judged_of, ended}
 use Rattle.games.specs.Play.{fresh_of, new_of, moved_of, reached_of, play_of, outcome_of, is_over_of, stands_of, repetitions_of, reversible_plies_of, legal_moves_of}
 use Rattle.games.specs.declared.game.Game.{Game}
-use Rattle.games.proofs.Valid.{valid_says}
 use Rattle.games.proofs.Window.{last_sound}
 use Rattle.squares.specs.declared.refusal.Refusal.{Refusal}
 
@@ -66,8 +65,7 @@ unfolding legal_moves_of
 game_list_told g limit =
     refused_unless told 13 0 (valid g) _ _ _ _ refl (refused_unless told 10 0 (leb limit 256) _ _ _ _ refl (none_left _))
 
--- of a game whose array has 51 entries, as every value of the type has
-module _ (g : Game) (long : length g.kept ≡ 51) (m : Move) where
+module _ (g : Game) (m : Move) where
   -- past 13, 11 and 14
   reached_told : valid g ≡ true → squares_of m ≡ true
       → told (reached_of g m (after_of (last_of g) m))
@@ -76,7 +74,7 @@ module _ (g : Game) (long : length g.kept ≡ 51) (m : Move) where
   reached_told v q = go (ltb 256 (length (legal (board_of (last_of g))))) refl (listed (legal (board_of (last_of g))) m) refl
     where
       s : sound (last_of g) ≡ true
-      s = last_sound g (valid_says g v) long
+      s = last_sound g v
 
       go : (t : Bool) → ltb 256 (length (legal (board_of (last_of g)))) ≡ t → (u : Bool) → listed (legal (board_of (last_of g))) m ≡ u
           → told (reached_of g m (after_of (last_of g) m)) ≡ in_order (when 17 t ∷ when 15 (not u) ∷ []) (result (moved_of g m (position_of (successor (board_of (last_of g)) m))))

@@ -15,7 +15,7 @@ use Rattle.positions.proofs.Accepts.{says_sound}
 use Rattle.movegen.specs.Lists.{after_of}
 use Rattle.movegen.proofs.Listed.{after_sound}
 use Rattle.games.specs.Demand3.{game_after, game_of}
-use Rattle.games.specs.Games.{last_of, valid, stood, irreversible, material_after, judged_of, ended}
+use Rattle.games.specs.Games.{last_of, valid, irreversible, material_after, judged_of, ended}
 use Rattle.games.specs.Play.{alone_of, fresh_of, appended_of, moved_of, reached_of, new_of, play_of, after_play}
 use Rattle.games.specs.declared.game.Game.{Game}
 use Rattle.games.proofs.Laws.{new_is}
@@ -31,7 +31,7 @@ pub record Fit (g : Game) : Type 0 where
 module _ (g : Game) (f : Fit g) (m : Move) where
   -- a move was made
   moved_fit : (q : Position) → sound q ≡ true → ended (judged_of g) ≡ false → Fit (moved_of g m q)
-  unfolding moved_of judged_of
+  unfolding moved_of
   moved_fit q s o = go (irreversible (board_of (last_of g)) m)
     where
       go : (t : Bool) → Fit (cond t (alone_of q (material_after (board_of (last_of g)) m g.material)) (appended_of g q (material_after (board_of (last_of g)) m g.material)))
@@ -41,7 +41,7 @@ module _ (g : Game) (f : Fit g) (m : Move) where
       go false =
           let k = material_after (board_of (last_of g)) m g.material in
           let v = valid_says g f.valid in
-          let r = room (board_of (last_of g)) (stood g) g.reversible g.material o in
+          let r = room g o in
           record { valid = more_valid g q k v f.long r s (material_fits (board_of (last_of g)) m g.material); long = more_long g q k v f.long r }
 
   pub play_fit : Fit (after_play g (play_of g m))

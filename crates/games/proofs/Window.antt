@@ -10,10 +10,11 @@ use Rattle.std.proofs.lemmas.List.{drop-replicate}
 use lib.Seq.{set_at, length-take-le}
 use Rattle.squares.proofs.Bools.{and_left, and_right}
 use Rattle.positions.specs.Acceptance.{sound}
+use Rattle.positions.specs.Computed as positions
 use Rattle.positions.specs.declared.position.Position.{Position}
-use Rattle.games.specs.Games.{blank_position, window_of, last_of, all_sound}
+use Rattle.games.specs.Games.{blank_position, window_of, last_of, all_sound, valid}
 use Rattle.games.specs.declared.game.Game.{Game}
-use Rattle.games.proofs.Valid.{Valid}
+use Rattle.games.proofs.Valid.{valid_says}
 
 -- ---- the kept positions are sound
 
@@ -23,20 +24,25 @@ unfolding all_sound
 all_tested [] = refl
 all_tested (p ∷ l) = ap (λ (b : Bool). sound p && b) (all_tested l)
 
-pub all_at : (d : Position) (l : List Position) (n i : ℕ) → i < n → i < length l → all_sound (take n l) ≡ true → sound (get_or l i d) ≡ true
+all_at : (d : Position) → sound d ≡ true → (l : List Position) (n i : ℕ) → i < n → all_sound (take n l) ≡ true → sound (get_or l i d) ≡ true
 unfolding all_sound
-all_at d [] n i h k e = absurd (omega arith)
-all_at d (p ∷ l) zero i h k e = absurd (omega arith)
-all_at d (p ∷ l) (suc n) zero h k e = and_left (sound p) (all_sound (take n l)) e
-all_at d (p ∷ l) (suc n) (suc i) h k e = all_at d l n i (omega arith) (omega arith) (and_right (sound p) (all_sound (take n l)) e)
+all_at d s [] n i h e = s
+all_at d s (p ∷ l) zero i h e = absurd (omega arith)
+all_at d s (p ∷ l) (suc n) zero h e = and_left (sound p) (all_sound (take n l)) e
+all_at d s (p ∷ l) (suc n) (suc i) h e = all_at d s l n i (omega arith) (and_right (sound p) (all_sound (take n l)) e)
+
+-- an unused entry is sound too
+pub blank_sound : sound blank_position ≡ true
+unfolding positions.computed
+blank_sound = refl
 
 -- the current position is one of those kept
-pub last_sound : (g : Game) → Valid g → length g.kept ≡ 51 → sound (last_of g) ≡ true
+pub last_sound : (g : Game) → valid g ≡ true → sound (last_of g) ≡ true
 unfolding last_of window_of
-last_sound g v k =
+last_sound g e =
+    let v = valid_says g e in
     let n = v.len in
-    let r = v.reversible in
-    all_at blank_position g.kept g.len g.reversible (omega arith) (omega arith) v.sound
+    all_at blank_position blank_sound g.kept g.len g.reversible (omega arith) v.sound
 
 -- ---- the positions kept, then blanks
 

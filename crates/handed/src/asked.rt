@@ -42,8 +42,7 @@ fn of_position(rt: &impl Print, entry: u64, n: u64, v: &Values) -> io::Result<()
 }
 
 fn parts(rt: &impl Print, p: Position) -> io::Result<()> {
-    let side = p.side;
-    show::placed(rt, position::from_parts(p.white, p.black, p.kings, side))
+    show::placed(rt, position::from_parts(p.white, p.black, p.kings, p.side))
 }
 
 fn of_number(rt: &impl Print, entry: u64, n: u64) -> io::Result<()> {
@@ -65,19 +64,15 @@ fn write_into(entry: u64, v: &Values, out: &mut [u8]) -> Result<usize, Refusal> 
     }
 }
 
-// Lends the first n of these bytes, which are dots. A writer that refuses must leave every dot as it is; one that
-// writes must leave the dots after its text.
-fn lend(rt: &impl Print, entry: u64, n: usize, v: &Values, dots: &mut [u8]) -> io::Result<()> {
-    if n <= dots.len() {
-        let w = write_into(entry, v, &mut dots[..n]);
-        return show::wrote(rt, w, &dots[..n]);
-    }
-    Ok(())
-}
-
+// Lends so many bytes, which are dots. A writer that refuses must leave every dot as it is; one that writes must leave
+// the dots after its text.
 fn of_space(rt: &impl Print, entry: u64, n: u64, v: &Values) -> io::Result<()> {
     let mut dots = [b'.'; 64];
-    lend(rt, entry, n as usize, v, &mut dots)
+    let Some(lent) = dots.get_mut(..n as usize) else {
+        return Ok(());
+    };
+    let w = write_into(entry, v, lent);
+    show::wrote(rt, w, lent)
 }
 
 fn of_game(rt: &impl Print, entry: u64, n: u64, v: &Values) -> io::Result<()> {
@@ -100,40 +95,19 @@ fn listed(s: &[u8], list: &mut [u64]) {
     }
 }
 
-fn replay(rt: &impl Print, p: Position, list: &[u64], answers: &mut [u8]) -> io::Result<()> {
-    let b = replays::replay(p, list, answers);
-    show_games::begun_with(rt, b, answers)
-}
-
 // Lends the first numbers of a list of nine, and a byte for each of at most four answers. Each byte is 46 beforehand.
-fn lend_answers(
-    rt: &impl Print,
-    s: &[u8],
-    p: Position,
-    answers: usize,
-    count: usize,
-    list: &mut [u64],
-    lent: &mut [u8],
-) -> io::Result<()> {
-    listed(s, list);
-    if count <= list.len() && answers <= lent.len() {
-        return replay(rt, p, &list[..count], &mut lent[..answers]);
-    }
-    Ok(())
-}
-
 fn of_list(rt: &impl Print, s: &[u8], p: Position, answers: u64, count: u64) -> io::Result<()> {
     let mut list = [0u64; 9];
-    let mut lent = [46u8; 4];
-    lend_answers(
-        rt,
-        s,
-        p,
-        answers as usize,
-        count as usize,
-        &mut list,
-        &mut lent,
-    )
+    let mut lent = [b'.'; 4];
+    listed(s, &mut list);
+    let Some(numbers) = list.get(..count as usize) else {
+        return Ok(());
+    };
+    let Some(space) = lent.get_mut(..answers as usize) else {
+        return Ok(());
+    };
+    let b = replays::replay(p, numbers, space);
+    show_games::begun_with(rt, b, space)
 }
 
 fn answer(rt: &impl Print, s: &[u8], v: &Values) -> io::Result<()> {
@@ -154,13 +128,12 @@ fn answer(rt: &impl Print, s: &[u8], v: &Values) -> io::Result<()> {
 }
 
 fn line(rt: &impl Print, s: &[u8], v: &Values) -> io::Result<()> {
-    let n = bytes::find(s, b';');
-    if n < s.len() {
-        rt.write_all(&s[n + 1..])?;
-        print!(rt; ": ")?;
-        return answer(rt, s, v);
-    }
-    Ok(())
+    let Some(n) = bytes::position(s, b';') else {
+        return Ok(());
+    };
+    rt.write_all(&s[n + 1..])?;
+    print!(rt; ": ")?;
+    answer(rt, s, v)
 }
 
 pub(crate) fn lines(rt: &impl Print, text: &[u8]) -> io::Result<()> {

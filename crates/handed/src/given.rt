@@ -65,8 +65,8 @@ fn weights(s: &[u8]) -> Classical {
 
 // Puts the position into one entry of the game, where there is such an entry.
 fn keep(g: &mut Game, p: Position, at: u64) {
-    if at < 51 {
-        g.kept[at as usize] = p;
+    if let Some(kept) = g.kept.get_mut(at as usize) {
+        *kept = p;
     }
 }
 

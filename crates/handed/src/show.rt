@@ -18,18 +18,30 @@ pub(crate) fn refusal(rt: &impl Print, e: Refusal) -> io::Result<()> {
 
 // The first n bytes.
 fn part(rt: &impl Print, text: &[u8], n: usize) -> io::Result<()> {
-    if n <= text.len() {
-        return rt.write_all(&text[..n]);
+    match text.get(..n) {
+        Some(first) => rt.write_all(first),
+        None => Ok(()),
     }
-    Ok(())
+}
+
+// What `put` writes of the value, or the refusal.
+pub(crate) fn tell<T, F: FnOnce(T) -> io::Result<()>>(
+    rt: &impl Print,
+    r: Result<T, Refusal>,
+    put: F,
+) -> io::Result<()>
+    requires { F.IsAlwaysCallable put }
+{
+    match r {
+        Ok(x) => put(x),
+        Err(e) => refusal(rt, e),
+    }
 }
 
 pub(crate) fn position(rt: &impl Print, p: Position) -> io::Result<()> {
     let mut text = [0u8; 200];
-    match fen::fen(p, &mut text) {
-        Ok(n) => part(rt, &text, n)?,
-        Err(e) => refusal(rt, e)?,
-    }
+    let written = fen::fen(p, &mut text);
+    tell(rt, written, |n| part(rt, &text, n))?;
     print!(rt; " {:016x}", p.hash)
 }
 
@@ -43,18 +55,12 @@ pub(crate) fn answer<T>(rt: &impl Print, a: &Result<T, Refusal>) -> io::Result<(
 
 // A value, or the refusal.
 pub(crate) fn value<T: Display + Drop>(rt: &impl Print, v: Result<T, Refusal>) -> io::Result<()> {
-    match v {
-        Ok(x) => print!(rt; "{x}")?,
-        Err(e) => refusal(rt, e)?,
-    }
+    tell(rt, v, |x| print!(rt; "{x}"))?;
     println!(rt)
 }
 
 pub(crate) fn place(rt: &impl Print, p: Result<Position, Refusal>) -> io::Result<()> {
-    match p {
-        Ok(q) => position(rt, q),
-        Err(e) => refusal(rt, e),
-    }
+    tell(rt, p, |q| position(rt, q))
 }
 
 pub(crate) fn placed(rt: &impl Print, p: Result<Position, Refusal>) -> io::Result<()> {
@@ -67,12 +73,11 @@ pub(crate) fn tested(rt: &impl Print, t: Result<bool, Refusal>) -> io::Result<()
 }
 
 pub(crate) fn standing(rt: &impl Print, s: Result<Option<Piece>, Refusal>) -> io::Result<()> {
-    match s {
-        Ok(Some(_)) => print!(rt; "a piece")?,
-        Ok(None) => print!(rt; "nothing")?,
-        Err(e) => refusal(rt, e)?,
-    }
-    println!(rt)
+    let what = |there: Option<Piece>| match there {
+        Some(_) => "a piece",
+        None => "nothing",
+    };
+    value(rt, s.map(what))
 }
 
 // The first square, the last square, and the set taken as a number.
@@ -81,19 +86,13 @@ pub(crate) fn record(rt: &impl Print, m: Move) -> io::Result<()> {
 }
 
 pub(crate) fn found(rt: &impl Print, f: Result<Move, Refusal>) -> io::Result<()> {
-    match f {
-        Ok(m) => record(rt, m)?,
-        Err(e) => refusal(rt, e)?,
-    }
+    tell(rt, f, |m| record(rt, m))?;
     println!(rt)
 }
 
 // The answer of a writer, then the lent bytes as they are after it.
 pub(crate) fn wrote(rt: &impl Print, w: Result<usize, Refusal>, out: &[u8]) -> io::Result<()> {
-    match w {
-        Ok(n) => print!(rt; "length {n}")?,
-        Err(e) => refusal(rt, e)?,
-    }
+    tell(rt, w, |n| print!(rt; "length {n}"))?;
     print!(rt; " [")?;
     rt.write_all(out)?;
     println!(rt; "]")

@@ -10,18 +10,16 @@ use squares::piece::Color;
 use squares::refusal::Refusal;
 use std::io;
 
-fn blank() -> Position {
-    Position {
-        white: 0,
-        black: 0,
-        kings: 0,
-        side: Color::White,
-        hash: 0,
-    }
-}
+const BLANK_POSITION: Position = Position {
+    white: 0,
+    black: 0,
+    kings: 0,
+    side: Color::White,
+    hash: 0,
+};
 
 fn blank_positions(g: Game) -> usize {
-    g.kept.iter().filter(|p| **p == blank()).count()
+    g.kept.iter().filter(|p| **p == BLANK_POSITION).count()
 }
 
 fn game(rt: &impl Print, g: Game) -> io::Result<()> {
@@ -91,10 +89,7 @@ pub(crate) fn played_text(
         game: came,
         mv: BLANK,
     });
-    match r {
-        Ok(_) => after_play(rt, came, Ok(played.game))?,
-        Err(e) => after_play(rt, came, Err(e))?,
-    }
+    after_play(rt, came, r.map(|p| p.game))?;
     print!(rt; ", move ")?;
     show::record(rt, played.mv)?;
     println!(rt)
@@ -118,10 +113,9 @@ fn outcome(rt: &impl Print, o: Outcome) -> io::Result<()> {
 }
 
 pub(crate) fn judged(rt: &impl Print, j: Result<Option<Outcome>, Refusal>) -> io::Result<()> {
-    match j {
-        Ok(Some(o)) => outcome(rt, o)?,
-        Ok(None) => print!(rt; "going")?,
-        Err(e) => show::refusal(rt, e)?,
-    }
+    show::tell(rt, j, |over| match over {
+        Some(o) => outcome(rt, o),
+        None => print!(rt; "going"),
+    })?;
     println!(rt)
 }

@@ -6,7 +6,7 @@ use mathlib.Core.Bool.{Bool, true, false, true≢false}
 use native.Mathlib.Omega.{arith}
 use lib.Dec.{leb}
 use lib.ListN.{length, take, drop, set, length-append, length-drop, take-append-drop}
-use lib.Seq.{take-length, take_all, take_at, take-suc-set, take-append-add, take-append-le, drop-append-le, length-take-le, paste, take-paste}
+use lib.Seq.{drop-drop, take-length, take_all, take_at, take-suc-set, take-append-add, take-append-le, drop-append-le, length-take-le, paste, take-paste}
 use borrow.Author.Tests.{leb-true, leb-false}
 use borrow.Rule.Slice.PartMut.{put_mid, post_of, same_len_mid}
 use Rattle.texts.proofs.Cuts.{rest}
@@ -85,23 +85,39 @@ module _ (out t part : List ℕ) (at n m : ℕ) (long : length out ≡ m) (fits 
 -- what shows that an answer has room, and where it is
 pub ruleset answer_rules = (seen, put_all, put_answer, answer_short)
 
--- ---- the lines of s from a place on, answered one after another
-module _ (s : List ℕ) (from : ℕ) where
-  pub lines_none : (new : List ℕ) → from ≤ length s → new ≡ [] → Answering answer_of s from new from (length new)
-  lines_none new h e = subst (λ (n : ℕ). Answering answer_of s from new from n) (sym (ap length e)) (start answer_of s from new h)
+-- ---- the lines of s, answered one after another: left is what comes after those that were answered
+pub lines_none : (s new : List ℕ) → new ≡ [] → Answering answer_of s 0 new (length s - length s) (length new)
+lines_none s new e =
+    let z : length s - length s ≡ 0 = omega arith in
+    subst (λ (k : ℕ). Answering answer_of s 0 new k (length new)) (sym z)
+    (subst (λ (n : ℕ). Answering answer_of s 0 new 0 n) (sym (ap length e)) (start answer_of s 0 new (omega arith)))
 
-  pub lines_next : (old new : List ℕ) (at n : ℕ) → Answering answer_of s from old at (length old)
-      → n ≡ index_of (is 10) (take (length s - at) (drop at s)) → n ≤ length (take (length s - at) (drop at s))
-      → (n ≡ length (take (length s - at) (drop at s)) → ⊥)
-      → new ≡ old ++ (answer_of (take n (take (length s - at) (drop at s))) ++ (10 ∷ [])) → Answering answer_of s from new (at + (n + 1)) (length new)
-  lines_next old new at n g e h f a =
-      let t = take (length s - at) (drop at s) in
-      subst (λ (k : ℕ). Answering answer_of s from new k (length new)) (omega arith)
-      (answered answer_of s from old at (length old) g t (rest s at) n e new (length new) (omega (arith, h, f)) (omega arith)
-      (take-length new ∙ a ∙ ap (λ (x : List ℕ). x ++ (answer_of (take n t) ++ (10 ∷ []))) (sym (take-length old))))
+pub all_left : (s : List ℕ) → s ≡ drop (length s - length s) s
+all_left s = let z : length s - length s ≡ 0 = omega arith in sym (ap (λ (k : ℕ). drop k s) z)
+
+module _ (s left : List ℕ) (q : left ≡ drop (length s - length left) s) (n : ℕ) (h : n ≤ length left) where
+  next_place : length s - length (take (length left - n) (drop n left)) ≡ (length s - length left) + n
+  next_place = omega (arith, h, ap length q, length-drop (length s - length left) s, ap length (rest left n), length-drop n left)
+
+  pub next_left : take (length left - n) (drop n left) ≡ drop (length s - length (take (length left - n) (drop n left))) s
+  next_left =
+      rest left n ∙ ap (drop n) q ∙ drop-drop n (length s - length left) s ∙ ap (λ (k : ℕ). drop k s) (sym next_place)
+
+pub lines_next : (s left old new : List ℕ) (n : ℕ) → left ≡ drop (length s - length left) s
+    → Answering answer_of s 0 old (length s - length left) (length old)
+    → n ≡ index_of (is 10) left → n ≤ length left → (n ≡ length left → ⊥)
+    → new ≡ old ++ (answer_of (take n left) ++ (10 ∷ []))
+    → Answering answer_of s 0 new (length s - length (take (length left - (n + 1)) (drop (n + 1) left))) (length new)
+lines_next s left old new n q g e h f a =
+    let at = length s - length left in
+    let k : at + n + 1 ≡ length s - length (take (length left - (n + 1)) (drop (n + 1) left)) =
+    omega (arith, next_place s left q (n + 1) (omega (arith, h, f))) in
+    subst (λ (k : ℕ). Answering answer_of s 0 new k (length new)) k
+    (answered answer_of s 0 old at (length old) g left q n e new (length new) (omega (arith, h, f)) (omega arith)
+    (take-length new ∙ a ∙ ap (λ (x : List ℕ). x ++ (answer_of (take n left) ++ (10 ∷ []))) (sym (take-length old))))
 
 -- what shows which lines were answered
-pub ruleset line_rules = (lines_none, finished, full, rest, some_put)
+pub ruleset line_rules = (lines_none, all_left, next_left, finished, full, some_put)
 
 -- ---- a read into the buffer after the bytes that were carried over
 module _ (buf part now : List ℕ) (count m : ℕ) (long : length buf ≡ m) (h : count < m) (v : take count buf ≡ now)

@@ -1,17 +1,17 @@
 -- What was written so far in a turn and in a run, where the bytes of the reader and the writer are known. Each fact says
 -- how any writes that follow go on from there.
-use Prim.Native.Nat.{ℕ}
+use Prim.Native.Nat.{ℕ, ◌+◌, ◌-◌, ◌≤◌}
 use mathlib.Core.Path.{◌≡◌, refl, ap, sym, ◌∙◌, subst}
 use mathlib.Core.List.{List, [], ◌∷◌, ◌++◌, append_assoc, append-nil}
 use native.Mathlib.Omega.{arith}
-use lib.ListN.{length, take}
-use lib.Seq.{take-length}
+use lib.ListN.{length, take, drop, length-drop}
+use lib.Seq.{drop-drop, take-length}
 use Rattle.std.specs.Prelude.{None, Some, IfSome, Option, Result, Ok, Err}
 use Rattle.std.specs.Io.KnownBytes.{Appends, Consumes, Keeps, IsAtEnd}
 use Rattle.std.proofs.KnownBytes.{Appends-nil, Appends-trans, Consumes-nil, Consumes-trans, Consumes-kept}
 use Rattle.requests.specs.Requests.{longest, answer_of}
-use Rattle.line_laws.specs.Lines.{output_of, whole_lines, carried_of, last_answer, together}
-use Rattle.line_laws.specs.Steps.{Answered}
+use Rattle.line_laws.specs.Lines.{output_of, whole_of, whole_lines, carried_of, last_answer, together}
+use Rattle.line_laws.specs.Steps.{between, Answered}
 use Rattle.line_laws.specs.Runs.{Writes, CutWrites, Run, Fault, Stopped, Begins}
 use Rattle.line_laws.specs.Runs as runs
 use Rattle.line_laws.proofs.LineLaws.{whole_nil}
@@ -24,35 +24,78 @@ use Rattle.lines.specs.Steps.{SentOf, AllSent, CutSent}
 use Rattle.lines.specs.Fed.{FedTo}
 use Rattle.lines.proofs.RunLaws.{run_law, stop_law, read_stop_law}
 
--- ---- the writes of a turn, up to a place of s
-pub record Writing (a b : Option (List ℕ)) (s : List ℕ) (at : ℕ) : Type 0 where
+-- ---- the writes of a turn: left is what comes after the lines of s whose answers were written
+pub record Writing (a b : Option (List ℕ)) (s left : List ℕ) : Type 0 where
+  pub at : ℕ
+  pub here : left ≡ drop at s
+  pub inside : at ≤ length s
+  pub lines : whole_of (take at s) ≡ at
   pub written : List ℕ
   pub sent : Appends a b written
   pub whole : (v : List ℕ) → Writes answer_of s at v → Writes answer_of s 0 (written ++ v)
   pub cut : (v : List ℕ) → CutWrites answer_of s at v → CutWrites answer_of s 0 (written ++ v)
 
-pub none_written : (a : Option (List ℕ)) (s : List ℕ) → Writing a a s 0
-none_written a s = record { written = []; sent = Appends-nil a; whole = λ v w. w; cut = λ v w. w }
+pub none_written : (a : Option (List ℕ)) (s : List ℕ) → Writing a a s s
+none_written a s =
+    record {
+      at = 0;
+      here = refl;
+      inside = omega arith;
+      lines = whole_nil;
+      written = [];
+      sent = Appends-nil a;
+      whole = λ v w. w;
+      cut = λ v w. w;
+    }
 
-module _ {a b : Option (List ℕ)} {s : List ℕ} {at : ℕ} (j : Writing a b s at) where
-  pub all_written : {out : List ℕ} {to put : ℕ} → Answered answer_of s at out to put → to ≡ at → AllSent a b s
-  all_written q e =
+module _ {a b : Option (List ℕ)} {s left : List ℕ} (j : Writing a b s left) where
+  -- lines from the start of left on are lines of s from its place on
+  moved : {out : List ℕ} {to put : ℕ} → Answered answer_of left 0 out to put → Answered answer_of s j.at out (j.at + to) put
+  moved {out} {to} {put} q =
+      let y : to - 0 ≡ to = omega arith in
+      let z : j.at + to - j.at ≡ to = omega arith in
+      let e : between j.at (j.at + to) s ≡ between 0 to left =
+      ap (λ (k : ℕ). take k (drop j.at s)) z ∙ ap (take to) (sym j.here) ∙ ap (λ (k : ℕ). take k left) (sym y) in
       record {
-        written = j.written;
-        writes = subst (λ (l : List ℕ). Writes answer_of s 0 l) (append-nil j.written) (j.whole [] (runs.none (q.goes_on e)));
-        sent = j.sent;
+        onward = omega arith;
+        inside = omega (arith, j.inside, q.inside, ap length j.here, length-drop j.at s);
+        whole = ap whole_of e ∙ q.whole ∙ omega arith;
+        fits = q.fits;
+        answers = q.answers ∙ ap (output_of answer_of) (sym e);
+        goes_on = λ o. ap whole_of (sym j.here) ∙ q.goes_on (omega (arith, o));
       }
 
-  -- the writer gets what a step put, or a beginning of it
-  module _ (c : Option (List ℕ)) {out : List ℕ} {to : ℕ} (q : Answered answer_of s at out to (length out)) where
-    pub step_written : Appends b c out → Writing a c s to
-    step_written more =
-        let t = take (length out) out in
+  left_length : length left ≡ length s - j.at
+  left_length = ap length j.here ∙ length-drop j.at s
+
+  -- a step that answers no line
+  module _ {out : List ℕ} {to put : ℕ} (q : Answered answer_of left 0 out to put) (e : to ≡ 0) where
+    pub all_written : AllSent a b s
+    all_written =
         record {
+          written = j.written;
+          writes = subst (λ (l : List ℕ). Writes answer_of s 0 l) (append-nil j.written) (j.whole [] (runs.none ((moved q).goes_on (omega (arith, e)))));
+          sent = j.sent;
+        }
+
+    pub all_lines : length s - length left ≡ whole_of s
+    all_lines = omega (arith, left_length, j.inside, all_whole answer_of j.lines (moved q) (omega (arith, e)))
+
+  -- the writer gets what a step put, or a beginning of it
+  module _ (c : Option (List ℕ)) {out : List ℕ} {to : ℕ} (q : Answered answer_of left 0 out to (length out)) where
+    pub step_written : (next : List ℕ) → next ≡ drop to left → Appends b c out → Writing a c s next
+    step_written next e more =
+        let t = take (length out) out in
+        let m = moved q in
+        record {
+          at = j.at + to;
+          here = e ∙ ap (drop to) j.here ∙ drop-drop to j.at s;
+          inside = m.inside;
+          lines = onward_whole answer_of j.lines m;
           written = j.written ++ t;
           sent = Appends-trans a b c j.written t j.sent (subst (Appends b c) (sym (take-length out)) more);
-          whole = λ v w. subst (λ (l : List ℕ). Writes answer_of s 0 l) (sym (append_assoc j.written t v)) (j.whole (t ++ v) (runs.Writes.more (length out) out q w));
-          cut = λ v w. subst (λ (l : List ℕ). CutWrites answer_of s 0 l) (sym (append_assoc j.written t v)) (j.cut (t ++ v) (runs.CutWrites.more (length out) out q w));
+          whole = λ v w. subst (λ (l : List ℕ). Writes answer_of s 0 l) (sym (append_assoc j.written t v)) (j.whole (t ++ v) (runs.Writes.more (length out) out m w));
+          cut = λ v w. subst (λ (l : List ℕ). CutWrites answer_of s 0 l) (sym (append_assoc j.written t v)) (j.cut (t ++ v) (runs.CutWrites.more (length out) out m w));
         }
 
     pub step_cut : (e : Failure) → Put b c out (Err e) → CutSent a c s
@@ -62,7 +105,7 @@ module _ {a b : Option (List ℕ)} {s : List ℕ} {at : ℕ} (j : Writing a b s 
         let e : take n out ≡ t = ap (take n) (sym (take-length out)) in
         record {
           written = j.written ++ t;
-          writes = j.cut t (runs.fails n (length out) out q);
+          writes = j.cut t (runs.fails n (length out) out (moved q));
           sent = Appends-trans a b c j.written t j.sent (subst (Appends b c) e more);
         }
 
@@ -231,4 +274,4 @@ module _ {left mid old now : Option (List ℕ)} {carried : List ℕ} (j : Feedin
       fed_write j after then g.piece g.taken w.written w.sent (subst (λ (x : List ℕ). CutWrites answer_of x 0 w.written) (q ∙ g.grown) w.writes)
 
 -- the steps of a turn
-pub ruleset write_steps = (none_written, all_written, step_written, whole_nil, all_whole, onward_whole)
+pub ruleset write_steps = (none_written, step_written)

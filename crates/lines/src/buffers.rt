@@ -1,6 +1,6 @@
 // The buffers of the program: the input that is not answered yet, and the answers that are not written yet. Contracts
 // see each as the list of its bytes.
-ghost use Rattle.std.specs.Prelude.{◌≡◌, [], ◌∷◌, ◌++◌, ◌≤◌, ◌+◌, ◌↔◌, IsTrue, length};
+ghost use Rattle.std.specs.Prelude.{◌≡◌, [], ◌∷◌, ◌++◌, ◌≤◌, ◌+◌, ◌-◌, ◌↔◌, IsTrue, length, drop};
 ghost use Rattle.requests.specs.Requests.{longest, answer_room, answer_of};
 ghost use Rattle.frame.specs.Output.{Put};
 ghost use Rattle.line_laws.specs.Lines.{whole_of, carried_of, last_answer};
@@ -115,26 +115,24 @@ impl Answers {
         self.count += n + 1;
     }
 
-    // Answers whole lines from a place on, as long as there is room for the longest answer. Returns the place after
-    // them.
+    // Answers whole lines from the start of s on, as long as there is room for the longest answer. Returns the bytes
+    // after them.
     #[tactic(auto, using(crate::proofs::Contents::line_rules))]
-    pub(crate) fn answer_lines(&mut self, s: &[u8], from: usize) -> usize
-        requires { from ≤ length s.now }
-        ensures { Answered answer_of s.now from self.new result (length self.new) }
+    pub(crate) fn answer_lines<'a>(&mut self, s: &'a [u8]) -> &'a [u8]
+        ensures rest { result.now ≡ drop (length s.now - length result.now) s.now }
+        ensures answered { Answered answer_of s.now 0 self.new (length s.now - length result.now) (length self.new) }
     {
         self.clear();
-        let mut at = from;
-        // The place goes on by whole lines, until there is none or no more room. It is the result.
+        let mut rest = s;
+        // The rest gets shorter by whole lines, until there is none or no more room. It is the result.
         while self.has_room() {
-            let rest = &s[at..];
-            let n = bytes::find(rest, b'\n');
-            if n == rest.len() {
-                return at;
-            }
+            let Some(n) = bytes::position(rest, b'\n') else {
+                return rest;
+            };
             self.answer(&rest[..n]);
-            at += n + 1;
+            rest = &rest[n + 1..];
         }
-        at
+        rest
     }
 
     // At the end of the input: answers the last line, which has no line feed, if there is such a line.

@@ -43,15 +43,15 @@ fn write_answers<W: Write>(to: &mut W, s: &[u8], answers: &mut Answers) -> Resul
     ensures sent { SentOf s.now result }
     ensures sent_to { SentTo (W.contents to.old) (W.contents to.new) s.now result }
 {
-    let mut at = 0;
-    // The place goes on by the lines whose answers had room in the buffer.
+    let mut rest = s;
+    // The rest gets shorter by the lines whose answers had room in the buffer.
     loop {
-        let next = answers.answer_lines(s, at);
-        if next == at {
-            return Ok(at);
+        let next = answers.answer_lines(rest);
+        if next.len() == rest.len() {
+            return Ok(s.len() - rest.len());
         }
         answers.write(to)?;
-        at = next;
+        rest = next;
     }
 }
 

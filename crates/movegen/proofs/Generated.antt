@@ -1,6 +1,6 @@
 -- What the generator makes of an accepted board is the list of the rules; a board seen by its side is the board; the step of
 -- a depth count is the successor.
-use Rattle.std.specs.Prelude.{Option}
+use Rattle.std.specs.Prelude.{Option, Some, None, Result, Ok, Err, ok_or}
 use mathlib.Core.Path.{◌≡◌, refl, sym, ap, ◌∙◌}
 use Prim.Native.Nat.{ℕ}
 use mathlib.Core.Bool.{Bool, true, false, cond}
@@ -25,8 +25,12 @@ use Rattle.rules.proofs.Laws.{fair_of_accepted}
 use Rattle.quiets.specs.Quiets.{quiet_moves_of}
 use Rattle.quiets.specs.Tests.{has_capture_of}
 use Rattle.captures.specs.View.{view_of}
+use Rattle.squares.specs.declared.refusal.Refusal.{Refusal}
+use Rattle.squares.specs.declared.refusal.Refusal.TheVariants.{BadPosition, TooManyMoves}
+use Rattle.squares.proofs.Refusals.{not_ok}
 use Rattle.captures.specs.Lists.{whole_list}
 use Rattle.captures.specs.declared.moves.MoveList.{MoveList}
+use Rattle.movegen.specs.Lists.{view_at}
 use Rattle.movegen.specs.Generate.{facing, seen, capture_moves_of, moves_by_sets, generate_of, next_of}
 use Rattle.captures.specs.declared.view.View.{View}
 use Rattle.capture_laws.proofs.Search.{search_of}
@@ -49,6 +53,15 @@ seen_view b = go b.side b.white b.black b.kings
     go Black w l kings = refl
 
 -- ---- the list
+-- a list that was handed on, or the refusal where there is none
+pub listed_some : {l : MoveList} (o : Option MoveList) → ◌≡◌ {A = Result MoveList Refusal} (Ok l) (ok_or o TooManyMoves) → Some l ≡ o
+listed_some None q = cc
+listed_some (Some x) q = cc
+
+pub listed_none : {f : Refusal} (o : Option MoveList) → ◌≡◌ {A = Result MoveList Refusal} (Err f) (ok_or o TooManyMoves) → (None ≡ o) × (f ≡ TooManyMoves)
+listed_none None q = (refl, cc)
+listed_none (Some x) q = not_ok _ q
+
 -- the sets that the code makes are those of the board
 sets_are : (b : Board) → generate_of (view_of b) ≡ moves_by_sets (pieces b Man) (pieces b King) (enemy b) (empty b) b.side
 unfolding generate_of pieces of_kind empty
@@ -94,9 +107,27 @@ turn_is : (s : Color) (us them kings hash : ℕ) → facing (other s) them us ki
 turn_is White us them kings hash = refl
 turn_is Black us them kings hash = refl
 
-pub next_is : (b : Board) (m : Move) → Accepted b → Playable b m → seen (next_of (view_of b) m) ≡ successor b m
+-- the board that the other side sees is that of the position after the move
+pub next_board : (p : Position) (m : Move) → seen (next_of (view_of (board_of p)) m) ≡ board_of (play_of p m)
 unfolding next_of play_of
-next_is b m a y = turn_is b.side _ _ _ _ ∙ ap board_of (play_is (position_of b) m (position_sound b a) y)
+next_board p m = turn_is p.side _ _ _ _
+
+pub next_is : (b : Board) (m : Move) → Accepted b → Playable b m → seen (next_of (view_of b) m) ≡ successor b m
+next_is b m a y = next_board (position_of b) m ∙ ap board_of (play_is (position_of b) m (position_sound b a) y)
+
+-- ---- the view of a sound position
+module _ (p : Position) where
+  pub viewed : (v : View) → ◌≡◌ {A = Result View Refusal} (Ok v) (view_at p) → (sound p ≡ true) × (v ≡ view_of (board_of p))
+  unfolding view_at
+  viewed v e = go (sound p) refl e
+    where
+      go : (t : Bool) → sound p ≡ t → ◌≡◌ {A = Result View Refusal} (Ok v) (cond t (Ok (view_of (board_of p))) (Err BadPosition)) → (sound p ≡ true) × (v ≡ view_of (board_of p))
+      go true q e = (q, cc)
+      go false q e = absurd (not_ok _ (sym e))
+
+  -- an answer that begins by it goes on
+  pub goes_on : {A : Type 0} (x : Result A Refusal) → sound p ≡ true → x ≡ cond (sound p) x (Err BadPosition)
+  goes_on x s = sym (ap (λ (t : Bool). cond t x (Err BadPosition)) s)
 
 -- ---- what the entries ask of a sound position and of its view
 module _ (p : Position) (s : sound p ≡ true) (v : View) (e : v ≡ view_of (board_of p)) where

@@ -1,9 +1,9 @@
 -- A short list that had room for all captures gives the list of the search, and its number.
-use Rattle.std.specs.Prelude.{Option, Some, None, is_some, option_map, ok_or, Ok}
+use Rattle.std.specs.Prelude.{Option, Some, None, MatchOption, is_some, option_map, ok_or}
 use Rattle.squares.specs.declared.refusal.Refusal.TheVariants.{TooManyMoves}
 use mathlib.Core.List.{List}
 use Rattle.positions.specs.declared.moves.Move.{Move}
-use mathlib.Core.Path.{◌≡◌, refl, sym, ap, ap₂, ◌∙◌, subst}
+use mathlib.Core.Path.{◌≡◌, refl, sym, ap₂, ◌∙◌, subst}
 use mathlib.Core.Bool.{true, false≢true}
 use Prim.Native.Nat.{ℕ, ◌≤◌}
 use native.Mathlib.Omega.{arith}
@@ -32,6 +32,15 @@ module _ (men kings them empty : ℕ) (t : Captures 14) (q : t ≡ all_captures_
   listed : (N : ℕ) → N ≤ 256 → (s : Captures N) → s ≡ all_captures_of N men kings them empty → whole_in s ≡ option_map (λ n. list_of (moves_in s)) s.len
   listed N h s e = subst (λ (x : Captures N). whole_in x ≡ option_map (λ n. list_of (moves_in x)) x.len) (sym e) (listed_all N h men kings them empty)
 
+  -- the number of moves in the short list, or in the long one
+  pub long_number : {r : Option ℕ} {P : Type 0} → MatchOption t.len P (λ n. r ≡ Some n) → (P → r ≡ (long_captures_of men kings them empty).len)
+      → r ≡ (long_captures_of men kings them empty).len
+  long_number {r} {P} e f = go t.len refl e
+    where
+      go : (o : Option ℕ) → t.len ≡ o → MatchOption o P (λ n. r ≡ Some n) → r ≡ (long_captures_of men kings them empty).len
+      go None p e = f e
+      go (Some n) p e = e ∙ sym p ∙ sym (room n p).len
+
   pub spread_is : is_some t.len ≡ true → whole_in t ≡ capture_moves_of men kings them empty
   unfolding capture_moves_of
   spread_is e = go t.len refl e
@@ -42,7 +51,3 @@ module _ (men kings them empty : ℕ) (t : Captures 14) (q : t ≡ all_captures_
           let s = room n p in
           listed 14 (omega arith) t q ∙ ap₂ (λ (ms : List Move) (k : Option ℕ). option_map (λ n. list_of ms) k) (sym s.moves) (sym s.len)
           ∙ sym (listed 256 (omega arith) (long_captures_of men kings them empty) refl)
-
-  pub as_many : (n : ℕ) → t.len ≡ Some n → Ok n ≡ listed_count (capture_moves_of men kings them empty)
-  unfolding capture_moves_of
-  as_many n o = sym (counted (long_captures_of men kings them empty) ∙ ap (λ (k : Option ℕ). ok_or k TooManyMoves) ((room n o).len ∙ o))

@@ -11,9 +11,15 @@ use Rattle.positions.specs.Successor.{successor}
 use Rattle.positions.specs.declared.moves.Move.{Move}
 use Rattle.positions.specs.declared.position.Position.{Position}
 use Rattle.captures.specs.Lists.{list_of}
+use Rattle.captures.specs.View.{view_of}
+use Rattle.captures.specs.declared.view.View.{View}
 use Rattle.rules.specs.Ordered.{captures, quiets, legal, listed}
 use Rattle.rules.specs.Lists.{some}
 use Rattle.captures.specs.declared.moves.MoveList.{MoveList}
+
+-- what the side to move sees of a sound position
+unfoldable pub view_at : Position → Result View Refusal
+view_at p = cond (sound p) (Ok (view_of (board_of p))) (Err (refusal 12))
 
 -- the moves and then blanks, if there are at most `limit` moves; else 17
 unfoldable pub listed_of : ℕ → List Move → Result MoveList Refusal

@@ -16,7 +16,7 @@
 //   kings by rising bit, each by direction and distance.
 ghost use Rattle.std.specs.Prelude.{◌≡◌};
 ghost use Rattle.movegen.specs.Generate.{generate_of};
-ghost use Rattle.movegen.specs.Lists.{legal_moves_of, has_captures_of, has_quiet_moves_of, after_of};
+ghost use Rattle.movegen.specs.Lists.{view_at, legal_moves_of, has_captures_of, has_quiet_moves_of, after_of};
 
 use crate::moves::{MAX_MOVES, MoveList};
 use crate::position;
@@ -40,6 +40,7 @@ pub(crate) fn generate(v: View) -> Option<MoveList>
     if quiets::quiets::has_capture(sets) {
         if bitboard::count(sets.kings) <= FEW_KINGS {
             let few = all_captures::<ROOM>(sets);
+            // Not `or_else` on the list, which copies it: a list would take a quarter more instructions.
             if few.len.is_some() {
                 return few.whole();
             }
@@ -51,50 +52,51 @@ pub(crate) fn generate(v: View) -> Option<MoveList>
     Some(list)
 }
 
+// What the side to move sees of a position. Refusal: 12.
+#[tactic(auto, unfolding(crate::specs::Lists::view_at))]
+pub(crate) fn view(p: Position) -> Result<View, Refusal>
+    ensures { result ≡ view_at p }
+{
+    Refusal::BadPosition.unless(p.sound())?;
+    Ok(View::of(p))
+}
+
 // All legal moves, at most `limit` of them. Refusals: 12, 10, 17.
-#[tactic(auto, unfolding(crate::specs::Lists::legal_moves_of))]
+#[tactic(auto, unfolding(crate::specs::Lists::legal_moves_of, crate::specs::Lists::view_at))]
 pub fn legal_moves(p: Position, limit: usize) -> Result<MoveList, Refusal>
     ensures { result ≡ legal_moves_of p limit }
 {
-    Refusal::BadPosition.unless(p.sound())?;
+    let v = view(p)?;
     Refusal::BeyondLimit.unless(limit <= MAX_MOVES)?;
-    // Not `ok_or`, which copies the list.
-    let Some(list) = generate(View::of(p)) else {
-        return Err(Refusal::TooManyMoves);
-    };
+    let list = generate(v).ok_or(Refusal::TooManyMoves)?;
     Refusal::TooManyMoves.unless(list.len <= limit)?;
     Ok(list)
 }
 
 // Whether the side to move has a capture. Refusal: 12.
-#[tactic(auto, unfolding(crate::specs::Lists::has_captures_of))]
+#[tactic(auto, unfolding(crate::specs::Lists::has_captures_of, crate::specs::Lists::view_at))]
 pub fn has_captures(p: Position) -> Result<bool, Refusal>
     ensures { result ≡ has_captures_of p }
 {
-    Refusal::BadPosition.unless(p.sound())?;
-    Ok(quiets::quiets::has_capture(View::of(p).sets()))
+    Ok(quiets::quiets::has_capture(view(p)?.sets()))
 }
 
 // Whether the side to move has a quiet move, even where it must capture. Refusal: 12.
-#[tactic(auto, unfolding(crate::specs::Lists::has_quiet_moves_of))]
+#[tactic(auto, unfolding(crate::specs::Lists::has_quiet_moves_of, crate::specs::Lists::view_at))]
 pub fn has_quiet_moves(p: Position) -> Result<bool, Refusal>
     ensures { result ≡ has_quiet_moves_of p }
 {
-    Refusal::BadPosition.unless(p.sound())?;
-    Ok(quiets::quiets::has_quiet(View::of(p).sets()))
+    Ok(quiets::quiets::has_quiet(view(p)?.sets()))
 }
 
 // The position after a legal move, with its hash. Refusals: 12, 11, 17, 15.
-#[tactic(auto, unfolding(crate::specs::Lists::after_of))]
+#[tactic(auto, unfolding(crate::specs::Lists::after_of, crate::specs::Lists::view_at))]
 pub fn after(p: Position, m: Move) -> Result<Position, Refusal>
     ensures { result ≡ after_of p m }
 {
-    Refusal::BadPosition.unless(p.sound())?;
+    let v = view(p)?;
     Refusal::NoSuchSquare.unless(m.on_board())?;
-    // Not `ok_or`, which copies the list.
-    let Some(list) = generate(View::of(p)) else {
-        return Err(Refusal::TooManyMoves);
-    };
+    let list = generate(v).ok_or(Refusal::TooManyMoves)?;
     Refusal::NoMoveFits.unless(list.contains(m))?;
     Ok(position::play(p, m))
 }

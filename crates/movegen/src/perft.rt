@@ -12,7 +12,7 @@
 // so no hash is computed on the way.
 ghost use Rattle.std.specs.Prelude.{◌≡◌, ◌-◌, ◌≤◌};
 ghost use Rattle.positions.specs.Acceptance.{Accepted};
-ghost use Rattle.movegen.specs.Generate.{seen, capture_moves_of, next_of};
+ghost use Rattle.movegen.specs.Generate.{seen, capture_moves_of};
 ghost use Rattle.movegen.specs.LastPly.{limited_count, listed_count, last_ply_of};
 ghost use Rattle.movegen.specs.Counts.{depth_count, perft_of, divided_of, divide_of};
 
@@ -20,9 +20,7 @@ use crate::moves::{MAX_MOVES, MoveList};
 use crate::{movegen, playing};
 use captures::pieces::{ROOM, all_captures};
 use captures::view::{Sets, View};
-use positions::moves::Move;
 use positions::position::Position;
-use squares::bitboard;
 use squares::refusal::Refusal;
 
 // The largest depth: 256^7 still fits in 64 bits.
@@ -36,21 +34,6 @@ pub struct Divided {
     pub counts: [u64; 256],
 }
 
-// The board after a move, as the other side sees it.
-#[tactic(auto, unfolding(crate::specs::Generate::next_of))]
-fn next(v: View, mv: Move) -> View
-    ensures { result ≡ next_of v mv }
-{
-    let side = v.side;
-    let kept = bitboard::difference(v.kings, mv.captured);
-    View {
-        us: bitboard::difference(v.them, mv.captured),
-        them: playing::moved(v.us, mv),
-        kings: playing::kings_played(side, kept, mv),
-        side: !side,
-    }
-}
-
 // A number of moves, or 17 where it is above 256.
 #[tactic(auto, unfolding(crate::specs::LastPly::limited_count))]
 fn limited(moves: u32) -> Result<u64, Refusal>
@@ -61,17 +44,13 @@ fn limited(moves: u32) -> Result<u64, Refusal>
 }
 
 // The number of captures, or 17 where there are more than 256: from a short list, or from the long one where the short
-// one is too small.
+// one is too small. `generate` tries the two lists by itself: it needs the list, and handing one on would copy it.
 fn captures_count(s: Sets) -> Result<u64, Refusal>
     ensures { result ≡ listed_count (capture_moves_of s.men s.kings s.them s.empty) }
 {
-    let few = all_captures::<ROOM>(s);
-    if let Some(len) = few.len {
-        return Ok(len as u64);
-    }
-    let all = all_captures::<MAX_MOVES>(s);
-    let len = all.len.ok_or(Refusal::TooManyMoves)?;
-    Ok(len as u64)
+    let few = all_captures::<ROOM>(s).len;
+    let len = few.or_else(|| all_captures::<MAX_MOVES>(s).len);
+    Ok(len.ok_or(Refusal::TooManyMoves)? as u64)
 }
 
 // The number of legal moves: the last ply of a count needs no more. Where no jump is open no list is made, and the long
@@ -98,25 +77,25 @@ fn count(v: View, depth: u32) -> Result<u64, Refusal>
     if depth == 1 {
         return last_ply(v);
     }
-    // Not `ok_or`, which copies the list.
+    // Not `ok_or`, which copies the list: counts of depth 7 would take a fifth more instructions.
     let Some(list) = movegen::generate(v) else {
         return Err(Refusal::TooManyMoves);
     };
     let mut sum: u64 = 0;
     for &mv in list.entries() {
-        sum += count(next(v, mv), depth - 1)?;
+        sum += count(playing::next(v, mv), depth - 1)?;
     }
     Ok(sum)
 }
 
 // The depth count of a position. Refusals: 12, 10, 17.
-#[tactic(auto, unfolding(crate::specs::Counts::perft_of))]
+#[tactic(auto, unfolding(crate::specs::Counts::perft_of, crate::specs::Lists::view_at))]
 pub fn perft(p: Position, depth: u32) -> Result<u64, Refusal>
     ensures { result ≡ perft_of p depth }
 {
-    Refusal::BadPosition.unless(p.sound())?;
+    let v = movegen::view(p)?;
     Refusal::BeyondLimit.unless(depth <= MAX_DEPTH)?;
-    count(View::of(p), depth)
+    count(v, depth)
 }
 
 // The count after each first move, with `plies` plies still to play.
@@ -124,23 +103,21 @@ fn split(v: View, plies: u32) -> Result<Divided, Refusal>
     requires { Accepted (seen v) × (plies ≤ 6) }
     ensures { result ≡ divided_of plies (seen v) }
 {
-    // Not `ok_or`, which copies the list.
-    let Some(list) = movegen::generate(v) else {
-        return Err(Refusal::TooManyMoves);
-    };
+    let list = movegen::generate(v).ok_or(Refusal::TooManyMoves)?;
     let mut counts = [0u64; 256];
+    // Not `zip(&mut counts)`: a proof of such a loop cannot name the counts, so it knows nothing of what it stores.
     for (i, &mv) in list.entries().iter().enumerate() {
-        counts[i] = count(next(v, mv), plies)?;
+        counts[i] = count(playing::next(v, mv), plies)?;
     }
     Ok(Divided { list, counts })
 }
 
 // The depth count split by first move. Depth 0 is read as 1. Refusals: 12, 10, 17.
-#[tactic(auto, unfolding(crate::specs::Counts::divide_of))]
+#[tactic(auto, unfolding(crate::specs::Counts::divide_of, crate::specs::Lists::view_at))]
 pub fn divide(p: Position, depth: u32) -> Result<Divided, Refusal>
     ensures { result ≡ divide_of p depth }
 {
-    Refusal::BadPosition.unless(p.sound())?;
+    let v = movegen::view(p)?;
     Refusal::BeyondLimit.unless(depth <= MAX_DEPTH)?;
-    split(View::of(p), depth.saturating_sub(1))
+    split(v, depth.saturating_sub(1))
 }

@@ -4,6 +4,7 @@ ghost use Rattle.std.specs.Prelude.{◌≡◌};
 ghost use Rattle.positions.specs.Successor.{play_of};
 
 use crate::playing;
+use captures::view::View;
 use positions::moves::Move;
 use positions::position::Position;
 use squares::{bitboard, zobrist};
@@ -14,15 +15,11 @@ use squares::{bitboard, zobrist};
 pub(crate) fn play(p: Position, mv: Move) -> Position
     ensures { result ≡ play_of p mv }
 {
-    let us = p.side;
-    let them = !us;
+    let v = playing::next(View::of(p), mv);
     let kept = bitboard::difference(p.kings, mv.captured);
-    let own = playing::moved(p.pieces(us), mv);
-    let enemy = bitboard::difference(p.pieces(them), mv.captured);
     let hash = p.hash
-        ^ p.keys_on(them, mv.captured)
-        ^ playing::moved_key(us, kept, mv)
+        ^ p.keys_on(!p.side, mv.captured)
+        ^ playing::moved_key(p.side, kept, mv)
         ^ zobrist::side_key();
-    let kings = playing::kings_played(us, kept, mv);
-    playing::turn(us, own, enemy, kings, hash)
+    playing::with_hash(v, hash)
 }

@@ -5,14 +5,11 @@ use Prim.Native.Nat.{ℕ, ◌+◌}
 use mathlib.Core.Path.{◌≡◌, refl, sym, ap, ap₂, ◌∙◌}
 use mathlib.Core.List.{List, [], ◌∷◌}
 use mathlib.Core.Bool.{Bool, true, false, cond, ◌&&◌, ◌||◌}
-use native.Mathlib.Omega.{arith}
 use lib.Dec.{eqb, leb}
-use lib.Bits.{bit_or}
-use borrow.Author.Tests.{eqb-true, eq-eqb, ne_eqb}
-use Rattle.squares.specs.Squares.{single}
+use borrow.Author.Tests.{eqb-true}
 use Rattle.texts.specs.Bytes.{is, holds, split_on, read_square}
 use Rattle.texts.proofs.ListLaws.{lacks_held, split_agree}
-use Rattle.notation.specs.Notation.{at_cut, malformed, unsaid, as_first, as_second, as_later, heard_square, on_square, heard_squares, well_formed, in_form, heard_trimmed}
+use Rattle.notation.specs.Notation.{at_cut, is_cross, malformed, unsaid, as_first, as_second, as_later, heard_square, on_square, heard_squares, well_formed, in_form, heard_trimmed}
 use Rattle.notation.specs.declared.notation.Said.{Said}
 use Rattle.squares.specs.declared.refusal.Refusal.{Refusal}
 
@@ -55,28 +52,6 @@ one_more h n = go (eqb h.count 0) refl (eqb h.count 1) refl
     go false e true f = ap (λ (x : ℕ). x + 1) (sym (eqb-true h.count 1 f))
     go false e false f = refl
 
-pub first_heard : (h : Said) (n : ℕ) → h.count ≡ 0
-    → ◌≡◌ {A = Said} (record { capture = h.capture; first = n; second = h.second; last = n; count = h.count + 1; rest = h.rest }) (heard_square h n)
-unfolding heard_square
-first_heard h n e =
-    ap {B = Said} (λ (x : ℕ). record { capture = h.capture; first = n; second = h.second; last = n; count = x + 1; rest = h.rest }) e
-    ∙ sym (ap (λ (t : Bool). cond t (as_first h n) (cond (eqb h.count 1) (as_second h n) (as_later h n))) (eq-eqb h.count 0 e))
-
-pub second_heard : (h : Said) (n : ℕ) → h.count ≡ 1
-    → ◌≡◌ {A = Said} (record { capture = h.capture; first = h.first; second = n; last = n; count = h.count + 1; rest = h.rest }) (heard_square h n)
-unfolding heard_square
-second_heard h n e =
-    ap {B = Said} (λ (x : ℕ). record { capture = h.capture; first = h.first; second = n; last = n; count = x + 1; rest = h.rest }) e
-    ∙ sym (ap₂ (λ (s t : Bool). cond s (as_first h n) (cond t (as_second h n) (as_later h n))) (ne_eqb h.count 0 (λ z. omega (arith, z, e))) (eq-eqb h.count 1 e))
-
--- b is the square as a set
-pub later_heard : (h : Said) (n b : ℕ) → (h.count ≡ 0 → ⊥) → (h.count ≡ 1 → ⊥) → b ≡ single n
-    → ◌≡◌ {A = Said} (record { capture = h.capture; first = h.first; second = h.second; last = n; count = h.count + 1; rest = bit_or h.rest b }) (heard_square h n)
-unfolding heard_square
-later_heard h n b z o e =
-    ap {B = Said} (λ (x : ℕ). record { capture = h.capture; first = h.first; second = h.second; last = n; count = h.count + 1; rest = bit_or h.rest x }) e
-    ∙ sym (ap₂ (λ (s t : Bool). cond s (as_first h n) (cond t (as_second h n) (as_later h n))) (ne_eqb h.count 0 z) (ne_eqb h.count 1 o))
-
 -- ---- the form
 
 -- a capture with a - is malformed, whatever its squares are
@@ -94,7 +69,7 @@ dashed h (f ∷ fs) e = go (read_square f) (λ n. dashed (heard_square h n) fs (
     go (Ok n) ih = ih n
     go (Err x) ih = refl
 
-pub with_cross : (t : List ℕ) (d : Bool) → d ≡ holds 45 t → holds 120 t ≡ true
+with_cross : (t : List ℕ) (d : Bool) → d ≡ holds 45 t → holds 120 t ≡ true
     → in_form d (heard_squares (unsaid true) (split_on (is 120) t)) ≡ heard_trimmed t
 unfolding heard_trimmed unsaid
 with_cross t true e x =
@@ -104,9 +79,19 @@ with_cross t false e x =
     ap (λ (l : List (List ℕ)). in_form false (heard_squares (unsaid true) l)) (sym (split_cross t (sym e)))
     ∙ sym (ap₂ (λ (u v : Bool). in_form u (heard_squares (unsaid v) (split_on at_cut t))) (sym e) x)
 
-pub without_cross : (t : List ℕ) (d : Bool) → d ≡ holds 45 t → holds 120 t ≡ false
+without_cross : (t : List ℕ) (d : Bool) → d ≡ holds 45 t → holds 120 t ≡ false
     → in_form d (heard_squares (unsaid false) (split_on (is 45) t)) ≡ heard_trimmed t
 unfolding heard_trimmed
 without_cross t d e x =
     ap (λ (l : List (List ℕ)). in_form d (heard_squares (unsaid false) l)) (sym (split_dash t x))
     ∙ sym (ap₂ (λ (u v : Bool). in_form u (heard_squares (unsaid v) (split_on at_cut t))) (sym e) x)
+
+-- what was read of a text that was split at its separator c
+pub separated : (t : List ℕ) (d : Bool) (c : ℕ) (a : Result Said Refusal) → d ≡ holds 45 t → c ≡ cond (holds 120 t) 120 45
+    → a ≡ heard_squares (unsaid (is_cross c)) (split_on (is c) t) → in_form d a ≡ heard_trimmed t
+separated t d c a e f g =
+    ap (in_form d) (g ∙ ap (λ (x : ℕ). heard_squares (unsaid (is_cross x)) (split_on (is x) t)) f) ∙ go (holds 120 t) refl
+  where
+    go : (x : Bool) → holds 120 t ≡ x → in_form d (heard_squares (unsaid (is_cross (cond x 120 45))) (split_on (is (cond x 120 45)) t)) ≡ heard_trimmed t
+    go true = with_cross t d e
+    go false = without_cross t d e

@@ -1,7 +1,7 @@
 -- Which legal move a text means (docs/RULES.md, "Move texts"). It must be of the text's kind, capture or not, and
 -- begin on its first square. A text of three or more squares is tried as Hub text first: first square, last square,
 -- taken squares. If no move fits so, and for a text of two squares, the first and the last square decide.
-use Rattle.std.specs.Prelude.{◌≡◌, ℕ, List, [], ◌∷◌, Bool, cond, ◌&&◌, eqb, leb, ltb, length, Err, Ok, Result}
+use Rattle.std.specs.Prelude.{ℕ, List, [], ◌∷◌, Bool, cond, ◌&&◌, eqb, leb, ltb, length, Err, Ok, Result, None, Some, Option}
 use Rattle.std.specs.Bool.{beq}
 use Rattle.squares.specs.Refusals.{refusal}
 use Rattle.positions.specs.Acceptance.{sound}
@@ -13,8 +13,6 @@ use Rattle.rules.specs.Lists.{keep}
 use Rattle.rules.specs.Ordered.{legal}
 use Rattle.notation.specs.Notation.{read_move_of}
 use Rattle.notation.specs.declared.notation.Said.{Said}
-use Rattle.notation.specs.declared.notation.Choice.{Choice}
-use Rattle.notation.specs.declared.notation.Choice.TheVariants.{Nothing, One, Several}
 use Rattle.squares.specs.declared.refusal.Refusal.{Refusal}
 
 -- the move is of the text's kind and begins on its first square
@@ -62,23 +60,7 @@ parse_move_of p s = cond (sound p) (fit_heard p (read_move_of s)) (Err (refusal 
 
 -- ---- the same as the code computes it
 
--- no move, one, or several
-unfoldable pub choice_of : List Move → Choice
-choice_of [] = Nothing
-choice_of (m ∷ []) = One m
-choice_of (m ∷ (n ∷ l)) = Several
-
--- where the test computes p, c is the choice among the moves for which p holds
-abbrev pub Chooses : (Move → Bool → Type 0) → List Move → Choice → Type 0
-Chooses test l c = (p : Move → Bool) → ((m : Move) (r : Bool) → test m r → r ≡ p m) → c ≡ choice_of (keep p l)
-
--- one more move fits
-abbrev pub one_more : Choice → Move → Choice
-one_more Nothing m = One m
-one_more (One n) m = Several
-one_more Several m = Several
-
-abbrev pub answered : Choice → Result Move Refusal
-answered Nothing = Err (refusal 15)
-answered (One m) = Ok m
-answered Several = Err (refusal 16)
+-- nothing where there is no move, else the only one or 16
+abbrev pub only_of : List Move → Option (Result Move Refusal)
+only_of [] = None
+only_of (m ∷ l) = Some (only (m ∷ l))

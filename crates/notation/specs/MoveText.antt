@@ -10,6 +10,7 @@ use Rattle.positions.specs.declared.moves.Move.{Move}
 use Rattle.texts.specs.Bytes.{joined, digits}
 use Rattle.texts.specs.Lent.{over, emit_of, emitted}
 use Rattle.texts.specs.declared.space.Space.{Space}
+use denote.Ref.{MutBor}
 use Rattle.squares.specs.declared.refusal.Refusal.{Refusal}
 
 -- x where the move takes a piece
@@ -41,11 +42,11 @@ display_of m out = cond (squares_of m) (emit_of (short_text m) out) (Err (refusa
 unfoldable pub display_lent : Move → List ℕ → List ℕ
 display_lent m out = cond (squares_of m) (emitted (short_text m) out) out
 
--- what a move is written by: it leaves behind the space `old` as `new`. Where this writes the text t, which 200 bytes
--- hold, the answer is r, and the lent bytes `out` are `after`
-abbrev pub Writes : Move → (Space → Unit {0} → Space → Type 0) → List ℕ → Result ℕ Refusal → List ℕ → Type 0
-Writes m leaves out r after =
-    (t : List ℕ) → ((old new : Space) → leaves old tt new → new ≡ over t old) → (squares_of m ≡ true → length t ≤ 200)
+-- what a move is written by: a call with the move, which is on the board, leaves behind the space `old` as `new`. Where
+-- this writes the text t, which 200 bytes hold, the answer is r, and the lent bytes `out` are `after`
+abbrev pub Writes : {A : Type 0} → Move → (A → Move) → (A → MutBor Space → Unit {0} → MutBor Space → Type 0) → List ℕ → Result ℕ Refusal → List ℕ → Type 0
+Writes {A} m of put out r after =
+    (t : List ℕ) → ((x : A) (old new : MutBor Space) → of x ≡ m → put x old tt new → new.now ≡ over t old.now) → (squares_of m ≡ true → length t ≤ 200)
     → (r ≡ cond (squares_of m) (emit_of t out) (Err (refusal 11))) × (after ≡ cond (squares_of m) (emitted t out) out)
 
 -- ---- what the code's loop adds: the squares at these bits, an x before each

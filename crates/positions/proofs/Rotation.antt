@@ -1,21 +1,23 @@
 -- A set turned round: square n at 51 - n, which is bit i at 53 - i.
 use mathlib.Core.Path.{◌≡◌, refl, sym, ap, ap₂, ◌∙◌}
-use Prim.Native.Nat.{ℕ, suc, ◌+◌, ◌-◌, ◌^◌, ◌<◌}
+use Prim.Native.Nat.{ℕ, zero, suc, ◌+◌, ◌-◌, ◌*◌, ◌/◌, ◌%◌, ◌^◌, ◌<◌}
 use native.Mathlib.Nat.{add_assoc, add_comm, zero-add}
 use native.Mathlib.Omega.{arith}
 use mathlib.Core.Bool.{Bool, true, false, ◌&&◌, cond, false≢true}
 use lib.Dec.{eqb}
-use borrow.Author.Tests.{eqb-true}
+use lib.Bits.{bit_and, and_le_r}
+use borrow.Author.Tests.{eqb-true, eqb-false}
+use Rattle.std.specs.Int.{reverse_bits_onto}
 use Rattle.squares.specs.Sets.{has, size}
-use Rattle.squares.specs.Squares.{on_board, square_at_bit, single}
+use Rattle.squares.specs.Squares.{all, on_board, square_at_bit, single}
 use Rattle.squares.specs.Folds.{sum_over, union_over}
 use Rattle.squares.proofs.Bools.{imp, imp_elim, tested, and_left, and_right, and_both, bool_ext}
 use Rattle.squares.proofs.Below.{below, below_at}
-use Rattle.squares.proofs.Pointwise.{has_bit, has_bit_same, has_zero, ext}
+use Rattle.squares.proofs.Pointwise.{has_and, has_bit, has_bit_same, has_half, has_low, has_shr, has_zero, ext}
 use Rattle.squares.proofs.Folds.{fold_reverse, fold_ext, over_board}
 use Rattle.squares.proofs.Unions.{Came, of_union, in_union, union_lt}
 use Rattle.squares.proofs.Sizes.{size_sum}
-use Rattle.squares.proofs.Numbers.{on_lt, no_square, single_lt}
+use Rattle.squares.proofs.Numbers.{all_lt, has_all, on_lt, no_square, single_lt}
 use Rattle.positions.specs.Flip.{rotated}
 use Rattle.positions.specs.Computed.{computed}
 
@@ -68,6 +70,54 @@ has_rotated s j = bool_ext _ _ (λ e. back (of_union (λ i. single (51 - square_
         let b : 53 - (53 - j) ≡ j = omega arith in
         in_union (λ i. single (51 - square_at_bit i)) s (53 - j) j (omega arith) (and_right (on_board j) (has s (53 - j)) e)
         (ap (λ (x : ℕ). has x j) (turned_bit (53 - j) (turned_on j o) ∙ ap (λ (x : ℕ). 2 ^ x) b) ∙ has_bit_same j)
+
+-- ---- the bits turned round
+-- after k digits of n, last first, come those of a
+after_digits : (k n a i : ℕ) → has (reverse_bits_onto k n a) (k + i) ≡ has a i
+unfolding reverse_bits_onto
+after_digits zero n a i = ap (has a) (zero-add i)
+after_digits (suc k) n a i =
+    let next : suc k + i ≡ k + suc i = omega arith in
+    let half : (a * 2 + n % 2) / 2 ≡ a = omega arith in
+    ap (has (reverse_bits_onto k (n / 2) (a * 2 + n % 2))) next
+    ∙ after_digits k (n / 2) (a * 2 + n % 2) (suc i)
+    ∙ sym (has_half (a * 2 + n % 2) i) ∙ ap (λ (x : ℕ). has x i) half
+
+digit_back : (k n a i : ℕ) → i < k → has (reverse_bits_onto k n a) i ≡ has n (k - suc i)
+unfolding reverse_bits_onto
+digit_back zero n a i h = absurd (omega arith)
+digit_back (suc k) n a i h = go (eqb i k) refl (λ l. digit_back k (n / 2) (a * 2 + n % 2) i l)
+  where
+    m : ℕ
+    m = a * 2 + n % 2
+
+    go : (t : Bool) → eqb i k ≡ t → (i < k → has (reverse_bits_onto k (n / 2) m) i ≡ has (n / 2) (k - suc i)) → has (reverse_bits_onto (suc k) n a) i ≡ has n (suc k - suc i)
+    go true q ih =
+        let e = eqb-true i k q in
+        let end : k + 0 ≡ i = omega (arith, e) in
+        let low : m % 2 ≡ n % 2 = omega arith in
+        let zero_left : 0 ≡ suc k - suc i = omega (arith, e) in
+        ap (has (reverse_bits_onto k (n / 2) m)) (sym end) ∙ after_digits k (n / 2) m 0 ∙ has_low m ∙ ap (λ (x : ℕ). eqb x 1) low ∙ sym (has_low n) ∙ ap (has n) zero_left
+    go false q ih =
+        let ne = eqb-false i k q in
+        let next : suc (k - suc i) ≡ suc k - suc i = omega (arith, ne) in
+        ih (omega (arith, ne)) ∙ has_half n (k - suc i) ∙ ap (has n) next
+
+-- the code's set is the definition's
+pub turned_round : (s : ℕ) → bit_and (reverse_bits_onto 64 s 0 / 2 ^ 10) all ≡ rotated s
+turned_round s =
+    ext 54 _ (rotated s) (omega (arith, and_le_r (reverse_bits_onto 64 s 0 / 2 ^ 10) all, all_lt)) (rotated_lt s)
+    (λ j l.
+    let back : 64 - suc (10 + j) ≡ 53 - j = omega arith in
+    has_and (reverse_bits_onto 64 s 0 / 2 ^ 10) all j
+    ∙ ap₂ ◌&&◌ (has_shr (reverse_bits_onto 64 s 0) 10 j ∙ digit_back 64 s 0 (10 + j) (omega arith) ∙ ap (has s) back) (has_all j)
+    ∙ swapped (has s (53 - j)) (on_board j) ∙ sym (has_rotated s j))
+  where
+    swapped : (a b : Bool) → (a && b) ≡ (b && a)
+    swapped true true = refl
+    swapped true false = refl
+    swapped false true = refl
+    swapped false false = refl
 
 -- s has squares only
 pub record Squares (s : ℕ) : Type 0 where

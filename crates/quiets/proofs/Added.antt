@@ -8,22 +8,16 @@ use native.Mathlib.Numerals.{add-one}
 use native.Mathlib.Omega.{arith}
 use lib.Bits.{bit_and}
 use lib.Dec.{eqb}
-use borrow.Author.Tests.{eq-eqb, ne_eqb, eqb-true, eqb-false}
+use borrow.Author.Tests.{eqb-true, eqb-false}
 use Rattle.squares.specs.Sets.{lowest, members}
-use Rattle.squares.specs.Squares.{first_of}
-use Rattle.squares.specs.Directions.{Direction, direction_at, shifted}
+use Rattle.squares.specs.Directions.{direction_at, shifted}
 use Rattle.squares.proofs.Members.{members_cons, members_none}
 use Rattle.squares.proofs.Pointwise.{and_lt}
-use Rattle.squares.proofs.Shifts.{shifted_lt}
 use Rattle.positions.specs.declared.moves.Move.{Move}
-use Rattle.positions.specs.Moves.{move}
 use Rattle.captures.specs.declared.moves.MoveList.{MoveList}
-use Rattle.captures.specs.Rays.{far, landings}
 use Rattle.captures.specs.Walks.{up_to}
-use Rattle.captures.proofs.Steps.{Enough, enough_0, enough_step, enough_and}
-use Rattle.captures.proofs.Rays.{enough_far}
 use Rattle.captures.specs.Lists.{put_of}
-use Rattle.quiets.specs.Quiets.{then_put, put_all, step_move}
+use Rattle.quiets.specs.Quiets.{then_put, put_all, quiet_move, step_move}
 
 -- ---- one move, and one list after another
 pub put_one : (l : MoveList) (m : Move) → put_all l (m ∷ []) ≡ put_of l m
@@ -88,51 +82,19 @@ ones g [] = refl
 ones g (x ∷ l) = ap (λ (r : List Move). g x ∷ r) (ones g l)
 
 -- ---- along a ray
-pub record Flying (g : ℕ → Move) (d : Direction) (empty : ℕ) (x : Result MoveList MoveList) (l : MoveList) (to : ℕ) : Type 0 where
-  pub fits : to < 2 ^ 64
-  pub fuel : ℕ
-  pub enough : Enough d fuel to
-  pub same : put_all l (map g (landings fuel d empty to)) ≡ x
+-- what is left comes to x, and the first of it is m
+module _ (l : MoveList) (m : Move) (ms : List Move) (x : Result MoveList MoveList) (w : put_all l (m ∷ ms) ≡ x) where
+  pub next_in : (r : MoveList) → Ok r ≡ put_of l m → put_all r ms ≡ x
+  unfolding put_all
+  next_in r e = ap (then_put (λ k. put_all k ms)) e ∙ w
 
-pub fly_start : (g : ℕ → Move) (d : Direction) (empty : ℕ) (l : MoveList) (to : ℕ) → to < 2 ^ 64 → Flying g d empty (put_all l (map g (landings far d empty to))) l to
-fly_start g d empty l to h = record { fits = h; fuel = far; enough = enough_far d to h; same = refl }
+  pub next_out : (r : MoveList) → Err r ≡ put_of l m → Err r ≡ x
+  unfolding put_all
+  next_out r e = ap (then_put (λ k. put_all k ms)) e ∙ w
 
-module _ (g : ℕ → Move) (d : Direction) (empty : ℕ) (x : Result MoveList MoveList) (l : MoveList) (to : ℕ) (w : Flying g d empty x l to) where
-  -- the next landing, then the rest
-  record Ahead : Type 0 where
-    fuel : ℕ
-    enough : Enough d (suc fuel) to
-    same : put_all l (g to ∷ map g (landings fuel d empty (bit_and (shifted d to) empty))) ≡ x
-
-  ahead : (to ≡ 0 → ⊥) → Ahead
-  unfolding landings
-  ahead ne = go w.fuel w.enough w.same
-    where
-      go : (n : ℕ) → Enough d n to → put_all l (map g (landings n d empty to)) ≡ x → Ahead
-      go zero en sa = absurd (ne (enough_0 d to w.fits en))
-      go (suc n) en sa = record { fuel = n; enough = en; same = rw (ne_eqb _ _ ne) at sa }
-
-  pub fly_step : (r : MoveList) (y : ℕ) → (to ≡ 0 → ⊥) → y ≡ shifted d to → Ok r ≡ put_of l (g to) → Flying g d empty x r (bit_and y empty)
-  fly_step r y ne ey e =
-      let a = ahead ne in
-      let lt = shifted_lt d to w.fits in
-      record {
-        fits = rw ey (and_lt (shifted d to) empty lt);
-        fuel = a.fuel;
-        enough = rw ey (enough_and d a.fuel (shifted d to) empty lt (enough_step d a.fuel to w.fits ne a.enough));
-        same = rw ey (sym (put_on l (g to ∷ []) _ r (e ∙ sym (put_one l (g to)))) ∙ a.same);
-      }
-
-  pub fly_stop : (r : MoveList) → (to ≡ 0 → ⊥) → Err r ≡ put_of l (g to) → Err r ≡ x
-  fly_stop r ne e = sym (put_off l (g to ∷ []) _ r (e ∙ sym (put_one l (g to)))) ∙ (ahead ne).same
-
-  pub fly_end : to ≡ 0 → Ok l ≡ x
-  unfolding landings put_all
-  fly_end z = sym (stop w.fuel) ∙ w.same
-    where
-      stop : (n : ℕ) → put_all l (map g (landings n d empty to)) ≡ Ok l
-      stop zero = refl
-      stop (suc n) = rw (eq-eqb _ _ z)
+pub all_in : (l : MoveList) (x : Result MoveList MoveList) → put_all l [] ≡ x → Ok l ≡ x
+unfolding put_all
+all_in l x w = w
 
 -- ---- direction by direction
 module _ (g : ℕ → List Move) (l : MoveList) where
@@ -155,6 +117,5 @@ module _ (g : ℕ → List Move) (l : MoveList) where
       go false q ih = let z = eqb-false k n q in sym (put_off l (up_to g n) (g n) r (ih (omega arith)))
 
 -- ---- the moves that the code makes
-pub step_made : (d at j back f t : ℕ) → at ≡ 2 ^ j → back ≡ shifted (direction_at (3 - d)) at → f ≡ first_of back → t ≡ first_of at → move f t 0 ≡ step_move d j
-step_made d at j back f t ea eb ef et =
-    ap₂ (λ (x y : ℕ). move x y 0) (ef ∙ ap first_of (eb ∙ ap (shifted (direction_at (3 - d))) ea)) (et ∙ ap first_of ea)
+pub step_made : (d at j back : ℕ) (m : Move) → at ≡ 2 ^ j → back ≡ shifted (direction_at (3 - d)) at → m ≡ quiet_move back at → m ≡ step_move d j
+step_made d at j back m ea eb em = em ∙ ap₂ quiet_move (eb ∙ ap (shifted (direction_at (3 - d))) ea) ea

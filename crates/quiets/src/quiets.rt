@@ -9,23 +9,27 @@
 // Most is computed for all pieces at once: their set is shifted by one step, and what falls on `empty` can step there.
 ghost use Rattle.std.specs.Prelude.{◌≡◌, ◌<◌, length};
 ghost use Rattle.captures.specs.Lists.{kept, list_of};
+ghost use Rattle.captures.specs.Rays.{ray_of, ray_left};
+ghost use Rattle.captures.specs.Walks.{up_to};
 ghost use Rattle.squares.specs.Sets.{members};
+ghost use Rattle.squares.specs.Directions.{direction_at};
 ghost use Rattle.quiets.specs.Tests.{forward_of, steps_open, has_quiet_of, men_jump, king_open, any_in, has_capture_of};
 ghost use Rattle.quiets.specs.Quiets.{
+  quiet_move,
   put_all,
   men_steps,
   flight_of,
-  flights,
   king_quiets,
   all_quiets,
 };
 
 use captures::movegen;
 use captures::moves::MoveList;
+use captures::ray::Ray;
 use captures::view::Sets;
 use positions::moves::Move;
 use squares::bitboard;
-use squares::bitboard::{Bitboard, Members};
+use squares::bitboard::{Bitboard, Singles};
 use squares::piece::Color;
 
 // The index of the first of a man's two forward directions; the other has the next index. White goes up, Black down.
@@ -66,18 +70,11 @@ fn men_jump(s: Sets, d: usize) -> bool
     bitboard::shift(over, back) & s.men != 0
 }
 
-// Whether some king has a jump. The king's own square counts as empty. This is a loop and no `any`: a closure would not
-// know that a bit is below 64, as the shift requires.
+// Whether some king has a jump. The king's own square counts as empty.
 fn kings_open(s: Sets) -> bool
     ensures { result ≡ any_in (king_open s.them s.empty) (members s.kings) }
 {
-    for bit in Members(s.kings) {
-        let at = 1u64 << bit;
-        if movegen::king_open(at, s.them, s.empty | at) {
-            return true;
-        }
-    }
-    false
+    Singles(s.kings).any(|at| movegen::king_open(at, s.them, s.empty | at))
 }
 
 // Whether the side has a jump.
@@ -87,65 +84,90 @@ pub fn has_capture(s: Sets) -> bool
     (0..4).any(|d| men_jump(s, d)) | kings_open(s)
 }
 
+// The quiet move between two squares, each given as a set of one bit.
+fn quiet_move(from: Bitboard, to: Bitboard) -> Move
+    ensures { result ≡ quiet_move from to }
+{
+    Move {
+        captured: 0,
+        from: bitboard::first(from),
+        to: bitboard::first(to),
+    }
+}
+
 // The men's steps in direction `d`, by the bit reached.
 #[inline(always)]
-fn put_steps(list: &mut MoveList, men: Bitboard, empty: Bitboard, d: usize) -> Option<()>
+fn put_steps(list: &mut MoveList, s: Sets, d: usize) -> Option<()>
     requires { d < 4 }
-    ensures { kept list.new result ≡ put_all list.old (men_steps men empty d) }
+    ensures { kept list.new result ≡ put_all list.old (men_steps s.men s.empty d) }
 {
-    for bit in Members(bitboard::shift(men, d) & empty) {
-        let at = 1u64 << bit;
-        let back = bitboard::shift(at, 3 - d);
-        let mv = Move {
-            captured: 0,
-            from: bitboard::first(back),
-            to: bitboard::first(at),
-        };
-        list.put(mv)?;
+    for at in Singles(bitboard::shift(s.men, d) & s.empty) {
+        list.put(quiet_move(bitboard::shift(at, 3 - d), at))?;
     }
     Some(())
 }
 
-// The moves of the king on `at` in direction `d`, near to far.
-#[inline(always)]
-fn put_flight(list: &mut MoveList, at: Bitboard, empty: Bitboard, d: usize) -> Option<()>
-    ensures { kept list.new result ≡ put_all list.old (flight_of at empty d) }
-{
-    let from = bitboard::first(at);
-    let mut land = bitboard::shift(at, d) & empty;
-    // The loop shifts a set until it is empty: there is no range to go over.
-    while land != 0 {
-        let mv = Move {
-            captured: 0,
-            from: from,
-            to: bitboard::first(land),
-        };
-        list.put(mv)?;
-        land = bitboard::shift(land, d) & empty;
-    }
-    Some(())
+// A king on the square `at`, and the empty squares over which it flies. Its moves are put and counted by functions of
+// their own: no function can hand out the chain of its squares.
+#[derive(Clone, Copy)]
+struct Flyer {
+    at: Bitboard,
+    empty: Bitboard,
 }
 
-// The moves of the king at this bit, by direction.
-#[inline(always)]
-fn put_king(list: &mut MoveList, bit: u32, empty: Bitboard) -> Option<()>
-    requires { bit < 64 }
-    ensures { kept list.new result ≡ put_all list.old (flights empty bit) }
-{
-    let at = 1u64 << bit;
-    for d in 0..4 {
-        put_flight(list, at, empty, d)?;
+impl Flyer {
+    // The squares that it reaches in direction `d`, near to far.
+    #[inline(always)]
+    fn flight(self, d: usize) -> Ray
+        ensures { ray_left result ≡ ray_of (direction_at d) self.empty self.at }
+    {
+        Ray::new(self.at, d, self.empty)
     }
-    Some(())
+
+    // Its moves in direction `d`.
+    #[inline(always)]
+    fn put_flight(self, list: &mut MoveList, d: usize) -> Option<()>
+        ensures { kept list.new result ≡ put_all list.old (flight_of self.at self.empty d) }
+    {
+        for land in self.flight(d) {
+            list.put(quiet_move(self.at, land))?;
+        }
+        Some(())
+    }
+
+    // Its moves, by direction.
+    #[inline(always)]
+    fn put_moves(self, list: &mut MoveList) -> Option<()>
+        ensures { kept list.new result ≡ put_all list.old (up_to (flight_of self.at self.empty) 4) }
+    {
+        for d in 0..4 {
+            self.put_flight(list, d)?;
+        }
+        Some(())
+    }
+
+    // The number of its moves in direction `d`.
+    fn flight_count(self, d: usize) -> u32
+        ensures { result ≡ length (flight_of self.at self.empty d) }
+    {
+        self.flight(d).count() as u32
+    }
+
+    // The number of its moves.
+    fn count(self) -> u32
+        ensures { result ≡ length (up_to (flight_of self.at self.empty) 4) }
+    {
+        (0..4).map(|d| self.flight_count(d)).sum()
+    }
 }
 
 // The moves of all kings, by bit.
 #[inline(always)]
-fn put_kings(list: &mut MoveList, kings: Bitboard, empty: Bitboard) -> Option<()>
-    ensures { kept list.new result ≡ put_all list.old (king_quiets kings empty) }
+fn put_kings(list: &mut MoveList, s: Sets) -> Option<()>
+    ensures { kept list.new result ≡ put_all list.old (king_quiets s.kings s.empty) }
 {
-    for bit in Members(kings) {
-        put_king(list, bit, empty)?;
+    for at in Singles(s.kings) {
+        Flyer { at, empty: s.empty }.put_moves(list)?;
     }
     Some(())
 }
@@ -157,12 +179,12 @@ pub fn put_quiets(list: &mut MoveList, s: Sets) -> Option<()>
     ensures { kept list.new result ≡ put_all list.old (all_quiets s.men s.kings s.empty s.side) }
 {
     let first = forward(s.side);
-    put_steps(list, s.men, s.empty, first)?;
-    put_steps(list, s.men, s.empty, first + 1)?;
-    put_kings(list, s.kings, s.empty)
+    put_steps(list, s, first)?;
+    put_steps(list, s, first + 1)?;
+    put_kings(list, s)
 }
 
-// The quiet moves in a list of their own, the first 256 of them. How many there are says `quiet_count`.
+// The quiet moves in a list of their own, the first 256 of them. `quiet_count` says how many there are.
 #[tactic(auto, using(crate::proofs::Filled::list_filled))]
 pub fn quiet_moves(s: Sets) -> MoveList
     ensures { result ≡ list_of (all_quiets s.men s.kings s.empty s.side) }
@@ -172,38 +194,13 @@ pub fn quiet_moves(s: Sets) -> MoveList
     list
 }
 
-// The number of squares that a king on `at` can reach in direction `d`.
-fn flight_count(at: Bitboard, empty: Bitboard, d: usize) -> u32
-    ensures { result ≡ length (flight_of at empty d) }
+// The number of quiet moves of all kings.
+fn kings_count(s: Sets) -> u32
+    ensures { result ≡ length (king_quiets s.kings s.empty) }
 {
-    let mut n = 0u32;
-    let mut to = bitboard::shift(at, d) & empty;
-    // As in `put_flight`, there is no range to go over.
-    while to != 0 {
-        n += 1;
-        to = bitboard::shift(to, d) & empty;
-    }
-    n
-}
-
-// The number of quiet moves of the king at this bit.
-fn king_count(bit: u32, empty: Bitboard) -> u32
-    requires { bit < 64 }
-    ensures { result ≡ length (flights empty bit) }
-{
-    let at = 1u64 << bit;
-    (0..4).map(|d| flight_count(at, empty, d)).sum()
-}
-
-// The number of quiet moves of all kings. A loop, for the reason given at `kings_open`.
-fn kings_count(kings: Bitboard, empty: Bitboard) -> u32
-    ensures { result ≡ length (king_quiets kings empty) }
-{
-    let mut n = 0u32;
-    for bit in Members(kings) {
-        n += king_count(bit, empty);
-    }
-    n
+    Singles(s.kings)
+        .map(|at| Flyer { at, empty: s.empty }.count())
+        .sum()
 }
 
 // The number of quiet moves of the side, counted without a list.
@@ -214,5 +211,5 @@ pub fn quiet_count(s: Sets) -> u32
     let a = bitboard::count(bitboard::shift(s.men, first) & s.empty);
     let b = bitboard::count(bitboard::shift(s.men, first + 1) & s.empty);
     let steps = a + b;
-    steps + kings_count(s.kings, s.empty)
+    steps + kings_count(s)
 }

@@ -1,5 +1,5 @@
 -- What is written of a position, a move, a list of moves or a count.
-use Rattle.std.specs.Prelude.{◌≡◌, ℕ, zero, suc, min, List, [], ◌∷◌, ◌++◌, Bool, true, false, cond, get_or, Err, Ok, Result, ℤ}
+use Rattle.std.specs.Prelude.{◌≡◌, ℕ, zero, suc, min, List, [], ◌∷◌, ◌++◌, Bool, true, false, cond, get_or, length, ◌≤◌, Err, Ok, Result, ℤ}
 use denote.Ref.{MutBor}
 use Prim.Native.Char.{code}
 use Rattle.squares.specs.Pieces.{color_char}
@@ -15,7 +15,7 @@ use Rattle.movegen.specs.declared.perft.Divided.{Divided}
 use Rattle.texts.specs.Bytes.{bytes}
 use Rattle.texts.specs.Fen.{fen_text}
 use Rattle.texts.specs.Hub.{hub_text}
-use Rattle.texts.specs.Lent.{over}
+use Rattle.texts.specs.Lent.{over, emit_of, emitted}
 use Rattle.texts.specs.declared.space.Space.{Space}
 use Rattle.notation.specs.MoveText.{move_text}
 use Rattle.wording.specs.Output.{decimal, hex, hash, signed, refusal_text}
@@ -33,6 +33,14 @@ on_ok (Err e) say = refusal_text e
 abbrev pub Tells : {A : Type 0} → (MutBor Space → A → Unit {0} → MutBor Space → Type 0) → Result A Refusal → Space → Space → Type 0
 Tells {A} put r a b =
     (word : A → List ℕ) → ((m n : MutBor Space) (x : A) → put m x tt n → n.now ≡ over (word x) m.now) → b ≡ over (on_ok r (λ x. ok (word x))) a
+
+-- where a call of `write` with 200 lent bytes writes the text t, which they hold, over their start if it may, and else
+-- refuses, the space b is a with that text or with none
+abbrev pub PutsWritten : (List ℕ → Result ℕ Refusal → List ℕ → Type 0) → Space → Space → Type 0
+PutsWritten write a b =
+    (may : Bool) (t : List ℕ) (f : Refusal) → (may ≡ true → length t ≤ 200)
+    → ((old new : List ℕ) (r : Result ℕ Refusal) → length old ≡ 200 → write old r new → (r ≡ cond may (emit_of t old) (Err f)) × (new ≡ cond may (emitted t old) old))
+    → b ≡ over (cond may t []) a
 
 -- the texts of a position; every position that a request makes is sound
 unfoldable pub fen_word : Position → List ℕ

@@ -2,12 +2,13 @@
 #![tactic(auto, using(texts::proofs::Overs::over_append, texts::proofs::Overs::over_none), unfolding(texts::specs::Lent::over, crate::specs::Answers::fen_answer, crate::specs::Answers::hub_answer, crate::specs::Answers::hash_answer, crate::specs::Answers::set_word, crate::specs::Answers::bits_answer, crate::specs::Answers::list_answer, crate::specs::Answers::divided_answer, crate::specs::Answers::record_word, crate::specs::Answers::move_answer))]
 
 ghost use Rattle.std.specs.Prelude.{◌≡◌, ◌∷◌, [], min};
+ghost use Rattle.std.specs.Fn.{FnOnceReturnsAtMut};
 ghost use Rattle.texts.specs.Lent.{over};
 ghost use Rattle.texts.specs.Bytes.{bytes};
 ghost use Rattle.wording.specs.Output.{hash};
-ghost use Rattle.replies.specs.Answers.{on_ok, Tells, yes_no, set_word, fen_word, hub_word, bits_word, bits_answer, scored_answer, tested_answer, counted_answer, hub_answer, hash_answer, placed_answer, count_word, square_word, square_answer, move_word, moves_text, counts_text, list_word, list_answer, divided_word, divided_answer, record_word, full_word, move_answer, after_text, after_answer};
+ghost use Rattle.replies.specs.Answers.{on_ok, Tells, PutsWritten, yes_no, set_word, fen_word, hub_word, bits_word, bits_answer, scored_answer, tested_answer, counted_answer, hub_answer, hash_answer, placed_answer, count_word, square_word, square_answer, move_word, moves_text, counts_text, list_word, list_answer, divided_word, divided_answer, record_word, full_word, move_answer, after_text, after_answer};
 
-use captures::moves::{MAX_MOVES, MoveList};
+use captures::moves::MoveList;
 use movegen::perft::Divided;
 use positions::moves::Move;
 use positions::position::Position;
@@ -16,28 +17,30 @@ use texts::space::Space;
 use texts::{fen, hub};
 use wording::output;
 
-// The FEN of a position. It is written into bytes of its own, and what was written is passed on; so in `put_hub` and
-// `put_move`. One function for the three would have to require of its closure that the length fits: it would be no
-// plainer.
-#[tactic(auto, using(crate::proofs::Told::fen_rules))]
-pub fn put_fen(out: &mut Space, p: Position)
-    ensures { out.new ≡ over (fen_word p) out.old }
+// Passes on what `write` writes into 200 bytes of its own; nothing where it refuses. (With `min` nothing is required of
+// the length that `write` answers.)
+fn put_written<F: FnOnce(&mut [u8]) -> Result<usize, Refusal>>(out: &mut Space, write: F)
+    requires { F.IsAlwaysCallable write }
+    ensures { PutsWritten (FnOnceReturnsAtMut F.FnOnce write) out.old out.new }
 {
-    let mut space = [0u8; 200];
-    if let Ok(n) = fen::fen(p, &mut space) {
-        out.put(&space[..n]);
+    let mut own = [0u8; 200];
+    if let Ok(n) = write(&mut own) {
+        out.put(&own[..n.min(200)]);
     }
 }
 
+// The FEN of a position.
+pub fn put_fen(out: &mut Space, p: Position)
+    ensures { out.new ≡ over (fen_word p) out.old }
+{
+    put_written(out, |space| fen::fen(p, space));
+}
+
 // The Hub text of a position.
-#[tactic(auto, using(crate::proofs::Told::hub_rules))]
 fn put_hub(out: &mut Space, p: Position)
     ensures { out.new ≡ over (hub_word p) out.old }
 {
-    let mut space = [0u8; 51];
-    if let Ok(n) = hub::hub(p, &mut space) {
-        out.put(&space[..n]);
-    }
+    put_written(out, |space| hub::hub(p, space));
 }
 
 pub fn put_ok(out: &mut Space)
@@ -163,22 +166,18 @@ pub fn tell_square(out: &mut Space, n: Result<u32, Refusal>)
 }
 
 // A move's Hub text.
-#[tactic(auto, using(crate::proofs::Told::move_rules))]
 pub fn put_move(out: &mut Space, m: Move)
     ensures { out.new ≡ over (move_word m) out.old }
 {
-    let mut space = [0u8; 200];
-    if let Ok(n) = notation::moves::to_hub(m, &mut space) {
-        out.put(&space[..n]);
-    }
+    put_written(out, |space| notation::moves::to_hub(m, space));
 }
 
 // The moves of a list, a space before each.
-#[tactic(auto, using(crate::proofs::Listing::moves_none, crate::proofs::Listing::moves_next))]
+#[tactic(auto, using(crate::proofs::Listing::moves_none))]
 fn put_moves(out: &mut Space, list: MoveList)
     ensures { out.new ≡ over (moves_text list.moves (min list.len 256)) out.old }
 {
-    for &m in &list.moves[..list.len.min(MAX_MOVES)] {
+    for &m in list.entries() {
         out.put_byte(b' ');
         put_move(out, m);
     }
@@ -199,11 +198,11 @@ pub fn tell_list(out: &mut Space, l: Result<MoveList, Refusal>)
 }
 
 // The moves of a list, each with its count.
-#[tactic(auto, using(crate::proofs::Listing::counts_none, crate::proofs::Listing::counts_next))]
+#[tactic(auto, using(crate::proofs::Listing::counts_none))]
 fn put_counts(out: &mut Space, list: MoveList, counts: [u64; 256])
     ensures { out.new ≡ over (counts_text list.moves counts (min list.len 256)) out.old }
 {
-    for (&m, &count) in list.moves[..list.len.min(MAX_MOVES)].iter().zip(&counts) {
+    for (&m, &count) in list.entries().iter().zip(&counts) {
         out.put_byte(b' ');
         put_move(out, m);
         out.put_byte(b'=');

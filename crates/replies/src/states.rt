@@ -30,10 +30,8 @@ fn put_winner(out: &mut Space, w: Option<Color>)
 fn put_outcome(out: &mut Space, o: Outcome)
     ensures { out.new ≡ over (outcome_word o) out.old }
 {
-    let winner = o.winner;
-    let termination = o.termination;
-    match termination {
-        Termination::NoMoves => put_winner(out, winner),
+    match o.termination {
+        Termination::NoMoves => put_winner(out, o.winner),
         Termination::Repetition => out.put(b"draw3"),
         Termination::TwentyFiveMoves => out.put(b"draw50"),
         Termination::SixteenMoves => out.put(b"draw32"),

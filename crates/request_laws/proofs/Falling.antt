@@ -16,7 +16,6 @@ use Rattle.squares.specs.declared.refusal.Refusal.TheVariants.{NoSuchSquare, Bad
 use Rattle.squares.proofs.Sizes.{size_most}
 use Rattle.positions.specs.Acceptance.{sound}
 use Rattle.positions.specs.Boards.{board_of}
-use Rattle.positions.specs.Computed as positions
 use Rattle.positions.specs.Hash.{position_of}
 use Rattle.positions.proofs.Measure.{pieces_on}
 use Rattle.positions.specs.Moves.{squares_of}
@@ -42,6 +41,7 @@ use Rattle.games.specs.declared.game.Game.{Game}
 use Rattle.games.specs.declared.game.Termination.{Termination}
 use Rattle.games.specs.declared.game.Termination.TheVariants.{NoMoves, Repetition, TwentyFiveMoves, SixteenMoves, FiveMoves}
 use Rattle.games.proofs.Stands.{room}
+use Rattle.games.proofs.Window.{blank_sound}
 use Rattle.games.proofs.Valid.{valid_says, material_fits, alone_last, alone_long, alone_valid, more_last, more_long, more_valid}
 use Rattle.gametexts.specs.Texts.{beside, play_found, play_said, play_heard, play_str_of, played_on}
 use Rattle.gametexts.specs.declared.game.PlayedText.{PlayedText}
@@ -51,8 +51,8 @@ use Rattle.texts.specs.Bytes.{cons_head, parts_at}
 use Rattle.replies.specs.Answers.{move_word, count_word}
 use Rattle.replies.specs.States.{winner_word, ending_word, judged_word, plies_text, state_text, stand_word, moves_word, end_text}
 use Rattle.requests.specs.Plays.{words_of, record_of, play_text_of, play_move, play_record_of, play_word_of, text_told, record_told, word_told, game_text}
-use Rattle.requests.specs.declared.plays.Given.{Given}
-use Rattle.requests.specs.declared.plays.Given.TheVariants as given
+use Rattle.requests.specs.Given.{Given}
+use Rattle.requests.specs.Given as given
 use Rattle.request_laws.proofs.Lengths.{decimal_most, decimal_two, fen_most, move_by}
 use Rattle.squares.specs.declared.piece.Color.{Color}
 use Rattle.std.specs.declared.option.Option.{Option}
@@ -70,10 +70,6 @@ pieces g = pieces_on (board_of (last_of g))
 
 alone_good : (p : Position) (n : ℕ) → sound p ≡ true → n ≤ 32 → Good (alone_of p n)
 alone_good p n s h = record { valid = alone_valid p n s h; long = alone_long p n; sound = ap sound (alone_last p n) ∙ s }
-
-blank_sound : sound blank_position ≡ true
-unfolding positions.computed
-blank_sound = refl
 
 -- every game that is begun, the one of a refusal too
 pub new_good : (p : Position) → Good (game_of (new_of p))
@@ -136,7 +132,7 @@ module _ (g : Game) (r : Good g) (m : Move) where
       let y = legal_playable b fair m ((listed_legal b fair m).0 l) in
       let q = position_of (successor b m) in
       let s = says_sound q (position_sound (successor b m) (successor_accepted b m a y)) in
-      let v = moved g r (room b (stood g) g.reversible g.material (unfold judged_of in o)) m q s in
+      let v = moved g r (room g o) m q s in
       record { good = v.good; fallen = ap (λ (p : Position). pieces_on (board_of p) + size m.captured) v.last ∙ pieces_after b m a y }
 
   play_case : Case g m

@@ -24,7 +24,7 @@ use Rattle.wording.specs.Escapes.{undone}
 use Rattle.wording.specs.Output.{decimal}
 use Rattle.requests.specs.Plays.{record_of, play_text_of, play_record_of, text_told, record_told, game_text}
 use Rattle.replies.specs.States.{end_text}
-use Rattle.requests.specs.declared.plays.Given.TheVariants as given
+use Rattle.requests.specs.Given as given
 use Rattle.squares.specs.declared.refusal.Refusal.{Refusal}
 
 -- the words are the records of these moves

@@ -35,8 +35,8 @@ use Rattle.requests.specs.Plays.{words_of, all_records, game_answer, play_reques
 use Rattle.requests.specs.Reading.{fen_in, hub_in, position_in, move_in, square_in}
 use Rattle.requests.specs.Requests.{whole_position, first_position, request_of, request_answer, named_answer, longest, answer_room, answer_of}
 use Rattle.replies.specs.States.{judged_word}
-use Rattle.requests.specs.declared.plays.Given.{Given}
-use Rattle.requests.specs.declared.plays.Given.TheVariants as given
+use Rattle.requests.specs.Given.{Given}
+use Rattle.requests.specs.Given as given
 use Rattle.requests.specs.declared.requests.Request.{Request}
 use Rattle.requests.specs.declared.requests.Request.TheVariants as request
 use Rattle.request_laws.proofs.Lengths.{decimal_most, hex_most, hash_long, signed_most, refusal_most, bad_most, fen_most, hub_most, move_most, list_most, divided_most}

@@ -1,4 +1,3 @@
 pub mod Readings
 pub mod Table
-pub mod Sides
 pub mod PlayLaws

@@ -16,7 +16,7 @@ use Rattle.gametexts.specs.declared.game.PlayedText.{PlayedText}
 use Rattle.wording.specs.Escapes.{undone}
 use Rattle.requests.specs.Plays.{is_record_of, all_records, play_text_of, play_word_of, word_told, game_text}
 use Rattle.replies.specs.States.{end_text}
-use Rattle.requests.specs.declared.plays.Given.{Given}
+use Rattle.requests.specs.Given.{Given}
 use Rattle.requests.proofs.Readings.{cut}
 use Rattle.squares.specs.declared.refusal.Refusal.{Refusal}
 

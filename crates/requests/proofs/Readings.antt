@@ -1,9 +1,10 @@
 -- A text of a request is read from its first 4,097 bytes: a longer one is refused with 1 whether it is cut or not.
 use Rattle.std.specs.Prelude.{Err, Result}
-use Prim.Native.Nat.{ℕ, ◌≤◌, ◌<◌}
+use Prim.Native.Nat.{ℕ, suc, ◌≤◌, ◌<◌}
 use mathlib.Core.Path.{◌≡◌, refl, ap, sym, ◌∙◌}
-use mathlib.Core.List.{List}
-use mathlib.Core.Bool.{Bool, true, false, cond, ◌&&◌}
+use mathlib.Core.List.{List, [], ◌∷◌}
+use Rattle.std.specs.List.{list_any}
+use mathlib.Core.Bool.{Bool, true, false, cond, ◌&&◌, ◌||◌, true≢false, false≢true}
 use native.Mathlib.Omega.{arith}
 use lib.ListN.{length, take, length-take}
 use lib.Seq.{take_all}
@@ -93,3 +94,24 @@ module _ (s t : List ℕ) where
   pub square_read : (a : Result ℕ Refusal) → a ≡ from_str_of t → t ≡ take 4097 (undone s) → a ≡ square_in s
   unfolding square_in
   square_read a q e = q ∙ ap from_str_of e ∙ cut from_str_of _ square_refused (undone s)
+
+-- ---- a text and its colons
+pub colon_none : (t : List ℕ) → list_any (λ (y : ℕ). eqb y 58) t ≡ false → index_of (is 58) t ≡ length t
+unfolding index_of is
+colon_none [] e = refl
+colon_none (b ∷ t) e = go (colon_none t) (eqb b 58) e
+  where
+    go : (list_any (λ (y : ℕ). eqb y 58) t ≡ false → index_of (is 58) t ≡ length t) → (q : Bool)
+        → (q || list_any (λ (y : ℕ). eqb y 58) t) ≡ false → cond q 0 (suc (index_of (is 58) t)) ≡ suc (length t)
+    go h true e = absurd (true≢false e)
+    go h false e = ap suc (h e)
+
+pub colon_some : (t : List ℕ) → list_any (λ (y : ℕ). eqb y 58) t ≡ true → index_of (is 58) t < length t
+unfolding index_of is
+colon_some [] e = absurd (false≢true e)
+colon_some (b ∷ t) e = go (colon_some t) (eqb b 58) e
+  where
+    go : (list_any (λ (y : ℕ). eqb y 58) t ≡ true → index_of (is 58) t < length t) → (q : Bool)
+        → (q || list_any (λ (y : ℕ). eqb y 58) t) ≡ true → cond q 0 (suc (index_of (is 58) t)) < suc (length t)
+    go h true e = omega arith
+    go h false e = omega (arith, h e)

@@ -1,44 +1,65 @@
 -- The table of the requests, row by row: as the program reads it, it is the table of the definitions.
-use Rattle.std.specs.Prelude.{None, Some}
+use Rattle.std.specs.Prelude.{None, Some, option_map}
 use Rattle.std.specs.declared.option.Option.{Option}
-use Prim.Native.Nat.{ℕ, ◌<◌, ◌≤◌, ◌+◌}
-use mathlib.Core.Path.{◌≡◌, refl, ap, sym, ◌∙◌}
+use Rattle.std.proofs.Common.{Bor}
+use Rattle.std.specs.List.{zip, find}
+use Prim.Native.Nat.{ℕ}
+use mathlib.Core.Path.{◌≡◌, refl, ap, ◌∙◌}
 use mathlib.Core.List.{List, [], ◌∷◌, map}
-use mathlib.Core.Bool.{true, false, cond}
-use native.Mathlib.Numerals.{add-one}
-use lib.ListN.{length, drop, get_or, drop_of_length-le}
-use lib.Seq.{drop-cons}
+use mathlib.Core.Bool.{Bool, true, false, cond}
 use Rattle.wording.specs.Words.{same_text, first_word}
-use Rattle.texts.specs.Bytes.{up_to, after_or, after_first}
+use Rattle.std.proofs.iter.Yields.{fronts}
+use Rattle.std.proofs.lemmas.Iterator.{zips, YieldsList, YieldsList-from_zip, YieldsList-from_slice}
+use Rattle.std.proofs.lemmas.Iterator.Consumers.{YieldsList-from_first}
+use Rattle.std.specs.Iterator.{YieldsFirstBy}
+use Rattle.std.specs.Iterator.Adapters.{zip_first, zip_second}
+use Rattle.std.specs.Slice.Iter.{iter_rest}
+use Rattle.std.specs.declared.iter.Zip.{Zip}
+use Rattle.std.specs.declared.slice.Iter.{Iter}
+use Rattle.texts.specs.Bytes as bytes
+use Rattle.texts.specs.Bytes.{is, split_on, up_to}
+use Rattle.texts.specs.Split.{parts_left}
+use Rattle.texts.specs.declared.split.Split.{Split}
 use Rattle.requests.specs.Requests.{Row, requests, help_text, request_of}
 use Rattle.requests.specs.declared.requests.Request.{Request}
 
--- what the rows ask
-abbrev pub asks : List Request
-asks = map (λ (r : Row). r.asks) requests
+-- what the rows ask, each beside its line
+unfoldable pub rows : List (Request × List ℕ)
+rows = zip (map (λ (r : Row). r.asks) requests) (split_on (is 10) help_text)
 
--- the rows that the text t holds, which ask for rs
-unfoldable pub rows_of : List ℕ → List ℕ → List Request → Option Request
-rows_of name t [] = None
-rows_of name t (r ∷ rs) = cond (same_text name (first_word t)) (Some r) (rows_of name (after_first 10 t) rs)
+-- a row has this name
+abbrev pub has_name : List ℕ → Request × List ℕ → Bool
+has_name name row = same_text name (first_word row.1)
 
-pub whole : (name : List ℕ) → request_of name ≡ rows_of name help_text asks
-unfolding request_of rows_of help_text first_word up_to after_first after_or same_text
-whole name = refl
+-- what the first row with this name asks
+asked : List ℕ → List (Request × List ℕ) → Option Request
+asked name [] = None
+asked name (r ∷ rs) = cond (has_name name r) (Some r.0) (asked name rs)
 
--- one row
-module _ (name left : List ℕ) (n : ℕ) (d : Request) where
-  row : n < length asks → rows_of name left (drop n asks) ≡ cond (same_text name (first_word left)) (Some (get_or asks n d)) (rows_of name (after_first 10 left) (drop (n + 1) asks))
-  unfolding rows_of
-  row h = ap (rows_of name left) (drop-cons asks n d h ∙ ap (λ (k : ℕ). get_or asks n d ∷ drop k asks) (sym (add-one n)))
+first_asked : (name : List ℕ) (rs : List (Request × List ℕ)) → option_map (λ r. r.0) (find (has_name name) rs) ≡ asked name rs
+unfolding asked
+first_asked name [] = refl
+first_asked name (r ∷ rs) = go (first_asked name rs) (has_name name r)
+  where
+    go : option_map (λ r. r.0) (find (has_name name) rs) ≡ asked name rs → (b : Bool) → option_map (λ r. r.0) (cond b (Some r) (find (has_name name) rs)) ≡ cond b (Some r.0) (asked name rs)
+    go h true = refl
+    go h false = h
 
-  pub here : n < length asks → request_of name ≡ rows_of name left (drop n asks) → same_text name (first_word left) ≡ true → request_of name ≡ Some (get_or asks n d)
-  here h e q = e ∙ row h ∙ rw q
+found : (name : List ℕ) → option_map (λ r. r.0) (find (has_name name) rows) ≡ request_of name
+unfolding asked request_of rows help_text first_word up_to bytes.split_on bytes.cons_head is same_text
+found name = first_asked name rows
 
-  pub next : n < length asks → request_of name ≡ rows_of name left (drop n asks) → same_text name (first_word left) ≡ false
-      → request_of name ≡ rows_of name (after_first 10 left) (drop (n + 1) asks)
-  next h e q = e ∙ row h ∙ rw q
+-- o is the row that is found, and r what it asks
+pub found_asks : (name : List ℕ) (o : Option (Bor Request × Bor (List ℕ))) {r : Option Request} → option_map (λ x. (x.0.now, x.1.now)) o ≡ find (has_name name) rows → r ≡ option_map (λ x. x.0.now) o
+    → r ≡ request_of name
+found_asks name o e q = q ∙ go o ∙ ap (option_map (λ (r : Request × List ℕ). r.0)) e ∙ found name
+  where
+    go : (o : Option (Bor Request × Bor (List ℕ))) → option_map (λ x. x.0.now) o ≡ option_map (λ (r : Request × List ℕ). r.0) (option_map (λ x. (x.0.now, x.1.now)) o)
+    go None = refl
+    go (Some x) = refl
 
-pub none : (name left : List ℕ) (n : ℕ) → length asks ≤ n → request_of name ≡ rows_of name left (drop n asks) → request_of name ≡ None
-unfolding rows_of
-none name left n h e = e ∙ ap (rows_of name left) (drop_of_length-le asks h)
+-- the code goes over them
+pub goes_over : {i : Zip (Iter Request) Split} → iter_rest (zip_first i) ≡ map (λ (r : Row). r.asks) requests → parts_left (zip_second i) ≡ split_on (is 10) help_text
+    → YieldsList {B = Request × List ℕ} (zips fronts (YieldsFirstBy (λ (part : Bor (List ℕ)). part.now) parts_left)) (λ x. (x.0.now, x.1.now)) i rows
+unfolding rows
+goes_over a b = YieldsList-from_zip (YieldsList-from_slice _ a) (YieldsList-from_first (λ part. part.now) parts_left _ b)

@@ -1,5 +1,8 @@
 -- The requests about a position or a square. The position comes as what was read of its text: a refusal is the answer.
-use Rattle.std.specs.Prelude.{ℕ, List, [], ◌∷◌, cond, eqb, ℤ, Err, None, Ok, Result, Some}
+use Rattle.std.specs.Prelude.{◌≡◌, ℕ, List, [], ◌∷◌, cond, eqb, ℤ, Err, None, Ok, Result, Some}
+use denote.Ref.{MutBor}
+use Rattle.texts.specs.Lent.{over}
+use Rattle.texts.specs.declared.space.Space.{Space}
 use Rattle.squares.specs.Pieces.{color_from_char_of}
 use Rattle.squares.specs.Refusals.{refusal}
 use Rattle.squares.specs.declared.piece.Color.{Color}
@@ -33,6 +36,11 @@ on_sided (Err e) k = bad flaw.Side
 abbrev pub on_read : {A : Type 0} → Result A Flaw → (A → List ℕ) → List ℕ
 on_read (Ok x) say = say x
 on_read (Err f) say = bad f
+
+-- where a call of `put` writes the word of x, the space b is a with the word of what was read, or with what cannot be
+abbrev pub SaysRead : {A : Type 0} → (MutBor Space → A → Unit {0} → MutBor Space → Type 0) → Result A Flaw → Space → Space → Type 0
+SaysRead {A} put r a b =
+    (word : A → List ℕ) → ((m n : MutBor Space) (x : A) → put m x tt n → n.now ≡ over (word x) m.now) → b ≡ over (on_read r word) a
 
 -- ---- of a position alone
 abbrev pub fen_request : Result Position Refusal → List ℕ

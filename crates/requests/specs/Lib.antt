@@ -1,3 +1,4 @@
+pub mod Given
 pub mod Reading
 pub mod Asked
 pub mod Plays

@@ -16,8 +16,8 @@ use Rattle.wording.specs.Escapes.{undone}
 use Rattle.wording.specs.declared.output.Flaw.TheVariants as flaw
 use Rattle.replies.specs.Answers.{ok, on_ok, move_word}
 use Rattle.replies.specs.States.{judged_word, state_text, end_text}
-use Rattle.requests.specs.declared.plays.Given.{Given}
-use Rattle.requests.specs.declared.plays.Given.TheVariants as given
+use Rattle.requests.specs.Given.{Given}
+use Rattle.requests.specs.Given as given
 use Rattle.positions.specs.declared.moves.Move.{Move}
 use Rattle.std.specs.declared.option.Option.{Option}
 use Rattle.squares.specs.declared.refusal.Refusal.{Refusal}

@@ -5,9 +5,11 @@
 ghost use Rattle.std.specs.Prelude.{◌≡◌};
 ghost use Rattle.texts.specs.Lent.{over};
 ghost use Rattle.wording.specs.Output.{bad};
+ghost use Rattle.wording.specs.Words.{first_word, after_word};
 ghost use Rattle.wording.specs.declared.output.Flaw.TheVariants as flaw;
 ghost use Rattle.replies.specs.Answers.{on_ok, placed_answer};
-ghost use Rattle.requests.specs.Asked.{on_read, side_of, parts_request, moves_request, atmost_request, parse_request, after_request, perft_request, divide_request, eval_request, weights_of, evalw_request, flip_request, caps_request, quiet_request};
+ghost use Rattle.requests.specs.Reading.{position_in};
+ghost use Rattle.requests.specs.Asked.{on_read, SaysRead, side_of, parts_request, moves_request, atmost_request, parse_request, after_request, perft_request, divide_request, eval_request, weights_of, evalw_request, flip_request, caps_request, quiet_request};
 
 use crate::reading;
 use positions::position;
@@ -20,6 +22,17 @@ use texts::space::Space;
 use wording::output::Flaw;
 use wording::{numbers, output, words};
 
+// What `put` writes of what was read of a line, or what of it cannot be read.
+pub(crate) fn answer_read<T, F: FnOnce(&mut Space, T)>(out: &mut Space, r: Result<T, Flaw>, put: F)
+    requires { F.IsAlwaysCallable put }
+    ensures { SaysRead (F.post put) r out.old out.new }
+{
+    match r {
+        Ok(x) => put(out, x),
+        Err(flaw) => output::put_bad(out, flaw),
+    }
+}
+
 // The legal moves, if there are no more than the limit.
 pub(crate) fn moves(p: Result<Position, Refusal>, limit: usize, out: &mut Space)
     ensures { out.new ≡ over (moves_request p limit) out.old }
@@ -27,15 +40,20 @@ pub(crate) fn moves(p: Result<Position, Refusal>, limit: usize, out: &mut Space)
     answers::tell_list(out, p.and_then(|q| movegen::movegen::legal_moves(q, limit)));
 }
 
-// The limit is the first word and is read before the position.
+// The limit, which is the first word and is read before the position.
 #[tactic(auto, unfolding(crate::specs::Asked::atmost_request))]
+fn read_limit(arg: &[u8]) -> Result<u64, Flaw>
+    ensures { on_read result (λ n. moves_request (position_in (after_word arg.now)) n) ≡ atmost_request arg.now }
+{
+    numbers::unsigned(words::first(arg)).ok_or(Flaw::Number)
+}
+
 pub(crate) fn atmost(arg: &[u8], out: &mut Space)
     ensures { out.new ≡ over (atmost_request arg.now) out.old }
 {
-    match numbers::unsigned(words::first(arg)) {
-        Some(n) => moves(reading::position(words::rest(arg)), n as usize, out),
-        None => output::put_bad(out, Flaw::Number),
-    }
+    answer_read(out, read_limit(arg), |to, n| {
+        moves(reading::position(words::rest(arg)), n as usize, to)
+    });
 }
 
 pub(crate) fn parse(p: Result<Position, Refusal>, text: &[u8], out: &mut Space)
@@ -63,28 +81,24 @@ pub(crate) fn no_number(p: Result<Position, Refusal>, out: &mut Space)
     }
 }
 
-// `perft` and `divide` are two: one function would take what is counted and how it is written as two closures, and its
-// contract would have to say what these do together.
+// The guard is all that `perft` and `divide` share. A function for it would take the rest as a closure, and be longer
+// than the two guards.
 pub(crate) fn perft(p: Result<Position, Refusal>, depth: &[u8], out: &mut Space)
     ensures { out.new ≡ over (perft_request p depth.now) out.old }
 {
-    match numbers::unsigned(depth) {
-        Some(n) => {
-            answers::tell_counted(out, p.and_then(|q| movegen::perft::perft(q, n as u32)));
-        }
-        None => no_number(p, out),
-    }
+    let Some(n) = numbers::unsigned(depth) else {
+        return no_number(p, out);
+    };
+    answers::tell_counted(out, p.and_then(|q| movegen::perft::perft(q, n as u32)));
 }
 
 pub(crate) fn divide(p: Result<Position, Refusal>, depth: &[u8], out: &mut Space)
     ensures { out.new ≡ over (divide_request p depth.now) out.old }
 {
-    match numbers::unsigned(depth) {
-        Some(n) => {
-            answers::tell_divided(out, p.and_then(|q| movegen::perft::divide(q, n as u32)));
-        }
-        None => no_number(p, out),
-    }
+    let Some(n) = numbers::unsigned(depth) else {
+        return no_number(p, out);
+    };
+    answers::tell_divided(out, p.and_then(|q| movegen::perft::divide(q, n as u32)));
 }
 
 // The score with these weights.
@@ -112,18 +126,21 @@ fn read_weights(arg: &[u8]) -> Option<Classical>
     })
 }
 
-// The weights come after the position and are read before it.
+// The five weights after the position, or why they cannot be read. They are read before it.
 #[tactic(auto, unfolding(crate::specs::Asked::evalw_request))]
+fn read_evalw(arg: &[u8]) -> Result<Classical, Flaw>
+    ensures { on_read result (λ w. eval_request (position_in (first_word arg.now)) w) ≡ evalw_request arg.now }
+{
+    Flaw::Words.unless(words::blanks(arg) == 5)?;
+    read_weights(arg).ok_or(Flaw::Number)
+}
+
 pub(crate) fn evalw(arg: &[u8], out: &mut Space)
     ensures { out.new ≡ over (evalw_request arg.now) out.old }
 {
-    if words::blanks(arg) != 5 {
-        return output::put_bad(out, Flaw::Words);
-    }
-    match read_weights(arg) {
-        Some(w) => eval(reading::position(words::first(arg)), w, out),
-        None => output::put_bad(out, Flaw::Number),
-    }
+    answer_read(out, read_evalw(arg), |to, w| {
+        eval(reading::position(words::first(arg)), w, to)
+    });
 }
 
 pub(crate) fn flip(p: Result<Position, Refusal>, out: &mut Space)
@@ -145,14 +162,14 @@ pub(crate) fn quiet(p: Result<Position, Refusal>, out: &mut Space)
 }
 
 // The side that a word means: W or B alone.
-#[tactic(auto, using(crate::proofs::Sides::side_one, crate::proofs::Sides::side_other))]
+#[tactic(auto, unfolding(crate::specs::Asked::side_of))]
 fn side(word: &[u8]) -> Result<Color, Refusal>
     ensures { result ≡ side_of word.now }
 {
-    if word.len() == 1 {
-        return Color::from_char(word[0]);
+    match word {
+        [letter] => Color::from_char(*letter),
+        _ => Err(Refusal::NoSide),
     }
-    Err(Refusal::NoSide)
 }
 
 // The position of three sets and a side, or why they cannot be read.
@@ -160,9 +177,7 @@ fn side(word: &[u8]) -> Result<Color, Refusal>
 fn read_parts(arg: &[u8]) -> Result<Result<Position, Refusal>, Flaw>
     ensures { on_read result placed_answer ≡ parts_request arg.now }
 {
-    if words::blanks(arg) != 3 {
-        return Err(Flaw::Words);
-    }
+    Flaw::Words.unless(words::blanks(arg) == 3)?;
     let white = numbers::set(words::word(arg, 0)).ok_or(Flaw::Number)?;
     let black = numbers::set(words::word(arg, 1)).ok_or(Flaw::Number)?;
     let kings = numbers::set(words::word(arg, 2)).ok_or(Flaw::Number)?;
@@ -173,8 +188,5 @@ fn read_parts(arg: &[u8]) -> Result<Result<Position, Refusal>, Flaw>
 pub(crate) fn parts(arg: &[u8], out: &mut Space)
     ensures { out.new ≡ over (parts_request arg.now) out.old }
 {
-    match read_parts(arg) {
-        Ok(p) => answers::tell_fen(out, p),
-        Err(flaw) => output::put_bad(out, flaw),
-    }
+    answer_read(out, read_parts(arg), answers::tell_fen);
 }

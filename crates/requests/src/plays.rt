@@ -10,7 +10,9 @@ ghost use Rattle.gametexts.specs.Texts.{played_on};
 ghost use Rattle.games.specs.Play.{new_of};
 ghost use Rattle.games.specs.Demand3.{game_of};
 ghost use Rattle.replies.specs.Answers.{on_ok};
-ghost use Rattle.requests.specs.Plays.{record_of, is_record_of, all_records, words_of, play_text_of, play_record_of, play_word_of, text_told, record_told, word_told, game_text, game_answer, play_request, record_request, outcome_request};
+ghost use Rattle.requests.specs.Given as given;
+ghost use Rattle.requests.specs.Given.{Given};
+ghost use Rattle.requests.specs.Plays.{record_of, is_record_of, all_records, words_of, play_word_of, word_told, game_text, game_answer, play_request, record_request, outcome_request};
 
 use crate::{asked, reading};
 use games::game::Game;
@@ -25,13 +27,15 @@ use texts::space::Space;
 use wording::words::Words;
 use wording::{numbers, output};
 
-// How the plays of a game are given. Two closures, one to play a word and one to tell it, would be no plainer: the
-// definition of what is written of all words (`game_text`) names both by `Given`, and `play_words` and `play_game`
-// would have to require that the closures do what it says.
-#[derive(Clone, Copy)]
-pub enum Given {
-    Text,
-    Record,
+// How the plays of a game are given: how a word is played, and what is written of it.
+trait PlayForm {
+    ghost given: { Given };
+
+    fn play(g: Game, word: &[u8]) -> Result<PlayedText, Refusal>
+        ensures { result ≡ play_word_of given g word.now };
+
+    fn tell(out: &mut Space, r: Result<PlayedText, Refusal>)
+        ensures { out.new ≡ over (word_told given r) out.old };
 }
 
 // The numbers may be any of 32 bits: which of them are squares is the game's to say.
@@ -63,61 +67,49 @@ fn all_records(s: &[u8]) -> bool
     Words(s).all(is_record)
 }
 
-fn play_text(g: Game, word: &[u8]) -> Result<PlayedText, Refusal>
-    ensures { result ≡ play_text_of g word.now }
-{
-    reading::unescaped(word, |text| gametexts::game::play_str(g, text))
-}
+// The plays are move texts.
+struct Texts;
 
-// A word that is no record is not played. `record` answers a line with such a word before it plays any.
-#[tactic(auto, unfolding(crate::specs::Plays::play_record_of))]
-fn play_record(g: Game, word: &[u8]) -> Result<PlayedText, Refusal>
-    ensures { result ≡ play_record_of g word.now }
-{
-    let mv = read_record(word).ok_or(Refusal::BadMoveText)?;
-    let game = g.play(mv)?;
-    Ok(PlayedText { game, mv })
-}
+impl PlayForm for Texts {
+    ghost given = { given.Text };
 
-fn play_word(given: Given, g: Game, word: &[u8]) -> Result<PlayedText, Refusal>
-    ensures { result ≡ play_word_of given g word.now }
-{
-    match given {
-        Given::Text => play_text(g, word),
-        Given::Record => play_record(g, word),
+    fn play(g: Game, word: &[u8]) -> Result<PlayedText, Refusal> {
+        reading::unescaped(word, |text| gametexts::game::play_str(g, text))
     }
-}
 
-// What is written of a text: the move and the game after it, or `!` and the refusal's number.
-#[tactic(auto, using(texts::proofs::Overs::over_append), unfolding(texts::specs::Lent::over, crate::specs::Plays::text_told))]
-fn tell_text(out: &mut Space, r: Result<PlayedText, Refusal>)
-    ensures { out.new ≡ over (text_told r) out.old }
-{
-    out.put_byte(b' ');
-    match r {
-        Ok(played) => {
-            answers::put_move(out, played.mv);
-            states::put_state(out, played.game, b'/');
+    // The move and the game after it, or `!` and the refusal's number.
+    #[tactic(auto, using(texts::proofs::Overs::over_append), unfolding(texts::specs::Lent::over, crate::specs::Plays::text_told))]
+    fn tell(out: &mut Space, r: Result<PlayedText, Refusal>) {
+        out.put_byte(b' ');
+        match r {
+            Ok(played) => {
+                answers::put_move(out, played.mv);
+                states::put_state(out, played.game, b'/');
+            }
+            Err(e) => output::put_number(out, e),
         }
-        Err(e) => output::put_number(out, e),
     }
 }
 
-// What is written of a record: the answer's number.
-#[tactic(auto, using(texts::proofs::Overs::over_append), unfolding(texts::specs::Lent::over, crate::specs::Plays::record_told))]
-fn tell_record(out: &mut Space, r: Result<PlayedText, Refusal>)
-    ensures { out.new ≡ over (record_told r) out.old }
-{
-    out.put_byte(b' ');
-    output::put_decimal(out, refusal::answer_number(&r) as u64);
-}
+// The plays are records.
+struct Records;
 
-fn tell_word(given: Given, r: Result<PlayedText, Refusal>, out: &mut Space)
-    ensures { out.new ≡ over (word_told given r) out.old }
-{
-    match given {
-        Given::Text => tell_text(out, r),
-        Given::Record => tell_record(out, r),
+impl PlayForm for Records {
+    ghost given = { given.Record };
+
+    // A word that is no record is not played. `record` answers a line with such a word before it plays any.
+    #[tactic(auto, unfolding(crate::specs::Plays::play_record_of))]
+    fn play(g: Game, word: &[u8]) -> Result<PlayedText, Refusal> {
+        let mv = read_record(word).ok_or(Refusal::BadMoveText)?;
+        let game = g.play(mv)?;
+        Ok(PlayedText { game, mv })
+    }
+
+    // The answer's number.
+    #[tactic(auto, using(texts::proofs::Overs::over_append), unfolding(texts::specs::Lent::over, crate::specs::Plays::record_told))]
+    fn tell(out: &mut Space, r: Result<PlayedText, Refusal>) {
+        out.put_byte(b' ');
+        output::put_decimal(out, refusal::answer_number(&r) as u64);
     }
 }
 
@@ -125,21 +117,18 @@ fn tell_word(given: Given, r: Result<PlayedText, Refusal>, out: &mut Space)
 fn played_on(g: Game, r: Result<PlayedText, Refusal>) -> Game
     ensures { result ≡ played_on g r }
 {
-    match r {
-        Ok(played) => played.game,
-        Err(_) => g,
-    }
+    r.map_or(g, |played| played.game)
 }
 
 // Plays the words in order; each play gets the game that the plays before it led to.
 #[tactic(auto, using(crate::proofs::PlayLaws::game_end))]
-fn play_words(given: Given, start: Game, s: &[u8], out: &mut Space)
-    ensures { out.new ≡ over (game_text given start (words_of s.now)) out.old }
+fn play_words<F: PlayForm>(start: Game, s: &[u8], out: &mut Space)
+    ensures { out.new ≡ over (game_text F.given start (words_of s.now)) out.old }
 {
     let mut g = start;
     for word in Words(s) {
-        let r = play_word(given, g, word);
-        tell_word(given, r, out);
+        let r = F::play(g, word);
+        F::tell(out, r);
         g = played_on(g, r);
     }
     states::put_end(out, g);
@@ -155,13 +144,13 @@ fn new_game(p: Position) -> Game
 // Begins a game and plays the words. This is no `answers::tell`: that writes `ok` and a space, but here each play
 // writes the space before its own answer.
 #[tactic(auto, using(texts::proofs::Overs::over_append), unfolding(texts::specs::Lent::over, crate::specs::Plays::game_answer))]
-fn play_game(given: Given, p: Result<Position, Refusal>, s: &[u8], out: &mut Space)
-    ensures { out.new ≡ over (on_ok p (λ q. game_answer given q s.now)) out.old }
+fn play_game<F: PlayForm>(p: Result<Position, Refusal>, s: &[u8], out: &mut Space)
+    ensures { out.new ≡ over (on_ok p (λ q. game_answer F.given q s.now)) out.old }
 {
     match p {
         Ok(q) => {
             out.put(b"ok");
-            play_words(given, new_game(q), s, out);
+            play_words::<F>(new_game(q), s, out);
         }
         Err(e) => output::put_refusal(out, e),
     }
@@ -170,7 +159,7 @@ fn play_game(given: Given, p: Result<Position, Refusal>, s: &[u8], out: &mut Spa
 pub(crate) fn play(p: Result<Position, Refusal>, texts: &[u8], out: &mut Space)
     ensures { out.new ≡ over (play_request p texts.now) out.old }
 {
-    play_game(Given::Text, p, texts, out);
+    play_game::<Texts>(p, texts, out);
 }
 
 // Every record must be readable before one is played.
@@ -178,7 +167,7 @@ pub(crate) fn record(p: Result<Position, Refusal>, records: &[u8], out: &mut Spa
     ensures { out.new ≡ over (record_request p records.now) out.old }
 {
     if all_records(records) {
-        play_game(Given::Record, p, records, out);
+        play_game::<Records>(p, records, out);
     } else {
         asked::no_number(p, out);
     }

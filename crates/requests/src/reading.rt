@@ -9,15 +9,15 @@ ghost use Rattle.requests.specs.Reading.{either_of, fen_in, hub_in, position_in,
 use positions::moves::Move;
 use positions::position::Position;
 use squares::refusal::Refusal;
-use texts::{bytes, fen, hub};
+use texts::{fen, hub};
 use wording::escapes;
 
 // 51 bytes without a colon are Hub. Everything else is FEN.
-#[tactic(auto, unfolding(crate::specs::Reading::either_of))]
+#[tactic(auto, using(crate::proofs::Readings::colon_none, crate::proofs::Readings::colon_some), unfolding(crate::specs::Reading::either_of))]
 fn either(text: &[u8]) -> Result<Position, Refusal>
     ensures { result ≡ either_of text.now }
 {
-    if text.len() == 51 && bytes::find(text, b':') == 51 {
+    if text.len() == 51 && !text.contains(&b':') {
         hub::from_hub(text)
     } else {
         fen::from_fen(text)

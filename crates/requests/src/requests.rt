@@ -11,10 +11,10 @@ use positions::position::Position;
 use replies::answers;
 use scores::eval::Classical;
 use squares::refusal::Refusal;
-use texts::bytes;
 use texts::space::Space;
+use texts::split::Split;
 use wording::output::Flaw;
-use wording::{escapes, output, words};
+use wording::{escapes, words};
 
 // The longest line that is looked at.
 pub const LONGEST: usize = 65536;
@@ -72,7 +72,7 @@ pub enum Request {
 }
 
 // The requests in the order of the table. A name is looked up in the table's bytes, since these are what `--help`
-// prints; the law `whole` says that the two agree.
+// prints; the law `found` says that the two agree.
 const REQUESTS: [Request; 22] = [
     Request::Fen,
     Request::Hub,
@@ -98,21 +98,16 @@ const REQUESTS: [Request; 22] = [
     Request::Record,
 ];
 
-// The request with this name. The loop is no `zip` of the table's lines and REQUESTS: the laws of the rows (`Table`)
-// are about the text that is left.
-#[tactic(auto, using(crate::proofs::Table::next, crate::proofs::Table::none))]
+// The request with this name: the rows of the table beside what they ask for.
 fn request_of(name: &[u8]) -> Option<Request>
     ensures { result ≡ request_of name.now }
 {
     let table = TABLE;
-    let mut left = &table[..];
-    for request in REQUESTS {
-        if words::same(name, words::first(left)) {
-            return Some(request);
-        }
-        left = bytes::after_first(left, b'\n');
-    }
-    None
+    REQUESTS
+        .iter()
+        .zip(Split::new(&table, b'\n'))
+        .find(|(_, row)| words::same(name, words::first(row)))
+        .map(|(request, _)| *request)
 }
 
 // The position that the whole argument means, or its first word alone.
@@ -164,22 +159,17 @@ fn answer_request(request: Request, arg: &[u8], out: &mut Space)
 fn read_request(line: &[u8]) -> Result<Request, Flaw>
     ensures { on_read result (λ r. request_answer r (after_word line.now)) ≡ answer_of line.now }
 {
-    if LONGEST < line.len() {
-        return Err(Flaw::Length);
-    }
-    if !escapes::is_plain(line) {
-        return Err(Flaw::Escape);
-    }
+    Flaw::Length.unless(line.len() <= LONGEST)?;
+    Flaw::Escape.unless(escapes::is_plain(line))?;
     request_of(words::first(line)).ok_or(Flaw::Name)
 }
 
 fn put_answer(line: &[u8], out: &mut Space)
     ensures { out.new ≡ over (answer_of line.now) out.old }
 {
-    match read_request(line) {
-        Ok(request) => answer_request(request, words::rest(line), out),
-        Err(flaw) => output::put_bad(out, flaw),
-    }
+    asked::answer_read(out, read_request(line), |to, request| {
+        answer_request(request, words::rest(line), to)
+    });
 }
 
 // The answer to a request line (without its line feed), at the start of the lent bytes; what has no room is left out.
@@ -193,21 +183,12 @@ pub fn answer(line: &[u8], out: &mut [u8]) -> usize
     space.at
 }
 
+// The requests with their arguments, one a line, at the start of the lent bytes; what has no room is left out.
 #[tactic(auto, unfolding(crate::specs::Requests::help_text))]
-fn put_help(out: &mut Space)
-    ensures { out.new ≡ over help_text out.old }
-{
-    let table = TABLE;
-    out.put(&table);
-}
-
-// The requests with their arguments, one a line, at the start of the lent bytes; what has no room is left out. It
-// begins and ends as `answer` does. One function for both would take what is put as a closure, and would have to
-// require that it only adds: no plainer.
 pub fn help(out: &mut [u8]) -> usize
     ensures { Adds help_text out.old 0 out.new result }
 {
-    let mut space = Space::new(out);
-    put_help(&mut space);
-    space.at
+    let n = TABLE.len().min(out.len());
+    out[..n].copy_from_slice(&TABLE[..n]);
+    n
 }

@@ -3,6 +3,7 @@ pub mod Below
 pub mod Pointwise
 pub mod Members
 pub mod Loops
+pub mod Singles
 pub mod Folds
 pub mod Unions
 pub mod Sizes

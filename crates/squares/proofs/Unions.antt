@@ -1,34 +1,11 @@
 -- Unions over the members of a set: a bit belongs to the union exactly where it belongs to the set of some member.
-use Rattle.std.proofs.Common.{◌≡◌, ℕ, zero, suc, ◌+◌, ◌-◌, ◌^◌, ◌<◌, Bool, true, false, cond, ◌||◌, eqb, sym, refl, ap, ◌∙◌, arith, pow_pos, eqb-true}
+use Rattle.std.proofs.Common.{◌≡◌, ℕ, zero, suc, ◌^◌, ◌<◌, Bool, true, false, cond, ◌||◌, eqb, sym, refl, ap, ◌∙◌, arith, pow_pos, eqb-true}
 use mathlib.Core.Bool.{or-true, false≢true}
-use lib.Bits.{bit_and, bit_or, or_comm, or_zero_l, or_lt}
+use lib.Bits.{bit_or, or_lt}
 use borrow.Author.Tests.{eqb-false}
-use Rattle.squares.specs.Sets.{has, lowest}
+use Rattle.squares.specs.Sets.{has}
 use Rattle.squares.specs.Folds.{fold_to, over, union_over}
-use Rattle.squares.proofs.Bools.{iff, iff_eq, at3, tested}
-use Rattle.squares.proofs.Pointwise.{has_or, has_zero, ext}
-use Rattle.squares.proofs.Folds.{over_next, over_none, over_same, over_mask, three}
-
-pub or_assoc : (a b c : ℕ) → bit_or (bit_or a b) c ≡ bit_or a (bit_or b c)
-unfolding tested
-or_assoc a b c =
-    let t = three a b c in let k = a + b + c in
-    ext k _ _ (or_lt k _ _ (or_lt k a b t.0 t.1) t.2) (or_lt k _ _ t.0 (or_lt k b c t.1 t.2))
-    (λ i l. has_or (bit_or a b) c i ∙ ap (λ (x : Bool). x || has c i) (has_or a b i)
-    ∙ iff_eq _ _ (at3 (λ x y w. iff ((x || y) || w) (x || (y || w))) refl (has a i) (has b i) (has c i))
-    ∙ sym (has_or a (bit_or b c) i ∙ ap (λ (x : Bool). has a i || x) (has_or b c i)))
-
-pub union_next : (f : ℕ → ℕ) (s : ℕ) → 0 < s → s < 2 ^ 64 → union_over f s ≡ bit_or (union_over f (bit_and s (s - 1))) (f (lowest s))
-union_next = over_next bit_or 0 or_assoc or_comm or_zero_l
-
-pub union_none : (f : ℕ → ℕ) → union_over f 0 ≡ 0
-union_none = over_none bit_or 0 or_assoc or_comm or_zero_l
-
-pub union_same : (f g : ℕ → ℕ) (s : ℕ) → ((i : ℕ) → i < 64 → has s i ≡ true → f i ≡ g i) → union_over f s ≡ union_over g s
-union_same = over_same bit_or 0 or_assoc or_comm or_zero_l
-
-pub union_mask : (f : ℕ → ℕ) (s m : ℕ) → ((i : ℕ) → i < 64 → has m i ≡ false → f i ≡ 0) → union_over f (bit_and s m) ≡ union_over f s
-union_mask = over_mask bit_or 0 or_assoc or_comm or_zero_l
+use Rattle.squares.proofs.Pointwise.{has_or, has_zero}
 
 -- ---- members of a union
 -- bit j belongs to the set of the member i of s

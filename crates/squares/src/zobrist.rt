@@ -316,19 +316,16 @@ pub fn side_key() -> u64
     SIDE_KEY
 }
 
-// Which of the four blocks of 64 keys belongs to this kind of piece.
+// Which of the four blocks of 64 keys belongs to this kind of piece. Colour and kind come apart here as in the Rust,
+// and not as a `Piece`; so they do in `set_key` and `piece_key`, whose parameters are public and stay.
 pub(crate) fn index(color: Color, kind: PieceKind) -> usize
     ensures { result ≡ block color kind }
 {
-    match color {
-        Color::White => match kind {
-            PieceKind::Man => 0,
-            PieceKind::King => 2,
-        },
-        Color::Black => match kind {
-            PieceKind::Man => 1,
-            PieceKind::King => 3,
-        },
+    match (color, kind) {
+        (Color::White, PieceKind::Man) => 0,
+        (Color::Black, PieceKind::Man) => 1,
+        (Color::White, PieceKind::King) => 2,
+        (Color::Black, PieceKind::King) => 3,
     }
 }
 

@@ -1,17 +1,18 @@
 -- What the byte loops find, place by place: trimming, finding, splitting at a place, a square's digits.
 use Prim.Native.Nat.{ℕ, zero, suc, ◌+◌, ◌-◌, ◌≤◌, ◌<◌}
-use mathlib.Core.Path.{◌≡◌, refl, ap, sym, subst, ◌∙◌}
-use mathlib.Core.List.{List, [], ◌∷◌, ◌++◌}
+use mathlib.Core.Path.{◌≡◌, refl, ap, ap₂, sym, subst, ◌∙◌}
+use mathlib.Core.List.{List, [], ◌∷◌, ◌++◌, reverse, reverse-append, reverse-reverse}
 use mathlib.Core.Bool.{Bool, true, false, cond, not, ◌||◌, ◌&&◌}
 use native.Mathlib.Omega.{arith}
 use native.Mathlib.Numerals.{add-one}
-use lib.ListN.{length, take, drop, get_or, length-drop}
-use lib.Seq.{drop-cons, take-suc, take_all, take-length}
+use lib.ListN.{length, take, drop, get_or, length-drop, length-append, length-reverse}
+use lib.Seq.{drop-cons, take_all, take-append-le, take-length}
 use lib.Dec.{leb, ltb, eqb, leb-suc-suc}
 use borrow.Author.Tests.{le-leb, lt-leb, lt-ltb, ltb-true, ltb-false}
 use Rattle.texts.specs.Bytes.{ascii, is, holds, trim_start, keep_end, trim_end, up_to, after_or, after_first, strip, index_of, IsIndex}
 use lib.Pointwise.{pointwise}
-use Rattle.std.specs.List.{position_or_len}
+use Rattle.std.specs.List.{position_or_len, AllWithin, HoldsAt}
+use Rattle.std.proofs.lemmas.Iterator.{index_from_first}
 use Rattle.std.specs.Option.{unwrap_or}
 use Rattle.std.specs.Bool.{MatchBool}
 use Rattle.std.specs.Str.{IsAscii, IsNotAscii}
@@ -49,6 +50,19 @@ ascii_cases true s h = all_ascii s h
 ascii_cases false s h = some_other s h.0 h.1
 
 -- ---- trimming
+-- how many bytes at the start of s pass the test p
+lead : (ℕ → Bool) → List ℕ → ℕ
+lead p [] = 0
+lead p (b ∷ s) = cond (p b) (suc (lead p s)) 0
+
+-- r is the place of the first byte of s that fails the test
+abbrev pub FirstKept : (ℕ → Bool) → List ℕ → Option ℕ → Type 0
+FirstKept p s r = MatchOption r (AllWithin (λ b. p b ≡ true) s 0 (length s)) (λ i. (i < length s) × HoldsAt (λ b. p b ≡ false) s i × AllWithin (λ b. p b ≡ true) s 0 i)
+
+lead_is : (p : ℕ → Bool) (s : List ℕ) (r : Option ℕ) → FirstKept p s r → lead p s ≡ unwrap_or r (length s)
+unfolding lead
+lead_is p s r h = index_from_first (lead p) (λ b. p b ≡ false) (λ b. p b ≡ true) refl (λ b t e. rw e refl) (λ b t e. rw (e, add-one) refl) s r h
+
 pub start_cut : (p : ℕ → Bool) (s : List ℕ) → 0 < length s → p (get_or s 0 0) ≡ true → trim_start p s ≡ trim_start p (take (length s - 1) (drop 1 s))
 unfolding trim_start
 start_cut p [] h e = absurd (omega arith)
@@ -75,22 +89,25 @@ unfolding trim_end keep_end
 end_snoc p [] b = refl
 end_snoc p (a ∷ s) b = ap (keep_end p a) (end_snoc p s b) ∙ keep_cond p a (p b) (trim_end p s) s b
 
-end_last : (s : List ℕ) → 0 < length s → s ≡ take (length s - 1) s ++ get_or s (length s - 1) 0 ∷ []
-end_last s p =
-    let q : length s ≡ suc (length s - 1) = omega arith in
-    sym (take-length s) ∙ ap (λ (n : ℕ). take n s) q ∙ take-suc s (length s - 1) 0 (omega arith)
+-- of a text that is read from its end
+end_off : (p : ℕ → Bool) (u : List ℕ) → take (length u - lead p u) (reverse u) ≡ trim_end p (reverse u)
+unfolding lead trim_end
+end_off p [] = refl
+end_off p (b ∷ u) = rw (reverse-append (b ∷ []) u, end_snoc p (reverse u) b) (go (p b) (end_off p u))
+  where
+    go : (t : Bool) → take (length u - lead p u) (reverse u) ≡ trim_end p (reverse u)
+        → take (suc (length u) - cond t (suc (lead p u)) 0) (reverse u ++ b ∷ []) ≡ cond t (trim_end p (reverse u)) (reverse u ++ b ∷ [])
+    go true h =
+        let k : suc (length u) - suc (lead p u) ≡ length u - lead p u = omega arith in
+        ap (λ (n : ℕ). take n (reverse u ++ b ∷ [])) k ∙ take-append-le (length u - lead p u) (reverse u) (b ∷ []) (omega (arith, length-reverse u)) ∙ h
+    go false h = take_all (suc (length u) - 0) (reverse u ++ b ∷ []) (omega (arith, length-append (reverse u) (b ∷ []), length-reverse u))
 
-pub end_cut : (p : ℕ → Bool) (s : List ℕ) → 0 < length s → p (get_or s (length s - 1) 0) ≡ true → trim_end p s ≡ trim_end p (take (length s - 1) s)
-end_cut p s q t = ap (trim_end p) (end_last s q) ∙ end_snoc p (take (length s - 1) s) _ ∙ ap (λ (x : Bool). cond x (trim_end p (take (length s - 1) s)) (take (length s - 1) s ++ get_or s (length s - 1) 0 ∷ [])) t
-
-pub end_keep : (p : ℕ → Bool) (s : List ℕ) → 0 < length s → p (get_or s (length s - 1) 0) ≡ false → trim_end p s ≡ s
-end_keep p s q t =
-    ap (trim_end p) (end_last s q) ∙ end_snoc p (take (length s - 1) s) _ ∙ ap (λ (x : Bool). cond x (trim_end p (take (length s - 1) s)) (take (length s - 1) s ++ get_or s (length s - 1) 0 ∷ [])) t ∙ sym (end_last s q)
-
-pub end_none : (p : ℕ → Bool) (s : List ℕ) → length s < 1 → trim_end p s ≡ s
-unfolding trim_end
-end_none p [] h = refl
-end_none p (b ∷ s) h = absurd (omega arith)
+pub end_at : (p : ℕ → Bool) (s : List ℕ) (r : Option ℕ) → FirstKept p (reverse s) r → {n : ℕ} → n ≡ unwrap_or r (length s) → take (length s - n) s ≡ trim_end p s
+end_at p s r h {n} e =
+    let u = reverse s in
+    let k : n ≡ lead p u = e ∙ ap (unwrap_or r) (sym (length-reverse s)) ∙ sym (lead_is p u r h) in
+    let v : reverse u ≡ s = reverse-reverse s in
+    ap₂ (λ (m : ℕ) (t : List ℕ). take m t) (ap₂ (λ (m k : ℕ). m - k) (sym (length-reverse s)) k) (sym v) ∙ end_off p u ∙ ap (trim_end p) v
 
 -- ---- finding
 position_is : (p : ℕ → Bool) (s : List ℕ) → position_or_len p s ≡ index_of p s

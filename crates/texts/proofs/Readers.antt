@@ -1,14 +1,24 @@
 -- What the reading loops do in one turn: the definition at the whole is the definition at what is left.
 use Rattle.std.specs.Prelude.{Err, Ok, Result}
-use Prim.Native.Nat.{ℕ, suc, ◌+◌, ◌-◌, ◌≤◌, ◌<◌}
+use Prim.Native.Nat.{ℕ, zero, suc, ◌+◌, ◌-◌, ◌≤◌, ◌<◌}
 use mathlib.Core.Path.{◌≡◌, refl, ap, ap₂, sym, ◌∙◌}
 use mathlib.Core.List.{List, [], ◌∷◌}
 use mathlib.Core.Bool.{Bool, true, false, cond, ◌&&◌, ◌||◌}
 use native.Mathlib.Omega.{arith}
-use lib.ListN.{length, take, drop, get_or}
-use lib.Dec.{eqb, leb}
+use native.Mathlib.Numerals.{add-one}
+use lib.ListN.{length, drop, get_or, drop_of_length-le}
+use lib.Seq.{drop-cons}
+use Rattle.std.proofs.iter.Yields.{fronts, nat_range_steps}
+use Rattle.std.proofs.lemmas.Iterator.{zips, YieldsList, YieldsList-from_zip, YieldsList-from_range, YieldsList-from_slice}
+use Rattle.std.specs.Iterator.Adapters.{zip_first, zip_second}
+use Rattle.std.specs.Slice.Iter.{iter_rest}
+use Rattle.std.specs.declared.iter.Zip.{Zip}
+use Rattle.std.specs.declared.ops.Range.{Range}
+use Rattle.std.specs.declared.slice.Iter.{Iter}
+use lib.Dec.{eqb, leb, eqb-suc-zero, eqb-zero-suc, eqb-suc-suc}
+use Rattle.std.specs.List.{zip, range_with_len}
 use lib.Bits.{bit_or}
-use borrow.Author.Tests.{eqb-true, ne_eqb, le-leb}
+use borrow.Author.Tests.{eqb-true, le-leb}
 use Rattle.squares.specs.Squares.{is_square, bit_of, run, single}
 use Rattle.squares.specs.declared.refusal.Refusal.{Refusal}
 use Rattle.squares.specs.declared.refusal.Refusal.TheVariants.{NoSide, NotFifty}
@@ -20,12 +30,11 @@ use Rattle.squares.proofs.Bools.{imp, imp_elim, and_both}
 use Rattle.squares.proofs.Below.{below, below_at}
 use Rattle.squares.proofs.Numbers.{range_square}
 use Rattle.texts.specs.Parts.{and_then, OnSquare}
-use Rattle.texts.specs.Bytes.{starts_with, strip}
+use Rattle.texts.specs.Bytes.{blank, trim, starts_with, strip}
 use Prim.Native.Char.{code}
-use Rattle.texts.specs.Fen.{fen_color_of, end_of, range_of, item_of, side_of}
+use Rattle.texts.specs.Fen.{fen_color_of, end_of, range_of, item_of, read_each, side_of}
 use Rattle.texts.specs.Hub.{hub_byte_of, hub_from}
 use Rattle.texts.specs.declared.parts.Parts.{Parts}
-use Rattle.texts.proofs.Cuts.{rest}
 use Rattle.texts.proofs.SquareTexts.{read_on_square}
 
 -- ---- a run of squares, one more at its end
@@ -79,44 +88,80 @@ side_refused [] e = cc
 side_refused (b ∷ []) e = color_refused b e
 side_refused (b ∷ (c ∷ s)) e = cc
 
--- ---- Hub: w is what the whole answers, s what is left of it before square n
-module _ (n : ℕ) (p : Parts) (s : List ℕ) (w : Result Parts Refusal) (g : hub_from (51 - n) n p s ≡ w) where
-  module _ (h : n ≤ 50) where
-    more : 51 - n ≡ suc (51 - (n + 1))
-    more = omega arith
+-- ---- parts of a text, one after another
+module _ (read : Parts → List ℕ → Result Parts Refusal) (p : Parts) (left : List (List ℕ)) where
+  pub read_end : left ≡ [] → Ok p ≡ read_each read p left
+  unfolding read_each
+  read_end w = rw w refl
 
-    pub hub_cut : length s < 1 → Err NotFifty ≡ w
-    unfolding hub_from
-    hub_cut l = go s l ∙ ap (λ (k : ℕ). hub_from k n p s) (sym more) ∙ g
-      where
-        go : (t : List ℕ) → length t < 1 → Err NotFifty ≡ hub_from (suc (51 - (n + 1))) n p t
-        go [] l = refl
-        go (x ∷ t) l = absurd (omega arith)
+  module _ {t : List ℕ} {rest : List (List ℕ)} (w : left ≡ t ∷ rest) {a : Result Parts Refusal} (e : a ≡ read p (trim blank t)) where
+    read_one : and_then a (λ q. read_each read q rest) ≡ read_each read p left
+    unfolding read_each
+    read_one = rw (w, e) refl
 
-    -- a is what the byte of square n answers
-    module _ (l : 0 < length s) {a : Result Parts Refusal} (k : a ≡ hub_byte_of n (get_or s 0 0) p) where
-      step : and_then a (λ q. hub_from (51 - (n + 1)) (n + 1) q (take (length s - 1) (drop 1 s))) ≡ w
-      unfolding hub_from
-      step = rw k (go s l ∙ ap (λ (k : ℕ). hub_from k n p s) (sym more) ∙ g)
-        where
-          go : (t : List ℕ) → 0 < length t → and_then (hub_byte_of n (get_or t 0 0) p) (λ q. hub_from (51 - (n + 1)) (n + 1) q (take (length t - 1) (drop 1 t))) ≡ hub_from (suc (51 - (n + 1))) n p t
-          go [] l = absurd (omega arith)
-          go (x ∷ t) l = rw (rest (x ∷ t) 1) refl
+    pub read_next : {q : Parts} → a ≡ Ok q → read_each read q rest ≡ read_each read p left
+    read_next z = ap (λ (a : Result Parts Refusal). and_then a (λ q. read_each read q rest)) (sym z) ∙ read_one
 
-      pub hub_next : {q : Parts} → a ≡ Ok q → hub_from (51 - (n + 1)) (n + 1) q (take (length s - 1) (drop 1 s)) ≡ w
-      hub_next {q} e = sym (ap (λ (x : Result Parts Refusal). and_then x (λ q. hub_from (51 - (n + 1)) (n + 1) q (take (length s - 1) (drop 1 s)))) e) ∙ step
+    pub read_stop : {f : Refusal} → a ≡ Err f → Err f ≡ read_each read p left
+    read_stop z = ap (λ (a : Result Parts Refusal). and_then a (λ q. read_each read q rest)) (sym z) ∙ read_one
 
-      pub hub_stop : {x : Refusal} {r : Result Parts Refusal} → a ≡ Err x → r ≡ Err x → r ≡ w
-      hub_stop e z = z ∙ sym (ap (λ (x : Result Parts Refusal). and_then x (λ q. hub_from (51 - (n + 1)) (n + 1) q (take (length s - 1) (drop 1 s)))) e) ∙ step
+-- ---- Hub
+-- these bytes are read for the squares beside them, one after another
+unfoldable pub read_squares : Parts → List (ℕ × ℕ) → Result Parts Refusal
+read_squares p [] = Ok p
+read_squares p (x ∷ xs) = and_then (hub_byte_of x.0 x.1 p) (λ q. read_squares q xs)
 
-  -- nothing comes after the last square
-  pub hub_full : n ≡ 51 → cond (eqb (length s) 0) (Ok p) (Err NotFifty) ≡ w
-  unfolding hub_from
-  hub_full e = go s ∙ ap (λ (k : ℕ). hub_from (51 - k) k p s) (sym e) ∙ g
-    where
-      go : (t : List ℕ) → cond (eqb (length t) 0) (Ok p) (Err NotFifty) ≡ hub_from 0 51 p t
-      go [] = refl
-      go (x ∷ t) = rw (ne_eqb (length (x ∷ t)) 0 (λ z. omega (arith, z)))
+-- the squares are there, and nothing comes after them
+abbrev pub all_there : ℕ → List ℕ → Parts → Result Parts Refusal
+all_there k s p = cond (eqb (length s) k) (Ok p) (Err NotFifty)
+
+pub hub_read : (k n : ℕ) (p : Parts) (s : List ℕ) → and_then (read_squares p (zip (range_with_len n k) s)) (all_there k s) ≡ hub_from k n p s
+unfolding hub_from read_squares
+hub_read zero n p [] = refl
+hub_read zero n p (x ∷ s) = rw eqb-suc-zero refl
+hub_read (suc k) n p [] = rw eqb-zero-suc refl
+hub_read (suc k) n p (x ∷ s) = go (λ q. hub_read k (n + 1) q s) (hub_byte_of n x p)
+  where
+    go : ((q : Parts) → and_then (read_squares q (zip (range_with_len (n + 1) k) s)) (all_there k s) ≡ hub_from k (n + 1) q s) → (r : Result Parts Refusal)
+        → and_then (and_then r (λ q. read_squares q (zip (range_with_len (n + 1) k) s))) (all_there (suc k) (x ∷ s)) ≡ and_then r (λ q. hub_from k (n + 1) q s)
+    go h (Err e) = refl
+    go h (Ok q) = ap (λ (b : Bool). and_then (read_squares q (zip (range_with_len (n + 1) k) s)) (λ q. cond b (Ok q) (Err NotFifty))) (eqb-suc-suc (length s) k) ∙ h q
+
+-- the 50 squares, each beside its byte
+unfoldable pub numbered : List ℕ → List (ℕ × ℕ)
+numbered s = zip (range_with_len 1 50) s
+
+pub hub_numbered : (s : List ℕ) (p : Parts) {r : Result Parts Refusal} → r ≡ read_squares p (numbered s) → and_then r (all_there 50 s) ≡ hub_from 50 1 p s
+unfolding numbered
+hub_numbered s p e = ap (λ (r : Result Parts Refusal). and_then r (all_there 50 s)) e ∙ hub_read 50 1 p s
+
+-- the code goes over them
+pub goes_over : {i : Zip (Range ℕ) (Iter ℕ)} (s : List ℕ) → zip_first i ≡ record { start = 1; end = 51 } → iter_rest (zip_second i) ≡ s
+    → YieldsList {B = ℕ × ℕ} (zips nat_range_steps fronts) (λ x. (x.0, x.1.now)) i (numbered s)
+unfolding numbered
+goes_over s a b = YieldsList-from_zip (YieldsList-from_range 1 51 50 a refl) (YieldsList-from_slice s b)
+
+-- w is what is read of all, after k bytes
+module _ (all : List (ℕ × ℕ)) (p : Parts) (k : ℕ) (w : Result Parts Refusal) (g : read_squares p (drop k all) ≡ w) where
+  pub hub_end : k ≡ length all → Ok p ≡ w
+  unfolding read_squares
+  hub_end e = ap (read_squares p) (sym (drop_of_length-le all (omega (arith, e)))) ∙ g
+
+  -- a is what the next byte answers
+  module _ (x : ℕ × ℕ) (h : k < length all) (e : x ≡ get_or all k x) {a : Result Parts Refusal} (q : a ≡ hub_byte_of x.0 x.1 p) where
+    step : and_then a (λ q. read_squares q (drop (k + 1) all)) ≡ w
+    unfolding read_squares
+    step =
+        ap (λ (a : Result Parts Refusal). and_then a (λ q. read_squares q (drop (k + 1) all))) q
+        ∙ ap (λ (n : ℕ). read_squares p (x ∷ drop n all)) (add-one k)
+        ∙ ap (λ (y : ℕ × ℕ). read_squares p (y ∷ drop (suc k) all)) e
+        ∙ ap (read_squares p) (sym (drop-cons all k x h)) ∙ g
+
+    pub hub_next : {r : Parts} → a ≡ Ok r → read_squares r (drop (k + 1) all) ≡ w
+    hub_next z = sym (ap (λ (a : Result Parts Refusal). and_then a (λ q. read_squares q (drop (k + 1) all))) z) ∙ step
+
+    pub hub_stop : {f : Refusal} → a ≡ Err f → Err f ≡ w
+    hub_stop z = sym (ap (λ (a : Result Parts Refusal). and_then a (λ q. read_squares q (drop (k + 1) all))) z) ∙ step
 
 -- an item that is not empty: what comes after its leading K, read as the pieces that the K says
 pub item_read : (c : Color) (p : Parts) (s t : List ℕ) (k : PieceKind) (r : Result Parts Refusal) → 1 ≤ length s → k ≡ kind_if (eqb (get_or s 0 0) (code "K")) → t ≡ strip (code "K") s

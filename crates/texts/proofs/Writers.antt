@@ -1,12 +1,12 @@
 -- A text that grows in a space: numbers, items, and the loops over squares.
 use Prim.Native.Nat.{ℕ, suc, ◌+◌, ◌-◌, ◌*◌, ◌≤◌, ◌<◌, ◌^◌, ◌/◌, ◌%◌}
 use mathlib.Core.Path.{◌≡◌, refl, ap, sym, ◌∙◌}
-use mathlib.Core.List.{List, [], ◌∷◌, ◌++◌, map, append-nil, append_assoc}
+use mathlib.Core.List.{List, [], ◌∷◌, ◌++◌, map, append-nil}
 use mathlib.Core.Bool.{Bool, true, false, cond}
 use native.Mathlib.Omega.{arith}
-use lib.ListN.{length, length-append, take, set}
-use lib.Seq.{take_all}
-use Rattle.std.proofs.lemmas.List.{take_more_set}
+use lib.ListN.{length, length-append, get_or, set}
+use Rattle.std.specs.List.{range_with_len}
+use Rattle.std.proofs.lemmas.List.FromFn.{fill_by_all}
 use lib.Bits.{bit_and}
 use lib.Dec.{ltb}
 use Rattle.squares.specs.Sets.{members, lowest}
@@ -96,34 +96,18 @@ fen_over b s =
     ∙ over_append white black (over (color_char b.side ∷ []) s)
 
 -- ---- Hub, square by square
-
 -- what remains from square n on
 abbrev pub squares_left : Board → ℕ → List ℕ
 squares_left b n = map (hub_char b) (squares_from (51 - n) n)
 
-left_next : (b : Board) (n x : ℕ) → n ≤ 50 → x ≡ hub_char b n → (x ∷ []) ++ squares_left b (n + 1) ≡ squares_left b n
-unfolding squares_from
-left_next b n x h q =
-    let k : 51 - n ≡ suc (51 - (n + 1)) = omega arith in
-    rw k (ap (λ (y : ℕ). y ∷ squares_left b (n + 1)) q)
-
--- one turn of the loop: the letters that were written, and what remains, are the whole text h
-pub hub_turn : (b : Board) (n x : ℕ) (t h : List ℕ) → n ≤ 50 → length t ≡ 51 → x ≡ hub_char b n → take n t ++ squares_left b n ≡ h
-    → take (n + 1) (set t n x) ++ squares_left b (n + 1) ≡ h
-hub_turn b n x t h l s q g =
-    ap (λ (u : List ℕ). u ++ squares_left b (n + 1)) (take_more_set t n x (omega (arith, l, s)))
-    ∙ append_assoc (take n t) (x ∷ []) (squares_left b (n + 1))
-    ∙ ap (λ (u : List ℕ). take n t ++ u) (left_next b n x l q) ∙ g
-
-left_none : (b : Board) (n : ℕ) → n ≡ 51 → [] ≡ squares_left b n
-unfolding squares_from
-left_none b n e = rw e
-
-pub hub_done : (b : Board) (n : ℕ) (t h : List ℕ) → n ≡ 51 → length t ≡ 51 → take n t ++ squares_left b n ≡ h → t ≡ h
-hub_done b n t h e s g =
-    sym (take_all n t (omega (arith, e, s))) ∙ sym (append-nil (take n t)) ∙ ap (λ (u : List ℕ). take n t ++ u) (left_none b n e) ∙ g
-
--- at the start there is the side's letter
+-- the side's letter, then those of the squares
 pub hub_parts_lem : (b : Board) (x : ℕ) → x ≡ color_char b.side → (x ∷ []) ++ squares_left b 1 ≡ hub_text b
 unfolding hub_text
 hub_parts_lem b x q = ap (λ (y : ℕ). y ∷ squares_left b 1) q
+
+-- each byte is the letter of its number, and the side's letter takes the place of the first
+pub hub_written : (b : Board) (t : List ℕ) (x : ℕ) → length t ≡ 51 → ((k : ℕ) → k < 51 → get_or t k 0 ≡ hub_char b k) → x ≡ color_char b.side → set t 0 x ≡ hub_text b
+unfolding hub_text squares_from
+hub_written b t x l h q =
+    let e : t ≡ map (hub_char b) (range_with_len 0 51) = fill_by_all (hub_char b) t 51 0 l h in
+    ap (λ (t : List ℕ). set t 0 x) e ∙ ap (λ (y : ℕ). y ∷ map (hub_char b) (range_with_len 1 50)) q

@@ -1,5 +1,6 @@
 -- FEN (docs/RULES.md, "FEN"): the text of a board, and the position of a text.
-use Rattle.std.specs.Prelude.{ℕ, ◌+◌, ◌-◌, List, [], ◌∷◌, map, Bool, cond, ◌&&◌, ◌||◌, leb, eqb, length, Err, Ok, Result}
+use denote.Ref.{Bor}
+use Rattle.std.specs.Prelude.{◌≡◌, ℕ, ◌+◌, ◌-◌, List, [], ◌∷◌, map, Bool, cond, ◌&&◌, ◌||◌, leb, eqb, length, Err, Ok, Result}
 use Prim.Native.Char.{code}
 use Rattle.squares.specs.Sets.{members}
 use Rattle.squares.specs.Squares.{run, square_at_bit, contains_of}
@@ -97,6 +98,11 @@ item_of c p (x ∷ s) = range_of c (kind_if (starts_with (code "K") (x ∷ s))) 
 unfoldable pub read_each : (Parts → List ℕ → Result Parts Refusal) → Parts → List (List ℕ) → Result Parts Refusal
 read_each read p [] = Ok p
 read_each read p (f ∷ fs) = and_then (read p (trim blank f)) (λ q. read_each read q fs)
+
+-- where the code reads the text t as `read` does, r is what is read of all the texts
+abbrev pub ReadsEach : (Bor (List ℕ) → Parts → Result Parts Refusal → Type 0) → Parts → List (List ℕ) → Result Parts Refusal → Type 0
+ReadsEach reads p texts r =
+    (read : Parts → List ℕ → Result Parts Refusal) → ((t : Bor (List ℕ)) (q : Parts) (r : Result Parts Refusal) → reads t q r → r ≡ read q t.now) → r ≡ read_each read p texts
 
 abbrev pub items_of : Color → Parts → List (List ℕ) → Result Parts Refusal
 items_of c = read_each (item_of c)

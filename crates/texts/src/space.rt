@@ -1,7 +1,8 @@
 // Lent bytes that are written piece by piece, and the place after what was written.
 //
-// What has no room is left out, and the bytes after the text stay as they were. (`write!`, `fmt` and `io::Cursor` would
-// not do: their contracts do not say when they answer `Ok`.)
+// What has no room is left out, and the bytes after the text stay as they were. This is no `io::Cursor<&mut [u8]>`: its
+// place is a u64, and each write answers a `Result` that every caller would have to drop. `write!` would not do either:
+// its contract does not say when it answers `Ok`.
 ghost use Rattle.std.specs.Prelude.{◌≡◌, ◌∷◌, []};
 ghost use Rattle.texts.specs.Bytes.{digits};
 ghost use Rattle.texts.specs.Lent.{over, text_of};
@@ -62,10 +63,6 @@ impl<'a> Space<'a> {
     pub fn text(&self) -> &[u8]
         ensures { result.now ≡ text_of self.now }
     {
-        if self.at <= self.bytes.len() {
-            &self.bytes[..self.at]
-        } else {
-            &self.bytes[..]
-        }
+        &self.bytes[..self.at.min(self.bytes.len())]
     }
 }

@@ -9,8 +9,8 @@ use crate::bytes;
 // The parts of a text between the bytes `at`, one after another: `for part in Split::new(text, b',')`. There is always
 // one part more than such bytes, so an empty text has one part, which is empty.
 //
-// The library's `split` takes a test, and its contract speaks of the runs of that test. This one takes the byte, and
-// its contract gives the parts: `split_on`.
+// `text.split(|b| *b == at)` of the library was compared: its contract tells one part at a time, by where the test
+// first holds, and names no list of all the parts, which every law on a reader is about (`split_on`).
 #[derive(Clone, Copy)]
 pub struct Split<'a> {
     // What comes after the parts that were given; `None` once all were.

@@ -1,60 +1,82 @@
 -- Escapes, place by place; and what undoing wrote.
 use Prim.Native.Nat.{ℕ, zero, suc, ◌+◌, ◌-◌, ◌*◌, ◌≤◌, ◌<◌}
 use mathlib.Core.Path.{◌≡◌, refl, ap, sym, ◌∙◌, subst}
-use mathlib.Core.List.{List, [], ◌∷◌, ◌++◌, append_assoc, append-nil}
+use mathlib.Core.List.{List, [], ◌∷◌}
 use mathlib.Core.Bool.{Bool, true, false, cond, ◌&&◌, true≢false, false≢true}
 use native.Mathlib.Omega.{arith}
-use lib.ListN.{length, take, drop, get_or, length-drop}
+use lib.ListN.{length, take, drop, get_or}
 use lib.Dec.{eqb, leb}
+use denote.Ref.{Bor}
 use borrow.Author.Tests.{le-leb, lt-leb, eq-eqb, ne_eqb}
 use Rattle.texts.proofs.Cuts.{rest}
-use Rattle.texts.proofs.Overs.{over_none, over_then, over_lent}
+use Rattle.texts.proofs.Overs.{over_none, over_append, over_lent}
 use Rattle.texts.proofs.Pieces.{whole}
 use Rattle.texts.specs.Lent.{over}
 use Rattle.texts.specs.declared.space.Space.{Space}
 use Rattle.wording.specs.Numbers.{digit_of}
-use Rattle.wording.specs.Escapes.{Plain, text, broken, high_of, hex_escape, escape_of, UsedIn, before, on_escape, undo, plain, is_plain, text_of, undone, Undid}
+use Rattle.wording.specs.Escapes.{Plain, text, broken, high_of, hex_escape, escape_of, Escaped, before, on_escape, undo, plain, is_plain, text_of, undone, Undid}
 use Rattle.std.specs.declared.option.Option.{Option}
-use Rattle.std.specs.Prelude.{None, Some}
+use Rattle.std.specs.Prelude.{None, Some, is_some}
+use Rattle.std.specs.List.{list_all}
+use Rattle.wording.specs.Steps.{escaped_first, undo_each}
 
 -- ---- \xHH
-pub hex_short : (s : List ℕ) → length s < 2 → hex_escape s ≡ None
+pub hex_short : (s : List ℕ) → length s < 2 → Escaped (120 ∷ s) (hex_escape s) None
 unfolding hex_escape
-hex_short [] h = refl
-hex_short (a ∷ []) h = refl
+hex_short [] h = tt
+hex_short (a ∷ []) h = tt
 hex_short (a ∷ (b ∷ s)) h = absurd (omega arith)
 
-pub hex_pair : (s : List ℕ) (a b : ℕ) → 2 ≤ length s → a ≡ high_of (get_or s 0 0) → b ≡ digit_of (get_or s 1 0)
-    → hex_escape s ≡ cond (leb a 15 && leb b 15) (Some (a * 16 + b, 3)) None
+pub high_bad : (s : List ℕ) → 2 ≤ length s → 15 < high_of (get_or s 0 0) → Escaped (120 ∷ s) (hex_escape s) None
 unfolding hex_escape
-hex_pair [] a b h e f = absurd (omega arith)
-hex_pair (x ∷ []) a b h e f = absurd (omega arith)
-hex_pair (x ∷ (y ∷ s)) a b h e f = rw (e, f)
+high_bad [] h k = absurd (omega arith)
+high_bad (x ∷ []) h k = absurd (omega arith)
+high_bad (x ∷ (y ∷ s)) h k = rw (lt-leb (high_of x) 15 k) tt
 
-pub high_bad : (a b : ℕ) (p : Option (ℕ × ℕ)) → 15 < a → cond (leb a 15 && leb b 15) p None ≡ None
-high_bad a b p h = rw (lt-leb a 15 h)
+pub low_bad : (s : List ℕ) → 2 ≤ length s → high_of (get_or s 0 0) ≤ 15 → 15 < digit_of (get_or s 1 0) → Escaped (120 ∷ s) (hex_escape s) None
+unfolding hex_escape
+low_bad [] h k l = absurd (omega arith)
+low_bad (x ∷ []) h k l = absurd (omega arith)
+low_bad (x ∷ (y ∷ s)) h k l = rw (le-leb (high_of x) 15 k, lt-leb (digit_of y) 15 l) tt
 
-pub low_bad : (a b : ℕ) (p : Option (ℕ × ℕ)) → a ≤ 15 → 15 < b → cond (leb a 15 && leb b 15) p None ≡ None
-low_bad a b p k h = rw (le-leb a 15 k, lt-leb b 15 h)
-
-pub pair_good : (a b : ℕ) (p : Option (ℕ × ℕ)) → a ≤ 15 → b ≤ 15 → cond (leb a 15 && leb b 15) p None ≡ p
-pair_good a b p k h = rw (le-leb a 15 k, le-leb b 15 h)
+pub pair_good : (s : List ℕ) (a b : ℕ) (t : Bor (List ℕ)) → 2 ≤ length s → a ≡ high_of (get_or s 0 0) → a ≤ 15 → b ≡ digit_of (get_or s 1 0) → b ≤ 15
+    → t.now ≡ take (length s - 2) (drop 2 s) → Escaped (120 ∷ s) (hex_escape s) (Some (a * 16 + b, t))
+unfolding hex_escape
+pair_good [] a b t h e k f l g = absurd (omega arith)
+pair_good (x ∷ []) a b t h e k f l g = absurd (omega arith)
+pair_good (x ∷ (y ∷ s)) a b t h e k f l g = rw (← e, ← f, le-leb a 15 k, le-leb b 15 l) (refl, g ∙ rest (x ∷ (y ∷ s)) 2)
 
 -- ---- an escape
-pub escape_none : (s : List ℕ) → length s < 1 → escape_of s ≡ None
+pub escape_none : (s : List ℕ) → length s < 1 → Escaped s (escape_of s) None
 unfolding escape_of
-escape_none [] e = refl
+escape_none [] e = tt
 escape_none (c ∷ s) e = absurd (omega arith)
 
-pub escape_at : (s : List ℕ) (k : ℕ) → 1 ≤ length s → get_or s 0 0 ≡ k → escape_of s ≡ escape_of (k ∷ drop 1 s)
+escape_at : (s : List ℕ) (k : ℕ) → 1 ≤ length s → get_or s 0 0 ≡ k → escape_of s ≡ escape_of (k ∷ drop 1 s)
 escape_at [] k h e = absurd (omega arith)
 escape_at (c ∷ s) k h e = ap (λ (x : ℕ). escape_of (x ∷ s)) e
 
+pub escape_byte : (s : List ℕ) (k x : ℕ) (t : Bor (List ℕ)) → 1 ≤ length s → get_or s 0 0 ≡ k → escape_of (k ∷ drop 1 s) ≡ Some (x, 1)
+    → t.now ≡ take (length s - 1) (drop 1 s) → Escaped s (escape_of s) (Some (x, t))
+escape_byte s k x t h e f g = subst (λ (p : Option (ℕ × ℕ)). Escaped s p (Some (x, t))) (sym (escape_at s k h e ∙ f)) (refl, g ∙ rest s 1)
+
+pub escape_hex : (s : List ℕ) (r : Option (ℕ × Bor (List ℕ))) → 1 ≤ length s → get_or s 0 0 ≡ 120
+    → Escaped (120 ∷ take (length s - 1) (drop 1 s)) (hex_escape (take (length s - 1) (drop 1 s))) r → Escaped s (escape_of s) r
+unfolding escape_of
+escape_hex [] r h e f = absurd (omega arith)
+escape_hex (c ∷ s) r h e f =
+    subst (λ (b : ℕ). Escaped (b ∷ s) (escape_of (b ∷ s)) r) (sym e) (subst (λ (t : List ℕ). Escaped (120 ∷ t) (hex_escape t) r) (rest (c ∷ s) 1) f)
+
 pub escape_other : (s : List ℕ) → 1 ≤ length s → (get_or s 0 0 ≡ 92 → ⊥) → (get_or s 0 0 ≡ 115 → ⊥) → (get_or s 0 0 ≡ 116 → ⊥)
-    → (get_or s 0 0 ≡ 110 → ⊥) → (get_or s 0 0 ≡ 114 → ⊥) → (get_or s 0 0 ≡ 120 → ⊥) → escape_of s ≡ None
+    → (get_or s 0 0 ≡ 110 → ⊥) → (get_or s 0 0 ≡ 114 → ⊥) → (get_or s 0 0 ≡ 120 → ⊥) → Escaped s (escape_of s) None
 unfolding escape_of
 escape_other [] h a b c d e f = absurd (omega arith)
-escape_other (x ∷ s) h a b c d e f = rw (ne_eqb x 92 a, ne_eqb x 115 b, ne_eqb x 116 c, ne_eqb x 110 d, ne_eqb x 114 e, ne_eqb x 120 f)
+escape_other (x ∷ s) h a b c d e f = rw (ne_eqb x 92 a, ne_eqb x 115 b, ne_eqb x 116 c, ne_eqb x 110 d, ne_eqb x 114 e, ne_eqb x 120 f) tt
+
+-- an escape has at most k bytes after its backslash
+abbrev pub UsedIn : Option (ℕ × ℕ) → ℕ → Type 0
+UsedIn (Some e) k = e.1 ≤ k
+UsedIn None k = Unit
 
 used_cond : (t : Bool) (p q : Option (ℕ × ℕ)) (k : ℕ) → UsedIn p k → UsedIn q k → UsedIn (cond t p q) k
 used_cond true p q k a b = a
@@ -76,121 +98,97 @@ used (c ∷ s) =
     (used_cond (eqb c 110) _ _ _ (omega arith)
     (used_cond (eqb c 114) _ _ _ (omega arith) (used_cond (eqb c 120) _ _ _ (used_hex s) tt)))))
 
--- both clauses of the contract from the first
-pub escaped : (s : List ℕ) (r : Option (ℕ × ℕ)) → r ≡ escape_of s → (r ≡ escape_of s) × UsedIn r (length s)
-escaped s r e = (e, subst (λ (x : Option (ℕ × ℕ)). UsedIn x (length s)) (sym e) (used s))
+-- ---- undoing, byte by byte
+each_skip : (n : ℕ) (s : List ℕ) → undo_each n s ≡ undo_each 0 (drop n s)
+unfolding undo_each
+each_skip zero s = refl
+each_skip (suc n) [] = refl
+each_skip (suc n) (b ∷ s) = each_skip n s
 
-pub used_fits : (s : List ℕ) (i : ℕ) (r : Option (ℕ × ℕ)) (x n : ℕ) → i ≤ length s → UsedIn r (length (take (length s - i) (drop i s))) → r ≡ Some (x, n) → i + n ≤ length s
-used_fits s i r x n h u e =
-    let l : n ≤ length (take (length s - i) (drop i s)) = subst (λ (y : Option (ℕ × ℕ)). UsedIn y (length (take (length s - i) (drop i s)))) e u in
-    omega (arith, l, ap length (rest s i), length-drop i s)
-
--- ---- undoing
-undo_skip : (n : ℕ) (s : List ℕ) → undo n s ≡ undo 0 (drop n s)
-unfolding undo
-undo_skip zero s = refl
-undo_skip (suc n) [] = refl
-undo_skip (suc n) (b ∷ s) = undo_skip n s
-
-plain_byte : (b : ℕ) (t : List ℕ) (q : Bool) → q ≡ false → elim q [ true ↦ on_escape (escape_of t) (λ x n. before x (undo n t)) | false ↦ before b (undo 0 t) ] ≡ before b (undo 0 t)
-plain_byte b t true e = absurd (true≢false e)
-plain_byte b t false e = refl
-
-escape_byte : (b : ℕ) (t : List ℕ) (q : Bool) → q ≡ true → elim q [ true ↦ on_escape (escape_of t) (λ x n. before x (undo n t)) | false ↦ before b (undo 0 t) ] ≡ on_escape (escape_of t) (λ x n. before x (undo n t))
-escape_byte b t true e = refl
-escape_byte b t false e = absurd (false≢true e)
-
-undo_byte : (b : ℕ) (t : List ℕ) → (b ≡ 92 → ⊥) → undo 0 (b ∷ t) ≡ before b (undo 0 t)
-unfolding undo
-undo_byte b t e = plain_byte b t (eqb b 92) (ne_eqb b 92 e)
-
-undo_slash : (b : ℕ) (t : List ℕ) → b ≡ 92 → undo 0 (b ∷ t) ≡ on_escape (escape_of t) (λ x n. before x (undo n t))
-unfolding undo
-undo_slash b t e = escape_byte b t (eqb b 92) (eq-eqb b 92 e)
+pub each_end : (s : List ℕ) → length s < 1 → undo_each 0 s ≡ []
+unfolding undo_each
+each_end [] h = refl
+each_end (b ∷ t) h = absurd (omega arith)
 
 -- the first byte is no backslash
-pub undo_plain : (s : List ℕ) → 1 ≤ length s → (get_or s 0 0 ≡ 92 → ⊥) → undo 0 s ≡ before (get_or s 0 0) (undo 0 (take (length s - 1) (drop 1 s)))
-undo_plain [] h e = absurd (omega arith)
-undo_plain (b ∷ t) h e = undo_byte b t e ∙ ap (λ (u : List ℕ). before b (undo 0 u)) (sym (rest (b ∷ t) 1))
+pub each_plain : (s : List ℕ) → 1 ≤ length s → (get_or s 0 0 ≡ 92 → ⊥) → undo_each 0 s ≡ Some (get_or s 0 0) ∷ undo_each 0 (take (length s - 1) (drop 1 s))
+unfolding undo_each
+each_plain [] h e = absurd (omega arith)
+each_plain (b ∷ t) h e = go (eqb b 92) (ne_eqb b 92 e) ∙ ap (λ (u : List ℕ). Some b ∷ undo_each 0 u) (sym (rest (b ∷ t) 1))
+  where
+    go : (q : Bool) → q ≡ false → elim q [ true ↦ escaped_first (escape_of t) (λ n. undo_each n t) | false ↦ Some b ∷ undo_each 0 t ] ≡ Some b ∷ undo_each 0 t
+    go true e = absurd (true≢false e)
+    go false e = refl
 
 -- it is one: r is the escape after it
-module _ (s : List ℕ) (r : Option (ℕ × ℕ)) (h : 1 ≤ length s) (e : get_or s 0 0 ≡ 92) (f : r ≡ escape_of (take (length s - 1) (drop 1 s))) where
-  slash : undo 0 s ≡ on_escape r (λ x n. before x (undo 0 (take (length (take (length s - 1) (drop 1 s)) - n) (drop n (take (length s - 1) (drop 1 s))))))
-  slash = starts s h e ∙ gone (escape_of u) ∙ ap (λ (p : Option (ℕ × ℕ)). on_escape p step) (sym f)
+first_byte : (u : List ℕ) (p : Option (ℕ × ℕ)) (x : ℕ) (t : Bor (List ℕ)) → Escaped u p (Some (x, t)) → escaped_first p (λ n. undo_each n u) ≡ Some x ∷ undo_each 0 t.now
+first_byte u (Some e) x t h =
+    ap (λ (y : ℕ). Some y ∷ undo_each e.1 u) (sym h.0) ∙ ap (λ (l : List (Option ℕ)). Some x ∷ l) (each_skip e.1 u ∙ ap (undo_each 0) (sym h.1))
+first_byte u None x t h = absurd h
+
+first_broken : (u : List ℕ) (p : Option (ℕ × ℕ)) → Escaped u p None → escaped_first p (λ n. undo_each n u) ≡ None ∷ undo_each 0 []
+unfolding undo_each
+first_broken u (Some e) h = absurd h
+first_broken u None h = refl
+
+module _ (s : List ℕ) (h : 1 ≤ length s) (e : get_or s 0 0 ≡ 92) (r : Option (ℕ × Bor (List ℕ))) (f : Escaped (take (length s - 1) (drop 1 s)) (escape_of (take (length s - 1) (drop 1 s))) r) where
+  slash : undo_each 0 s ≡ escaped_first (escape_of (take (length s - 1) (drop 1 s))) (λ n. undo_each n (take (length s - 1) (drop 1 s)))
+  unfolding undo_each
+  slash = starts s h e
     where
-      u : List ℕ
-      u = take (length s - 1) (drop 1 s)
+      here : (b : ℕ) (t : List ℕ) (q : Bool) → q ≡ true → elim q [ true ↦ escaped_first (escape_of t) (λ n. undo_each n t) | false ↦ Some b ∷ undo_each 0 t ] ≡ escaped_first (escape_of t) (λ n. undo_each n t)
+      here b t true e = refl
+      here b t false e = absurd (false≢true e)
 
-      step : ℕ → ℕ → Plain
-      step x n = before x (undo 0 (take (length u - n) (drop n u)))
-
-      same : (x n : ℕ) → before x (undo n u) ≡ step x n
-      same x n = ap (before x) (undo_skip n u ∙ ap (undo 0) (sym (rest u n)))
-
-      gone : (p : Option (ℕ × ℕ)) → on_escape p (λ x n. before x (undo n u)) ≡ on_escape p step
-      gone (Some q) = same q.0 q.1
-      gone None = refl
-
-      starts : (v : List ℕ) → 1 ≤ length v → get_or v 0 0 ≡ 92 → undo 0 v ≡ on_escape (escape_of (take (length v - 1) (drop 1 v))) (λ x n. before x (undo n (take (length v - 1) (drop 1 v))))
+      starts : (v : List ℕ) → 1 ≤ length v → get_or v 0 0 ≡ 92 → undo_each 0 v ≡ escaped_first (escape_of (take (length v - 1) (drop 1 v))) (λ n. undo_each n (take (length v - 1) (drop 1 v)))
       starts [] h e = absurd (omega arith)
-      starts (b ∷ t) h e = undo_slash b t e ∙ ap (λ (w : List ℕ). on_escape (escape_of w) (λ x n. before x (undo n w))) (sym (rest (b ∷ t) 1))
+      starts (b ∷ t) h e = here b t (eqb b 92) (eq-eqb b 92 e) ∙ ap (λ (w : List ℕ). escaped_first (escape_of w) (λ n. undo_each n w)) (sym (rest (b ∷ t) 1))
 
-  pub undo_escape : (x n : ℕ) → r ≡ Some (x, n)
-      → undo 0 s ≡ before x (undo 0 (take (length (take (length s - 1) (drop 1 s)) - n) (drop n (take (length s - 1) (drop 1 s)))))
-  undo_escape x n g = slash ∙ ap (λ (p : Option (ℕ × ℕ)). on_escape p (λ y m. before y (undo 0 (take (length (take (length s - 1) (drop 1 s)) - m) (drop m (take (length s - 1) (drop 1 s))))))) g
+  pub each_escape : (x : ℕ) (t : Bor (List ℕ)) → r ≡ Some (x, t) → undo_each 0 s ≡ Some x ∷ undo_each 0 t.now
+  each_escape x t g = slash ∙ first_byte _ _ x t (subst (λ (q : Option (ℕ × Bor (List ℕ))). Escaped (take (length s - 1) (drop 1 s)) (escape_of (take (length s - 1) (drop 1 s))) q) g f)
 
-  pub undo_broken : r ≡ None → undo 0 s ≡ broken
-  undo_broken g = slash ∙ ap (λ (p : Option (ℕ × ℕ)). on_escape p (λ y m. before y (undo 0 (take (length (take (length s - 1) (drop 1 s)) - m) (drop m (take (length s - 1) (drop 1 s))))))) g
+  pub each_broken : r ≡ None → undo_each 0 s ≡ None ∷ undo_each 0 []
+  each_broken g = slash ∙ first_broken _ _ (subst (λ (q : Option (ℕ × Bor (List ℕ))). Escaped (take (length s - 1) (drop 1 s)) (escape_of (take (length s - 1) (drop 1 s))) q) g f)
 
-pub undo_end : (s : List ℕ) → length s < 1 → undo 0 s ≡ text []
-unfolding undo
-undo_end [] h = refl
-undo_end (b ∷ t) h = absurd (omega arith)
+pub fewer : {x : Option ℕ} {s t : List (Option ℕ)} → s ≡ x ∷ t → length t < length s
+fewer e = omega (arith, ap length e)
 
--- whether it is plain, byte by byte
+-- all of them as the text that the word stands for
+gathered : List (Option ℕ) → Plain
+gathered [] = text []
+gathered (None ∷ l) = broken
+gathered (Some b ∷ l) = before b (gathered l)
+
+gathered_escape : (p : Option (ℕ × ℕ)) (k : ℕ → List (Option ℕ)) (u : ℕ → Plain) → ((n : ℕ) → u n ≡ gathered (k n)) → on_escape p (λ x n. before x (u n)) ≡ gathered (escaped_first p k)
+unfolding gathered
+gathered_escape (Some e) k u h = ap (before e.0) (h e.1)
+gathered_escape None k u h = refl
+
+undo_is : (k : ℕ) (s : List ℕ) → undo k s ≡ gathered (undo_each k s)
+unfolding undo undo_each gathered
+undo_is k [] = refl
+undo_is (suc k) (b ∷ s) = undo_is k s
+undo_is zero (b ∷ s) = go (λ n. undo_is n s) (eqb b 92)
+  where
+    go : ((n : ℕ) → undo n s ≡ gathered (undo_each n s)) → (q : Bool) → elim q [ true ↦ on_escape (escape_of s) (λ x n. before x (undo n s)) | false ↦ before b (undo 0 s) ]
+        ≡ gathered (elim q [ true ↦ escaped_first (escape_of s) (λ n. undo_each n s) | false ↦ Some b ∷ undo_each 0 s ])
+    go h true = gathered_escape (escape_of s) (λ n. undo_each n s) (λ n. undo n s) h
+    go h false = ap (before b) (h 0)
+
 before_plain : (b : ℕ) (p : Plain) → is_plain (before b p) ≡ is_plain p
 before_plain b (text t) = refl
 before_plain b broken = refl
 
-pub plain_start : (s : List ℕ) → is_plain (plain s) ≡ is_plain (undo 0 s)
+-- the word is plain where each of them is a byte
+all_plain : (l : List (Option ℕ)) → list_all is_some l ≡ is_plain (gathered l)
+unfolding gathered
+all_plain [] = refl
+all_plain (None ∷ l) = refl
+all_plain (Some b ∷ l) = all_plain l ∙ sym (before_plain b (gathered l))
+
+pub plain_each : (s : List ℕ) → list_all is_some (undo_each 0 s) ≡ is_plain (plain s)
 unfolding plain
-plain_start s = refl
-
-pub plain_next : (s u : List ℕ) (b : ℕ) → undo 0 s ≡ before b (undo 0 u) → is_plain (undo 0 s) ≡ is_plain (undo 0 u)
-plain_next s u b e = ap is_plain e ∙ before_plain b (undo 0 u)
-
--- bytes before what is left
-unfoldable pub prepended : List ℕ → Plain → Plain
-prepended d (text t) = text (d ++ t)
-prepended d broken = broken
-
-prepended_byte : (d : List ℕ) (b : ℕ) (p : Plain) → prepended d (before b p) ≡ prepended (d ++ (b ∷ [])) p
-unfolding prepended
-prepended_byte d b (text t) = ap text (sym (append_assoc d (b ∷ []) t))
-prepended_byte d b broken = refl
-
--- the bytes of the word before those that are left were undone: what they stand for was written into the space o
-pub record Undoing (s : List ℕ) (o out : Space) (left : List ℕ) : Type 0 where
-  pub done : List ℕ
-  pub whole : plain s ≡ prepended done (undo 0 left)
-  pub held : out ≡ over done o
-
-pub undoing_start : (s : List ℕ) (o : Space) → Undoing s o o s
-unfolding plain prepended
-undoing_start s o = record { done = []; whole = go (undo 0 s); held = sym (over_none o) }
-  where
-    go : (p : Plain) → p ≡ prepended [] p
-    go (text t) = refl
-    go broken = refl
-
-pub undoing_byte : {s : List ℕ} {o out : Space} {left : List ℕ} (u : List ℕ) (b : ℕ) (new : Space) → Undoing s o out left → new ≡ over (b ∷ []) out
-    → undo 0 left ≡ before b (undo 0 u) → Undoing s o new u
-undoing_byte {s} {o} {out} {left} u b new w a e =
-    record {
-      done = w.done ++ (b ∷ []);
-      whole = w.whole ∙ ap (prepended w.done) e ∙ prepended_byte w.done b (undo 0 u);
-      held = over_then _ _ o out new w.held a;
-    }
+plain_each s = all_plain (undo_each 0 s) ∙ ap is_plain (sym (undo_is 0 s))
 
 -- where an escape is invalid, nothing was written
 undone_none : (s : List ℕ) → is_plain (plain s) ≡ false → undone s ≡ []
@@ -204,16 +202,39 @@ undone_none s q = go (plain s) q
 pub over_undone_none : (s : List ℕ) (o : Space) → is_plain (plain s) ≡ false → o ≡ over (undone s) o
 over_undone_none s o q = sym (over_none o) ∙ sym (ap (λ (t : List ℕ). over t o) (undone_none s q))
 
--- that was seen before anything was written
-pub undoing_never : {s : List ℕ} {o out : Space} {left : List ℕ} → Undoing s o out left → is_plain (plain s) ≡ true → undo 0 left ≡ broken → ⊥
-unfolding prepended
-undoing_never u q e = true≢false (sym q ∙ ap is_plain (u.whole ∙ ap (prepended u.done) e))
+-- the bytes that they are
+unfoldable pub some_bytes : List (Option ℕ) → List ℕ
+some_bytes [] = []
+some_bytes (None ∷ l) = some_bytes l
+some_bytes (Some b ∷ l) = b ∷ some_bytes l
 
-pub undoing_end : {s : List ℕ} {o out : Space} {left : List ℕ} → Undoing s o out left → undo 0 left ≡ text [] → out ≡ over (undone s) o
-unfolding prepended undone
-undoing_end {s} {o} u e =
-    let w : plain s ≡ text u.done = u.whole ∙ ap (prepended u.done) e ∙ ap text (append-nil u.done) in
-    u.held ∙ sym (ap (λ (p : Plain). over (text_of p) o) w)
+gathered_bytes : (l : List (Option ℕ)) → is_plain (gathered l) ≡ true → text_of (gathered l) ≡ some_bytes l
+unfolding gathered some_bytes
+gathered_bytes [] e = refl
+gathered_bytes (None ∷ l) e = absurd (false≢true e)
+gathered_bytes (Some b ∷ l) e = go (gathered l) (gathered_bytes l) e
+  where
+    go : (p : Plain) → (is_plain p ≡ true → text_of p ≡ some_bytes l) → is_plain (before b p) ≡ true → text_of (before b p) ≡ b ∷ some_bytes l
+    go (text t) h e = ap (λ (u : List ℕ). b ∷ u) (h e)
+    go broken h e = absurd (false≢true e)
+
+pub undone_each : (s : List ℕ) → is_plain (plain s) ≡ true → undone s ≡ some_bytes (undo_each 0 s)
+unfolding undone plain
+undone_each s e = ap text_of (undo_is 0 s) ∙ gathered_bytes (undo_each 0 s) (sym (ap is_plain (undo_is 0 s)) ∙ e)
+
+-- one byte was written, or none
+module _ (left rest : List (Option ℕ)) (out : Space) where
+  pub wrote_byte : (b : ℕ) (new : Space) → left ≡ Some b ∷ rest → new ≡ over (b ∷ []) out → over (some_bytes rest) new ≡ over (some_bytes left) out
+  unfolding some_bytes
+  wrote_byte b new e w = ap (over (some_bytes rest)) w ∙ sym (over_append (b ∷ []) (some_bytes rest) out) ∙ ap (λ (l : List (Option ℕ)). over (some_bytes l) out) (sym e)
+
+  pub wrote_none : left ≡ None ∷ rest → over (some_bytes rest) out ≡ over (some_bytes left) out
+  unfolding some_bytes
+  wrote_none e = ap (λ (l : List (Option ℕ)). over (some_bytes l) out) (sym e)
+
+pub wrote_all : (left : List (Option ℕ)) (out : Space) → left ≡ [] → out ≡ over (some_bytes left) out
+unfolding some_bytes
+wrote_all left out e = sym (over_none out) ∙ ap (λ (l : List (Option ℕ)). over (some_bytes l) out) (sym e)
 
 -- from the start of lent bytes on
 pub undid : (s old : List ℕ) (o out : Space) → o.bytes.now ≡ old → o.at ≡ 0 → out ≡ over (undone s) o → Undid s old out.bytes.now out.at

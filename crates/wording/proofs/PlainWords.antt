@@ -12,10 +12,10 @@ use Rattle.texts.specs.Bytes.{cons_head, parts_at, up_to, after_or, after_first}
 use Rattle.texts.proofs.ListLaws.{each}
 use Rattle.wording.specs.Numbers.{digit_of}
 use Rattle.wording.specs.Words.{first_word, after_word, word_at}
-use Rattle.wording.specs.Escapes.{Plain, text, broken, high_of, hex_escape, escape_of, UsedIn, before, on_escape, undo, plain, is_plain}
+use Rattle.wording.specs.Escapes.{Plain, text, broken, high_of, hex_escape, escape_of, before, on_escape, undo, plain, is_plain}
 use Rattle.std.specs.declared.option.Option.{Option}
 use Rattle.std.specs.Prelude.{None, Some}
-use Rattle.wording.proofs.Escaped.{used}
+use Rattle.wording.proofs.Escaped.{UsedIn, used}
 
 -- ---- no byte of an escape is a space, so the first word alone has the same escape
 space_high : (a : ℕ) (t : Bool) → eqb a 32 ≡ true → (leb (high_of a) 15 && t) ≡ false

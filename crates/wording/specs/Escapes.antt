@@ -1,6 +1,7 @@
 -- Escapes: \\ \s \t \n \r stand for a backslash, space, tab, line feed and carriage return, \xHH for any byte.
-use Rattle.std.specs.Prelude.{◌≡◌, ℕ, zero, suc, ◌+◌, ◌*◌, ◌≤◌, min, List, [], ◌∷◌, Bool, true, false, cond, ◌&&◌, length, eqb, leb, None, Some}
+use Rattle.std.specs.Prelude.{◌≡◌, ℕ, zero, suc, ◌+◌, ◌*◌, min, List, [], ◌∷◌, Bool, true, false, cond, ◌&&◌, drop, length, eqb, leb, None, Some}
 use Prim.Native.Char.{code}
+use denote.Ref.{Bor}
 use Rattle.texts.specs.Lent.{written}
 use Rattle.wording.specs.Numbers.{digit_of}
 use Rattle.std.specs.declared.option.Option.{Option}
@@ -32,10 +33,12 @@ escape_of (c ∷ s) =
     (cond (eqb c (code "r")) (Some (13, 1))
     (cond (eqb c (code "x")) (hex_escape s) None)))))
 
--- an escape has at most k bytes after its backslash
-abbrev pub UsedIn : Option (ℕ × ℕ) → ℕ → Type 0
-UsedIn (Some e) k = e.1 ≤ k
-UsedIn None k = Unit
+-- r is the byte of the escape e at the start of s, and what comes after it
+abbrev pub Escaped : List ℕ → Option (ℕ × ℕ) → Option (ℕ × Bor (List ℕ)) → Type 0
+Escaped s (Some e) (Some r) = (r.0 ≡ e.0) × (r.1.now ≡ drop e.1 s)
+Escaped s (Some e) None = ⊥
+Escaped s None (Some r) = ⊥
+Escaped s None None = Unit
 
 -- a byte before the text of the rest
 abbrev pub before : ℕ → Plain → Plain

@@ -4,10 +4,12 @@
 //     \xHH  the byte of two hexadecimal digits
 //
 // A backslash that begins none of these is an invalid escape.
-ghost use Rattle.std.specs.Prelude.{◌≡◌, length};
+ghost use Rattle.std.specs.Prelude.{◌≡◌, ◌∷◌};
+ghost use Rattle.std.specs.Iterator.{YieldsFirst, item_count};
 ghost use Rattle.texts.specs.Lent.{over};
 ghost use Rattle.wording.specs.Numbers.{IsDigit};
-ghost use Rattle.wording.specs.Escapes.{high_of, hex_escape, escape_of, UsedIn, plain, is_plain, undone, Undid};
+ghost use Rattle.wording.specs.Escapes.{high_of, hex_escape, escape_of, Escaped, plain, is_plain, undone, Undid};
+ghost use Rattle.wording.specs.Steps.{undone_left};
 
 use crate::numbers;
 use texts::space::Space;
@@ -25,76 +27,85 @@ fn high(b: u8) -> Option<u32>
 }
 
 // Reads the two digits after `\x`.
-#[tactic(auto, using(crate::proofs::Escaped::hex_short, crate::proofs::Escaped::hex_pair, crate::proofs::Escaped::high_bad, crate::proofs::Escaped::low_bad, crate::proofs::Escaped::pair_good))]
-fn hex_escape(s: &[u8]) -> Option<(u8, usize)>
-    ensures { result ≡ hex_escape s.now }
+#[tactic(auto, using(crate::proofs::Escaped::hex_short, crate::proofs::Escaped::high_bad, crate::proofs::Escaped::low_bad, crate::proofs::Escaped::pair_good))]
+fn hex_escape(s: &[u8]) -> Option<(u8, &[u8])>
+    ensures { Escaped (120 ∷ s.now) (hex_escape s.now) result }
 {
-    let [x, y, ..] = s else {
+    let [x, y, rest @ ..] = s else {
         return None;
     };
     let a = high(*x)?;
     let b = numbers::digit(*y)?;
-    Some(((a * 16 + b) as u8, 3))
+    Some(((a * 16 + b) as u8, rest))
 }
 
-// Reads an escape: s is what comes after its backslash. The answer is the byte that the escape stands for, and how many
-// bytes the escape has after its backslash; there is none where the escape is invalid.
-#[tactic(auto, using(crate::proofs::Escaped::escaped, crate::proofs::Escaped::escape_none, crate::proofs::Escaped::escape_at, crate::proofs::Escaped::escape_other, texts::proofs::Cuts::rest), unfolding(crate::specs::Escapes::escape_of))]
-fn read_escape(s: &[u8]) -> Option<(u8, usize)>
-    ensures { (result ≡ escape_of s.now) × UsedIn result (length s.now) }
+// Reads an escape: s is what comes after its backslash. The answer is the byte that the escape stands for, and what
+// comes after the escape; there is none where the escape is invalid.
+#[tactic(auto, using(crate::proofs::Escaped::escape_none, crate::proofs::Escaped::escape_byte, crate::proofs::Escaped::escape_hex, crate::proofs::Escaped::escape_other), unfolding(crate::specs::Escapes::escape_of))]
+fn read_escape(s: &[u8]) -> Option<(u8, &[u8])>
+    ensures { Escaped s.now (escape_of s.now) result }
 {
-    let [letter, digits @ ..] = s else {
+    let [letter, rest @ ..] = s else {
         return None;
     };
     match *letter {
-        b'\\' => Some((b'\\', 1)),
-        b's' => Some((b' ', 1)),
-        b't' => Some((b'\t', 1)),
-        b'n' => Some((b'\n', 1)),
-        b'r' => Some((b'\r', 1)),
-        b'x' => hex_escape(digits),
+        b'\\' => Some((b'\\', rest)),
+        b's' => Some((b' ', rest)),
+        b't' => Some((b'\t', rest)),
+        b'n' => Some((b'\n', rest)),
+        b'r' => Some((b'\r', rest)),
+        b'x' => hex_escape(rest),
         _ => None,
     }
 }
 
+// The bytes that a word stands for, one after another. An invalid escape is `None`, and nothing comes after it.
+#[derive(Clone, Copy)]
+struct Undone<'a>(&'a [u8]);
+
+impl<'a> Iterator for Undone<'a> {
+    type Item = Option<u8>;
+
+    ghost next_gives = { YieldsFirst undone_left };
+
+    ghost remaining = { item_count undone_left };
+
+    #[tactic(auto, using(crate::proofs::Escaped::each_end, crate::proofs::Escaped::each_plain))]
+    fn next(&mut self) -> Option<Option<u8>> {
+        let [b, tail @ ..] = self.0 else {
+            return None;
+        };
+        if *b != b'\\' {
+            self.0 = tail;
+            return Some(Some(*b));
+        }
+        let Some((x, rest)) = read_escape(tail) else {
+            self.0 = &[];
+            return Some(None);
+        };
+        self.0 = rest;
+        Some(Some(x))
+    }
+}
+
 // Whether every escape in the word is valid.
-#[tactic(auto, using(crate::proofs::Escaped::plain_start, crate::proofs::Escaped::undo_end))]
 pub fn is_plain(s: &[u8]) -> bool
     ensures { result ≡ is_plain (plain s.now) }
 {
-    let mut rest = s;
-    while let [b, tail @ ..] = rest {
-        rest = tail;
-        if *b == b'\\' {
-            let Some((_, n)) = read_escape(tail) else {
-                return false;
-            };
-            rest = &tail[n..];
-        }
-    }
-    true
+    Undone(s).all(|b| b.is_some())
 }
 
-// Writes the text of a word; nothing where an escape in it is invalid. The walk is that of `is_plain`. An iterator
-// for both is no plainer: each of its items would be a byte or an invalid escape, which ends the walk.
-#[tactic(auto, using(crate::proofs::Escaped::over_undone_none, crate::proofs::Escaped::undoing_start))]
+// Writes the text of a word; nothing where an escape in it is invalid.
+#[tactic(auto, using(crate::proofs::Escaped::over_undone_none))]
 fn put_plain(out: &mut Space, s: &[u8])
     ensures { out.new ≡ over (undone s.now) out.old }
 {
     if !is_plain(s) {
         return;
     }
-    let mut rest = s;
-    while let [b, tail @ ..] = rest {
-        rest = tail;
-        if *b == b'\\' {
-            let Some((x, n)) = read_escape(tail) else {
-                return;
-            };
+    for b in Undone(s) {
+        if let Some(x) = b {
             out.put_byte(x);
-            rest = &tail[n..];
-        } else {
-            out.put_byte(*b);
         }
     }
 }

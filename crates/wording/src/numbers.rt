@@ -17,7 +17,8 @@ pub(crate) fn digit(b: u8) -> Option<u32>
     (b as char).to_digit(16)
 }
 
-// Reads one digit or more of this base; the value is at most the limit.
+// Reads one digit or more of this base; the value is at most the limit. This is no `from_str_radix`, which takes a
+// `&str`: each of the four readers would first test its word for UTF-8. It also reads a `+`, which `given` refuses.
 #[tactic(auto, using(crate::proofs::Values::number_some, crate::proofs::Values::number_none, crate::proofs::Values::limited, crate::proofs::Values::no_digit, crate::proofs::Values::past_limit, crate::proofs::Values::next_digit, crate::proofs::Values::value_end))]
 fn number(s: &[u8], base: u64, limit: u64) -> Option<u64>
     requires { base ≤ 16 }

@@ -1,7 +1,7 @@
 // Writers of answers. An answer is written piece by piece into a space; what has no room is left out.
 ghost use Rattle.std.specs.Prelude.{◌≡◌, ◌≤◌};
 ghost use Rattle.texts.specs.Lent.{over};
-ghost use Rattle.wording.specs.Output.{decimal, hex, hash, signed, refusal_text, number_word, flaw_word, bad, Wide};
+ghost use Rattle.wording.specs.Output.{decimal, hex, hash, signed, refusal_text, number_word, unless_of, flaw_word, bad, Wide};
 
 use squares::refusal::Refusal;
 use texts::space::Space;
@@ -21,6 +21,15 @@ pub enum Flaw {
     Number,
     // The side is neither W nor B.
     Side,
+}
+
+impl Flaw {
+    // This flaw, unless the test holds. With `?` it guards what follows.
+    pub fn unless(self, holds: bool) -> Result<(), Flaw>
+        ensures { result ≡ unless_of self holds }
+    {
+        if holds { Ok(()) } else { Err(self) }
+    }
 }
 
 // Writes a number in decimal, without needless zeros.

@@ -31,7 +31,8 @@ pub fn rest(s: &[u8]) -> &[u8]
     bytes::after_first(s, b' ')
 }
 
-// The words of a line one after another: `for word in Words(line)`. After a space at the end there is no word.
+// The words of a line one after another: `for word in Words(line)`. After a space at the end there is no word. `Split`
+// gives an empty part there. Which part is the last shows only in what is left, so dropping it takes this test as well.
 #[derive(Clone, Copy)]
 pub struct Words<'a>(pub &'a [u8]);
 

@@ -1,13 +1,10 @@
--- The chain asks the four directions in turn.
-use Rattle.std.proofs.Common.{◌∙◌, arith, rules, tests}
-use Rattle.std.proofs.lemmas.Iterator.{YieldsList-from_range}
-use Rattle.std.proofs.lemmas.Iterator.Search.{any_from_yields_List}
+-- The closure computes the square at which the king meets a piece.
+use Rattle.std.proofs.Common.{rules, ℕ}
+use Rattle.squares.specs.Directions.{direction_at}
+use Rattle.captures.specs.Rays.{slide_of}
 use Rattle.captures.specs.Open.{king_jump}
-use Rattle.captures.proofs.Some.{any_four}
 use Rattle.captures.proofs.movegen.king_open.Goals as goal
 
 pub returns : goal.returns
-returns c =
-    let p = king_jump c.args.at c.args.them c.args.empty in
-    any_from_yields_List p _ _ c.any.result c.any.ensures.ran (YieldsList-from_range 0 4 4 (cc) (omega arith)) (λ x b q k. search (rules, tests))
-    ∙ any_four p
+unfolding king_jump
+returns c = c.jump_open.ensures (λ (d : ℕ). slide_of (direction_at d) c.args.empty c.args.at) (λ d x p. search rules)

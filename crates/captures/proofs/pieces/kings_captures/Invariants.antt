@@ -5,5 +5,5 @@ use Rattle.squares.proofs.Loops.{Left}
 use Rattle.captures.specs.Kings.{king_captures}
 use Rattle.captures.proofs.pieces.kings_captures.Given as goal
 
-abbrev pub invariant-loop-bit : goal.invariant-loop-bit
-invariant-loop-bit g l = Left (king_captures l.empty) (foldl (king_captures l.empty) l.fn.s (members l.fn.kings)) l.s l.bit-iterator.0
+abbrev pub invariant-loop-at : goal.invariant-loop-at
+invariant-loop-at g l = Left (king_captures l.empty) (foldl (king_captures l.empty) l.fn.s (members l.fn.kings)) l.s l.at-iterator.0

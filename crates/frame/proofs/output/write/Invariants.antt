@@ -1,11 +1,10 @@
--- What was written so far is the first bytes, as many as are counted.
-use Prim.Native.Nat.{◌-◌, ◌≤◌}
-use lib.ListN.{length, take}
-use Rattle.std.specs.Io.KnownBytes.{Appends}
+-- What was written so far is all but the rest.
+use lib.ListN.{length}
+use Rattle.frame.proofs.Putting.{Putting}
 use Rattle.frame.proofs.output.write.Given as goal
 
-abbrev pub invariant-loop-done : goal.invariant-loop-done
-invariant-loop-done g l = (l.done ≤ length l.out) × Appends (g.W.Write.contents l.initial.to) (g.W.Write.contents l.to) (take l.done l.out)
+abbrev pub invariant-loop-rest : goal.invariant-loop-rest
+invariant-loop-rest g l = Putting (g.W.Write.contents l.initial.to) (g.W.Write.contents l.to) l.out l.rest
 
-abbrev pub decreases-loop-done : goal.decreases-loop-done
-decreases-loop-done g l = length l.out - l.done
+abbrev pub decreases-loop-rest : goal.decreases-loop-rest
+decreases-loop-rest g l = length l.rest

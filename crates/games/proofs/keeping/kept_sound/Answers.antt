@@ -11,6 +11,6 @@ use Rattle.games.proofs.keeping.kept_sound.Goals as goal
 pub returns : goal.returns
 unfolding window_of
 returns c =
-    let looked : c.iter.result.rest.now ≡ window_of c.args.g = search rules in
-    let all : c.all.result ≡ list_all sound (window_of c.args.g) = all_from_yields_List sound _ _ c.all.result c.all.ensures.ran (YieldsList-from_slice _ looked) (λ x b q k. search (rules, tests)) in
-    all ∙ all_tested (window_of c.args.g)
+    let looked : c.iter.result.rest.now ≡ window_of c.args.g.now = search rules in
+    let all : c.all.result ≡ list_all sound (window_of c.args.g.now) = all_from_yields_List sound _ _ c.all.result c.all.ensures.ran (YieldsList-from_slice _ looked) (λ x b q k. search (rules, tests)) in
+    all ∙ all_tested (window_of c.args.g.now)

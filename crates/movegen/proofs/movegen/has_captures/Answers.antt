@@ -1,9 +1,9 @@
 -- The test by sets is that of the rules on the board of a sound position.
-use mathlib.Core.Path.{sym, ◌∙◌}
-use Rattle.squares.proofs.Refusals.{holds}
+use Rattle.movegen.proofs.Generated.{viewed}
 use Rattle.movegen.proofs.Listed.{captures_tested}
 use Rattle.movegen.proofs.movegen.has_captures.Goals as goal
 
 pub returns : goal.returns
 returns c =
-    captures_tested c.args.p (sym c.sound.ensures ∙ holds _ _ c.in_ok-unless.ensures) c.of.result c.of.ensures _ c.sets.ensures _ c.has_capture.ensures
+    let w = viewed c.args.p _ c.in_ok-view.ensures in
+    captures_tested c.args.p w.0 _ w.1 _ c.sets.ensures _ c.has_capture.ensures

@@ -8,5 +8,5 @@ use Rattle.notation.proofs.moves.display.Goals as goal
 pub returns : goal.returns
 unfolding display_of display_lent
 returns c =
-    let r = c.emit_by.ensures (short_text c.args.m) (λ old new l. search rules) (λ s. omega (arith, short_short c.args.m)) in
+    let r = c.emit_by.ensures (short_text c.args.m) (λ x old new e l. search rules) (λ s. omega (arith, short_short c.args.m)) in
     record { value = r.0; out_after = r.1 }

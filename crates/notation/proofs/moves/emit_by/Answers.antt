@@ -23,6 +23,6 @@ returns g c t w h =
     let s = holds _ (squares_of c.args.m) (rw c.on_board.ensures at c.in_ok-unless.ensures) in
     let n : length c.new-space.result.bytes.now ≡ 200 = ap (λ (r : MutBor (List ℕ)). length r.now) c.new-space.ensures.bytes in
     let e : ◌≡◌ {A = List ℕ} c.text.result.now t =
-    c.text.ensures ∙ ap text_of (w _ _ (record { shown = _; shows = refl; left = _; met = c.put.ensures; leaves = refl }))
+    c.text.ensures ∙ ap text_of (w _ _ _ refl c.put.ensures)
     ∙ over_text t _ c.new-space.ensures.at (omega (arith, h s, n)) in
     rw s (c.emit.ensures.value ∙ ap (λ (x : List ℕ). emit_of x o) e, c.emit.ensures.out_after ∙ ap (λ (x : List ℕ). emitted x o) e)

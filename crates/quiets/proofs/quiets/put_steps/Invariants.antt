@@ -5,6 +5,6 @@ use Rattle.quiets.specs.Quiets.{put_all, step_move}
 use Rattle.quiets.proofs.Added.{Adding}
 use Rattle.quiets.proofs.quiets.put_steps.Given as goal
 
-abbrev pub invariant-loop-bit : goal.invariant-loop-bit
-invariant-loop-bit l =
-    Adding (λ i. step_move l.d i ∷ []) (put_all l.fn.list (flat_map (λ i. step_move l.d i ∷ []) (members l.initial.bit-iterator.0))) l.list l.bit-iterator.0
+abbrev pub invariant-loop-at : goal.invariant-loop-at
+invariant-loop-at l =
+    Adding (λ i. step_move l.d i ∷ []) (put_all l.fn.list (flat_map (λ i. step_move l.d i ∷ []) (members l.initial.at-iterator.0))) l.list l.at-iterator.0

@@ -11,8 +11,8 @@ use Rattle.requests.proofs.PlayLaws as laws
 use Rattle.requests.proofs.plays.play_words.Goals as goal
 
 pub loop-word-preserved : goal.loop-word-preserved
-loop-word-preserved c =
+loop-word-preserved g c =
     overs.over_moved _ _ _ _ _
-    (ap (λ (g : Game). over (word_told c.args.given c.play_word-r.result ++ game_text c.args.given g (words_left c.next.new.self)) c.loop-word.out) c.played_on-g.ensures
-    ∙ ap (λ (t : List ℕ). over t c.loop-word.out) (laws.game_next _ _ _ c.in-Some.ensures.steps c.args.given c.loop-word.g _ c.play_word-r.ensures) ∙ c.loop-word.invariant)
-    c.tell_word.ensures
+    (ap (λ (h : Game). over (word_told g.F.PlayForm.given c.play-r.result ++ game_text g.F.PlayForm.given h (words_left c.next.new.self)) c.loop-word.out) c.played_on-g.ensures
+    ∙ ap (λ (t : List ℕ). over t c.loop-word.out) (laws.game_next _ _ _ c.in-Some.ensures.steps g.F.PlayForm.given c.loop-word.g _ c.play-r.ensures) ∙ c.loop-word.invariant)
+    c.tell.ensures

@@ -1,15 +1,15 @@
--- Row by row: the text that is left begins with the name of the row.
-use mathlib.Core.Path.{sym, ap, ◌∙◌}
-use Rattle.wording.specs.Words.{same_text}
+-- The first row with the name.
+use mathlib.Core.Path.{ap, ◌∙◌}
+use borrow.Author.Rules.{rules}
+use borrow.Author.Tests.{tests}
+use Rattle.std.proofs.lemmas.Iterator.Search.{find_from_yields_List}
+use Rattle.texts.specs.Split.{parts_left}
 use Rattle.requests.specs.Requests.{help_text}
 use Rattle.requests.proofs.Table as law
 use Rattle.requests.proofs.requests.request_of.Goals as goal
 
-pub loop-request-init : goal.loop-request-init
+pub returns : goal.returns
 unfolding help_text
-loop-request-init c = law.whole _
-
-pub returns-then-same : goal.returns-then-same
-returns-then-same c =
-    let name = c.args.name.now in
-    sym (law.here name _ c.loop-request.request-index _ c.loop-request-test.true c.loop-request.invariant (ap (same_text name) (sym c.first.ensures) ∙ sym c.same.ensures ∙ c.if-same.true))
+returns c =
+    let rows = law.goes_over {i = c.zip.result} (search rules) (ap parts_left c.zip.ensures.second ∙ c.new.ensures) in
+    law.found_asks c.args.name.now c.find.result (find_from_yields_List (law.has_name c.args.name.now) c.find.new.self _ c.find.result c.find.ensures.ran rows (λ x b q k. search (rules, tests))) (search rules)

@@ -5,9 +5,9 @@ use Rattle.squares.proofs.bitboard.shift.Goals as goal
 pub returns-then-step-lt0 : goal.returns-then-step-lt0
 returns-then-step-lt0 c =
     let e = c.min.ensures in
-    rw (← same_direction _ _ e) ((up _ (index_lt _ _ e) c.if-step-lt0.true).shifts c.args.set)
+    rw (← same_direction _ _ e, c.unsigned_abs-places.ensures.value) ((up _ (index_lt _ _ e) c.if-step-lt0.true).shifts c.args.set)
 
 pub returns-else-step-lt0 : goal.returns-else-step-lt0
 returns-else-step-lt0 c =
     let e = c.min.ensures in
-    rw (← same_direction _ _ e) ((down _ (index_lt _ _ e) c.if-step-lt0.false).shifts c.args.set)
+    rw (← same_direction _ _ e, c.unsigned_abs-places.ensures.value) ((down _ (index_lt _ _ e) c.if-step-lt0.false).shifts c.args.set)

@@ -1,25 +1,24 @@
 -- No escape is invalid; at the end all was written.
+use mathlib.Core.Path.{sym, ap, ◌∙◌}
+use mathlib.Core.List.{List, ◌∷◌}
+use Prim.Native.Nat.{ℕ}
+use Rattle.std.specs.declared.option.Option.{Option}
+use Rattle.texts.specs.Lent.{over}
+use Rattle.wording.specs.Steps.{undone_left}
 use Rattle.wording.proofs.Escaped as laws
 use Rattle.wording.proofs.escapes.put_plain.Goals as goal
 
-pub returns-in_default-read_escape : goal.returns-in_default-read_escape
-returns-in_default-read_escape c =
-    let s = c.loop-rest.rest.now in
-    absurd (laws.undoing_never c.loop-rest.invariant.1 c.loop-rest.invariant.0 (laws.undo_broken s _ c.in-len1-up.len_at_least c.if-b-eq92.true c.read_escape.ensures.0 c.in_default-read_escape.is))
+pub loop-b-preserved-in-Some-b : goal.loop-b-preserved-in-Some-b
+loop-b-preserved-in-Some-b c =
+    let rest = undone_left c.next.new.self in
+    laws.wrote_byte _ rest c.loop-b.out c.in-Some-b.x _ (c.in-Some.ensures.steps ∙ ap (λ (b : Option ℕ). b ∷ rest) c.in-Some-b.is) c.put_byte.ensures ∙ c.loop-b.invariant
 
-pub loop-rest-preserved-then-b-eq92 : goal.loop-rest-preserved-then-b-eq92
-loop-rest-preserved-then-b-eq92 c =
-    let s = c.loop-rest.rest.now in (
-      c.loop-rest.invariant.0,
-      laws.undoing_byte _ _ _ c.loop-rest.invariant.1 c.put_byte.ensures (laws.undo_escape s _ c.in-len1-up.len_at_least c.if-b-eq92.true c.read_escape.ensures.0 _ _ c.in-Some.is),
-    )
-
-pub loop-rest-preserved : goal.loop-rest-preserved
-loop-rest-preserved c =
-    let s = c.loop-rest.rest.now in (
-      c.loop-rest.invariant.0,
-      laws.undoing_byte _ _ _ c.loop-rest.invariant.1 c.put_byte-else-b-eq92.ensures (laws.undo_plain s c.in-len1-up.len_at_least c.if-b-eq92.false),
-    )
+pub loop-b-preserved : goal.loop-b-preserved
+loop-b-preserved c =
+    let rest = undone_left c.next.new.self in
+    laws.wrote_none _ rest c.loop-b.out (c.in-Some.ensures.steps ∙ ap (λ (b : Option ℕ). b ∷ rest) c.in_default.is) ∙ c.loop-b.invariant
 
 pub returns : goal.returns
-returns c = laws.undoing_end c.loop-rest.invariant.1 (laws.undo_end c.loop-rest.rest.now c.in_default.len_below)
+returns c =
+    let plain = sym c.is_plain.ensures ∙ c.if-not-is_plain.false in
+    laws.wrote_all _ _ c.in-None.ensures.steps.0 ∙ c.loop-b.invariant ∙ ap (λ (t : List ℕ). over t c.args.out.now) (sym (laws.undone_each c.args.s.now plain))

@@ -1,13 +1,9 @@
--- What the bytes before those that are left stand for was written.
+-- Byte by byte: what is written of those that are left ends what is written of all.
 use mathlib.Core.Path.{◌≡◌}
-use mathlib.Core.Bool.{true}
-use lib.ListN.{length}
-use Rattle.wording.proofs.Escaped as laws
-use Rattle.wording.specs.Escapes.{is_plain, plain}
+use Rattle.texts.specs.Lent.{over}
+use Rattle.wording.specs.Steps.{undo_each, undone_left}
+use Rattle.wording.proofs.Escaped.{some_bytes}
 use Rattle.wording.proofs.escapes.put_plain.Given as goal
 
-abbrev pub invariant-loop-rest : goal.invariant-loop-rest
-invariant-loop-rest l = (is_plain (plain l.s) ≡ true) × laws.Undoing l.s l.initial.out l.out l.rest
-
-abbrev pub decreases-loop-rest : goal.decreases-loop-rest
-decreases-loop-rest l = length l.rest
+abbrev pub invariant-loop-b : goal.invariant-loop-b
+invariant-loop-b l = over (some_bytes (undone_left l.b-iterator)) l.out ≡ over (some_bytes (undo_each 0 l.s)) l.initial.out

@@ -9,5 +9,5 @@ use Rattle.captures.proofs.movegen.Captures.+man.Given as goal
 abbrev pub decreases-man : goal.decreases-man
 decreases-man g l = 64 - size l.captured
 
-abbrev pub invariant-loop-dir : goal.invariant-loop-dir
-invariant-loop-dir g l = Walked note_of l.fn.self.them l.fn.self.empty l.fn.self l.at l.captured l.dir l.self l.extended
+abbrev pub invariant-loop-d : goal.invariant-loop-d
+invariant-loop-d g l = Walked note_of l.fn.self.them l.fn.self.empty l.fn.self l.at l.captured l.d l.self l.extended

@@ -1,7 +1,11 @@
 -- One line more.
-use Rattle.lines.proofs.Contents.{lines_next}
+use native.Mathlib.Omega.{arith}
+use Rattle.lines.proofs.Contents.{lines_next, next_left}
 use Rattle.lines.proofs.buffers.Answers.answer_lines.Goals as goal
 
-pub loop-rest-preserved : goal.loop-rest-preserved
-loop-rest-preserved c =
-    lines_next _ _ _ _ _ _ c.loop-rest.invariant c.find-n.ensures.0 c.find-n.ensures.1 c.if-n-rest.false c.answer.ensures
+pub loop-n-preserved : goal.loop-n-preserved
+loop-n-preserved c =
+    let i = c.loop-n.invariant in
+    let at = c.in-Some.ensures.0 in
+    let h = c.in-Some.ensures.1 in
+    (next_left _ _ i.0 _ (omega (arith, at, h)), lines_next _ _ _ _ _ i.0 i.1 at (omega (arith, at, h)) (omega (arith, at, h)) c.answer.ensures)

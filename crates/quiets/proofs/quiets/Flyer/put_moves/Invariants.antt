@@ -1,0 +1,8 @@
+-- The directions so far had room for their moves.
+use Rattle.std.specs.Prelude.{Ok, ◌≡◌, ◌≤◌}
+use Rattle.captures.specs.Walks.{up_to}
+use Rattle.quiets.specs.Quiets.{put_all, flight_of}
+use Rattle.quiets.proofs.quiets.Flyer.put_moves.Given as goal
+
+abbrev pub invariant-loop-d : goal.invariant-loop-d
+invariant-loop-d l = (Ok l.list ≡ put_all l.fn.list (up_to (flight_of l.self.at l.self.empty) l.d)) × (l.d ≤ 4)

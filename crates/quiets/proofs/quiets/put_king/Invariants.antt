@@ -1,8 +1,0 @@
--- The directions so far had room for their moves.
-use Rattle.std.specs.Prelude.{Ok, ◌≡◌, ◌≤◌}
-use Rattle.captures.specs.Walks.{up_to}
-use Rattle.quiets.specs.Quiets.{put_all, flight_of}
-use Rattle.quiets.proofs.quiets.put_king.Given as goal
-
-abbrev pub invariant-loop-d : goal.invariant-loop-d
-invariant-loop-d l = (Ok l.list ≡ put_all l.fn.list (up_to (flight_of l.at l.empty) l.d)) × (l.d ≤ 4)
