@@ -10,14 +10,13 @@ ghost use Rattle.lines.specs.Contents.{output_size, ReadTo};
 
 use frame::output::Failure;
 use frame::{input, output};
-use requests::requests as asked;
 use std::io::{Read, Write};
 use std::marker::Model;
 use texts::bytes;
 use wording::words;
 
 // The room for an answer and its line feed: no answer is longer (law `answer_short`).
-const ROOM: usize = 23 * asked::LONGEST;
+const ROOM: usize = 23 * requests::requests::LONGEST;
 
 // How many bytes the buffers have.
 const INPUT: usize = 131072;
@@ -87,7 +86,7 @@ impl Unanswered {
         ensures upper_bound { length self.new ≤ longest + 1 }
         ensures carried { self.new ≡ carried_of longest self.old }
     {
-        let kept = (self.count - whole).min(asked::LONGEST + 1);
+        let kept = (self.count - whole).min(requests::requests::LONGEST + 1);
         self.bytes.copy_within(whole..whole + kept, 0);
         self.count = kept;
     }
@@ -110,7 +109,7 @@ impl Answers {
         requires { length self.old + answer_room ≤ output_size }
         ensures { self.new ≡ self.old ++ (answer_of line.now ++ (10 ∷ [])) }
     {
-        let n = asked::answer(line, &mut self.bytes[self.count..]);
+        let n = requests::requests::answer(line, &mut self.bytes[self.count..]);
         self.bytes[self.count + n] = b'\n';
         self.count += n + 1;
     }
@@ -154,7 +153,7 @@ impl Answers {
     {
         self.clear();
         if words::same(line, b"--help") {
-            self.count = asked::help(&mut self.bytes);
+            self.count = requests::requests::help(&mut self.bytes);
             return;
         }
         self.answer(line);

@@ -12,13 +12,11 @@
 // The buffers (`buffers`) say which bytes they contain: `answer_lines` answers whole lines, `carry` keeps the line that
 // is not whole yet, `last_answer` answers it at the end of the input, and `given_answer` answers the arguments.
 //
-// The writer and the buffer of answers go from function to function as two arguments. One struct of both would be no
-// plainer: the contracts are about the bytes of the writer alone.
-//
 // The laws on runs are those of the crate line_laws, with `answer_of` for the answer to a line (`run_law`, `stop_law`,
 // `read_stop_law`). What is written for arguments is what is written for an input of that line alone (`given_law`).
 #![tactic(auto)]
 
+ghost use Rattle.std.specs.Prelude.{◌≡◌};
 ghost use Rattle.requests.specs.Requests.{answer_of};
 ghost use Rattle.frame.specs.Output.{Put};
 ghost use Rattle.line_laws.specs.Lines.{last_answer};
@@ -35,76 +33,96 @@ use frame::{arguments, output};
 use std::env::Env;
 use std::io;
 use std::io::{Input, Read, Write};
+use std::marker::Model;
 
-// Writes the answers to the whole lines of s. It stops at the first write that fails. Returns how many bytes these
-// lines are.
-#[tactic(auto, using(crate::proofs::Turns::write_steps))]
-fn write_answers<W: Write>(to: &mut W, s: &[u8], answers: &mut Answers) -> Result<usize, Failure>
-    ensures sent { SentOf s.now result }
-    ensures sent_to { SentTo (W.contents to.old) (W.contents to.new) s.now result }
-{
-    let mut rest = s;
-    // The rest gets shorter by the lines whose answers had room in the buffer.
-    loop {
-        let next = answers.answer_lines(rest);
-        if next.len() == rest.len() {
-            return Ok(s.len() - rest.len());
+// A writer, and the buffer of the answers that are not written to it yet. Contracts see the bytes of the writer.
+#[derive(Drop)]
+struct AnswerWriter<W: Write> {
+    to: W,
+    answers: Answers,
+}
+
+impl<W: Write> Model for AnswerWriter<W> {
+    ghost use Rattle.std.specs.Prelude.{List, ℕ, Option};
+
+    ghost Value = { Option (List ℕ) };
+
+    ghost view = { λ w. W.contents w.to };
+}
+
+impl<W: Write> AnswerWriter<W> {
+    fn new(to: W) -> Self
+        ensures { result ≡ W.contents to }
+    {
+        AnswerWriter {
+            to,
+            answers: Answers::new(),
         }
-        answers.write(to)?;
-        rest = next;
     }
-}
 
-// At the end of the input: writes the answer to the last line, which has no line feed, if there is such a line.
-fn write_last<W: Write>(to: &mut W, line: &[u8], answers: &mut Answers) -> Result<(), Failure>
-    ensures { Put (W.contents to.old) (W.contents to.new) (last_answer answer_of line.now) result }
-{
-    answers.last_answer(line);
-    answers.write(to)
-}
-
-// Each turn reads once and answers the lines that are whole then. After a read or a write that fails, nothing more is
-// answered or written. After u64::MAX turns, which no run reaches, it ends as if a read had failed.
-#[tactic(auto, using(crate::proofs::Turns::none_fed, crate::proofs::Turns::turn_more))]
-fn feed<R: Read, W: Write>(from: &mut R, to: &mut W, answers: &mut Answers) -> Result<(), Failure>
-    ensures { FedTo (R.remaining from.old) (R.remaining from.new) (W.contents to.old) (W.contents to.new) result }
-{
-    let mut input = Unanswered::new();
-    for _ in 0..u64::MAX {
-        if input.read_more(from)? == 0 {
-            return write_last(to, input.as_slice(), answers);
+    // Writes the answers to the whole lines of s. It stops at the first write that fails. Returns how many bytes these
+    // lines are.
+    #[tactic(auto, using(crate::proofs::Turns::write_steps))]
+    fn write_answers(&mut self, s: &[u8]) -> Result<usize, Failure>
+        ensures sent { SentOf s.now result }
+        ensures sent_to { SentTo self.old self.new s.now result }
+    {
+        let mut rest = s;
+        // The rest gets shorter by the lines whose answers had room in the buffer.
+        loop {
+            let next = self.answers.answer_lines(rest);
+            if next.len() == rest.len() {
+                return Ok(s.len() - rest.len());
+            }
+            self.answers.write(&mut self.to)?;
+            rest = next;
         }
-        let whole = write_answers(to, input.as_slice(), answers)?;
-        input.carry(whole);
     }
-    Err(Failure::Read)
-}
 
-// Writes the answer to the arguments, given as one line. Standard input is not read.
-fn answer_given<W: Write>(to: &mut W, line: &[u8], answers: &mut Answers) -> Result<(), Failure>
-    ensures { Put (W.contents to.old) (W.contents to.new) (given_output line.now) result }
-{
-    answers.given_answer(line);
-    answers.write(to)
-}
+    // At the end of the input: writes the answer to the last line, which has no line feed, if there is such a line.
+    fn write_last(&mut self, line: &[u8]) -> Result<(), Failure>
+        ensures { Put self.old self.new (last_answer answer_of line.now) result }
+    {
+        self.answers.last_answer(line);
+        self.answers.write(&mut self.to)
+    }
 
-// Answers the arguments, or standard input where there are none. The buffer `line` has one byte more than the longest
-// line. So arguments that leave no byte of it free are a line that is too long, and so is the whole buffer: all lines
-// that are too long have one answer (law `given_long`).
-fn run<E: Env, R: Read, W: Write>(
-    rt: &E,
-    from: &mut R,
-    to: &mut W,
-    line: &mut [u8],
-    answers: &mut Answers,
-) -> Result<(), Failure>
-    ensures { Ran line.old line.new (R.remaining from.old) (R.remaining from.new)
-        (W.contents to.old) (W.contents to.new) result }
-{
-    match arguments::arguments(rt, line) {
-        Ok(Some(n)) => answer_given(to, &line[..n], answers),
-        Ok(None) => feed(from, to, answers),
-        Err(TooLong) => answer_given(to, line, answers),
+    // Each turn reads once and answers the lines that are whole then. After a read or a write that fails, nothing more
+    // is answered or written. After u64::MAX turns, which no run reaches, it ends as if a read had failed.
+    #[tactic(auto, using(crate::proofs::Turns::none_fed, crate::proofs::Turns::turn_more))]
+    fn feed<R: Read>(&mut self, from: &mut R) -> Result<(), Failure>
+        ensures { FedTo (R.remaining from.old) (R.remaining from.new) self.old self.new result }
+    {
+        let mut input = Unanswered::new();
+        for _ in 0..u64::MAX {
+            if input.read_more(from)? == 0 {
+                return self.write_last(input.as_slice());
+            }
+            let whole = self.write_answers(input.as_slice())?;
+            input.carry(whole);
+        }
+        Err(Failure::Read)
+    }
+
+    // Writes the answer to the arguments, given as one line. Standard input is not read.
+    fn answer_given(&mut self, line: &[u8]) -> Result<(), Failure>
+        ensures { Put self.old self.new (given_output line.now) result }
+    {
+        self.answers.given_answer(line);
+        self.answers.write(&mut self.to)
+    }
+
+    // Answers the arguments, or standard input where there are none. The buffer `line` has one byte more than the
+    // longest line. So arguments that leave no byte of it free are a line that is too long, and so is the whole buffer:
+    // all lines that are too long have one answer (law `given_long`).
+    fn run<E: Env, R: Read>(&mut self, rt: &E, from: &mut R, line: &mut [u8]) -> Result<(), Failure>
+        ensures { Ran line.old line.new (R.remaining from.old) (R.remaining from.new) self.old self.new result }
+    {
+        match arguments::arguments(rt, line) {
+            Ok(Some(n)) => self.answer_given(&line[..n]),
+            Ok(None) => self.feed(from),
+            Err(TooLong) => self.answer_given(line),
+        }
     }
 }
 
@@ -112,8 +130,7 @@ fn run<E: Env, R: Read, W: Write>(
 // error.
 pub fn serve<R: Env + Input + Print + Eprint>(rt: &R) {
     let mut line = [0u8; 65537];
-    let mut answers = Answers::new();
     let mut from = rt.reader();
-    let mut to = io::writer(rt);
-    output::report(rt, run(rt, &mut from, &mut to, &mut line, &mut answers));
+    let mut writer = AnswerWriter::new(io::writer(rt));
+    output::report(rt, writer.run(rt, &mut from, &mut line));
 }

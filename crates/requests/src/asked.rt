@@ -42,7 +42,7 @@ pub(crate) fn moves(p: Result<Position, Refusal>, limit: usize, out: &mut Space)
 
 // The limit, which is the first word and is read before the position.
 #[tactic(auto, unfolding(crate::specs::Asked::atmost_request))]
-fn read_limit(arg: &[u8]) -> Result<u64, Flaw>
+fn read_limit(arg: &[u8]) -> Result<u32, Flaw>
     ensures { on_read result (λ n. moves_request (position_in (after_word arg.now)) n) ≡ atmost_request arg.now }
 {
     numbers::unsigned(words::first(arg)).ok_or(Flaw::Number)
@@ -89,7 +89,7 @@ pub(crate) fn perft(p: Result<Position, Refusal>, depth: &[u8], out: &mut Space)
     let Some(n) = numbers::unsigned(depth) else {
         return no_number(p, out);
     };
-    answers::tell_counted(out, p.and_then(|q| movegen::perft::perft(q, n as u32)));
+    answers::tell_counted(out, p.and_then(|q| movegen::perft::perft(q, n)));
 }
 
 pub(crate) fn divide(p: Result<Position, Refusal>, depth: &[u8], out: &mut Space)
@@ -98,7 +98,7 @@ pub(crate) fn divide(p: Result<Position, Refusal>, depth: &[u8], out: &mut Space
     let Some(n) = numbers::unsigned(depth) else {
         return no_number(p, out);
     };
-    answers::tell_divided(out, p.and_then(|q| movegen::perft::divide(q, n as u32)));
+    answers::tell_divided(out, p.and_then(|q| movegen::perft::divide(q, n)));
 }
 
 // The score with these weights.

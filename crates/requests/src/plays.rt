@@ -47,11 +47,7 @@ fn read_record(word: &[u8]) -> Option<Move>
     let from = numbers::unsigned(bytes::up_to(word, b','))?;
     let to = numbers::unsigned(bytes::up_to(rest, b','))?;
     let captured = numbers::set(bytes::after_first(rest, b','))?;
-    Some(Move {
-        captured,
-        from: from as u32,
-        to: to as u32,
-    })
+    Some(Move { captured, from, to })
 }
 
 #[tactic(auto, unfolding(crate::specs::Plays::is_record_of))]

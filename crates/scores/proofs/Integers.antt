@@ -6,12 +6,14 @@ use native.Mathlib.Omega.{arith}
 use mathlib.Core.Bool.{Bool, true, false, ◌&&◌, cond, and-true}
 use lib.Dec.{leb, ltb, leb-suc-suc}
 use lib.IntN.{ℤ, pos, negsuc, ◌+ℤ◌, ◌-ℤ◌, ◌*ℤ◌, neg_ℤ, sub_ℕ, nat_abs, +ℤ_idl}
-use lib.Signed.{mag, le_z, quot_z}
-use borrow.Author.Tests.{ltb-true, lt-ltb, leb-true, le-leb}
+use lib.Signed.{mag, lt_z, quot_z}
+use borrow.Author.Tests.{ltb-true, ltb-false, lt-ltb, leb-true, le-leb, lt-leb}
 use borrow.Author.Rules.{sfits_of}
 use mir.Syntax.{w32}
 use mir.Val.{SFits, to_z, of_z, sel}
 use mir.Facts.{to_z-of_z}
+use Rattle.std.proofs.Common.{Less, Equal, Greater}
+use Rattle.std.specs.Ordering.{is_le}
 use Rattle.scores.specs.Score.{within, Bounded}
 
 -- ---- size
@@ -56,10 +58,18 @@ unfolding within
 le_within n z h = le-leb (nat_abs z) n h
 
 -- as the code tests it
-pub within_test : (n : ℕ) (z : ℤ) → (le_z (negsuc n) z && le_z z (pos (suc n))) ≡ within (suc n) z
+-- the library's test whether a number is at most another
+at_most : (a n : ℕ) (t u : Bool) → ltb a n ≡ t → ltb n a ≡ u → is_le (cond t Less (cond u Greater Equal)) ≡ leb a n
+at_most a n true u e f = sym (le-leb a n (omega (arith, ltb-true a n e)))
+at_most a n false true e f = sym (lt-leb a n (ltb-true n a f))
+at_most a n false false e f = sym (le-leb a n (ltb-false n a f))
+
+pub within_test : (n : ℕ) (z : ℤ)
+    → (is_le (cond (lt_z (negsuc n) z) Less (cond (lt_z z (negsuc n)) Greater Equal))
+    && is_le (cond (lt_z z (pos (suc n))) Less (cond (lt_z (pos (suc n)) z) Greater Equal))) ≡ within (suc n) z
 unfolding within
-within_test n (pos a) = refl
-within_test n (negsuc a) = and-true (leb a n) ∙ sym (leb-suc-suc a n)
+within_test n (pos a) = at_most a (suc n) (ltb a (suc n)) (ltb (suc n) a) refl refl
+within_test n (negsuc a) = and-true _ ∙ at_most a n (ltb a n) (ltb n a) refl refl ∙ sym (leb-suc-suc a n)
 
 -- ---- an i32
 mag_le : (z : ℤ) → mag z ≤ nat_abs z

@@ -78,10 +78,10 @@ module _ (c : Color) (b : Board) (o : Color) (k : ℕ) (p : o ≡ other c) (q : 
   unfolding guarding
   guards_none n = sym (ap (λ (t : Bool). cond t (size (bit_and (men_of c b) (guard c))) 0) (ap (λ (x : ℕ). eqb x 0) (sym (q ∙ ap (λ (d : Color). kings_of d b) p)) ∙ ne_eqb k 0 n))
 
-  pub guards_some : (m g n : ℕ) → k ≡ 0 → m ≡ men_of c b → g ≡ guard c → n ≡ size (bit_and m g) → n ≡ guarding c b
+  pub guards_some : (m g : ℕ) → k ≡ 0 → m ≡ men_of c b → g ≡ guard c → size (bit_and m g) ≡ guarding c b
   unfolding guarding
-  guards_some m g n z r s t =
-      t ∙ ap₂ (λ (x y : ℕ). size (bit_and x y)) r s
+  guards_some m g z r s =
+      ap₂ (λ (x y : ℕ). size (bit_and x y)) r s
       ∙ sym (ap (λ (t : Bool). cond t (size (bit_and (men_of c b) (guard c))) 0) (ap (λ (x : ℕ). eqb x 0) (sym (q ∙ ap (λ (d : Color). kings_of d b) p)) ∙ eq-eqb k 0 z))
 
   -- ---- few pieces against a king

@@ -27,13 +27,13 @@ hex_short [] h = tt
 hex_short (a ∷ []) h = tt
 hex_short (a ∷ (b ∷ s)) h = absurd (omega arith)
 
-pub high_bad : (s : List ℕ) → 2 ≤ length s → 15 < high_of (get_or s 0 0) → Escaped (120 ∷ s) (hex_escape s) None
+pub high_bad : (s : List ℕ) → 2 ≤ length s → 16 ≤ high_of (get_or s 0 0) → Escaped (120 ∷ s) (hex_escape s) None
 unfolding hex_escape
 high_bad [] h k = absurd (omega arith)
 high_bad (x ∷ []) h k = absurd (omega arith)
 high_bad (x ∷ (y ∷ s)) h k = rw (lt-leb (high_of x) 15 k) tt
 
-pub low_bad : (s : List ℕ) → 2 ≤ length s → high_of (get_or s 0 0) ≤ 15 → 15 < digit_of (get_or s 1 0) → Escaped (120 ∷ s) (hex_escape s) None
+pub low_bad : (s : List ℕ) → 2 ≤ length s → high_of (get_or s 0 0) ≤ 15 → 16 ≤ digit_of (get_or s 1 0) → Escaped (120 ∷ s) (hex_escape s) None
 unfolding hex_escape
 low_bad [] h k l = absurd (omega arith)
 low_bad (x ∷ []) h k l = absurd (omega arith)

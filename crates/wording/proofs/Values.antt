@@ -99,13 +99,18 @@ digit_cases b false e false f false g false i false j false k =
     let q = past_letters b (ltb b 123) refl l in
     (λ h. absurd (omega (arith, h, q)), λ h. omega (arith, above_letters b l))
 
-pub digit_found : (b : ℕ) (r : Option ℕ) → SomeIff r (digit_value b < 16) (digit_value b) → IsDigit (digit_of b) r
-digit_found b (Some d) h =
+digit_none : (base b : ℕ) → base ≤ 16 → (t : Bool) → ltb (digit_value b) 16 ≡ t → (digit_value b < base → ⊥)
+    → (digit_value b < 16 → digit_value b ≡ digit_of b) × ((digit_value b < 16 → ⊥) → 15 < digit_of b) → base ≤ digit_of b
+digit_none base b k true e h w = omega (arith, h, w.0 (ltb-true (digit_value b) 16 e))
+digit_none base b k false e h w = omega (arith, k, w.1 (λ l. omega (arith, l, ltb-false (digit_value b) 16 e)))
+
+pub digit_found : (base b : ℕ) (r : Option ℕ) → base ≤ 16 → SomeIff r (digit_value b < base) (digit_value b) → IsDigit base (digit_of b) r
+digit_found base b (Some d) k h =
     let w = digit_cases b (ltb b 48) refl (leb b 57) refl (ltb b 65) refl (leb b 70) refl (ltb b 97) refl (leb b 102) refl in
-    (h.1 ∙ w.0 h.0, omega (arith, h.0, h.1))
-digit_found b None h =
+    (h.1 ∙ w.0 (omega (arith, h.0, k)), omega (arith, h.0, h.1))
+digit_found base b None k h =
     let w = digit_cases b (ltb b 48) refl (leb b 57) refl (ltb b 65) refl (leb b 70) refl (ltb b 97) refl (leb b 102) refl in
-    w.1 h
+    digit_none base b k (ltb (digit_value b) 16) refl h w
 
 -- ---- numbers
 pub number_none : (base limit : ℕ) (s : List ℕ) → length s ≡ 0 → number_in base limit s ≡ None

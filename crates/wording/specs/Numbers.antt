@@ -17,10 +17,10 @@ digit_of b =
     (cond (leb (code "A") b && leb b (code "F")) (b - code "A" + 10)
     (cond (leb (code "a") b && leb b (code "f")) (b - code "a" + 10) 16))
 
--- r is the value v of a hexadecimal digit; there is none where v is above 15
-abbrev pub IsDigit : ℕ → Option ℕ → Type 0
-IsDigit v (Some d) = (d ≡ v) × (d ≤ 15)
-IsDigit v None = 15 < v
+-- r is the value v of a digit of this base; there is none where v is no digit of it
+abbrev pub IsDigit : ℕ → ℕ → Option ℕ → Type 0
+IsDigit base v (Some d) = (d ≡ v) × (d < base)
+IsDigit base v None = base ≤ v
 
 -- the number v followed by digits of this base; no value on the way is above the limit
 unfoldable pub value_from : ℕ → ℕ → ℕ → List ℕ → Option ℕ

@@ -17,12 +17,12 @@ use texts::space::Space;
 // The value of the first of two hexadecimal digits. Rust reads a `+` there as a sign, so `\x+A` is the byte 10.
 #[tactic(auto, unfolding(crate::specs::Escapes::high_of))]
 fn high(b: u8) -> Option<u32>
-    ensures { IsDigit (high_of b) result }
+    ensures { IsDigit 16 (high_of b) result }
 {
     if b == b'+' {
         Some(0)
     } else {
-        numbers::digit(b)
+        numbers::digit(b, 16)
     }
 }
 
@@ -35,7 +35,7 @@ fn hex_escape(s: &[u8]) -> Option<(u8, &[u8])>
         return None;
     };
     let a = high(*x)?;
-    let b = numbers::digit(*y)?;
+    let b = numbers::digit(*y, 16)?;
     Some(((a * 16 + b) as u8, rest))
 }
 

@@ -9,19 +9,21 @@ ghost use Rattle.wording.specs.Numbers.{digit_of, IsDigit, AtMost, number_in, un
 
 use texts::bytes;
 
-// The value of a hexadecimal digit in either case.
-#[tactic(auto, using(crate::proofs::Values::digit_found))]
-pub(crate) fn digit(b: u8) -> Option<u32>
-    ensures { IsDigit (digit_of b) result }
+// The value of a digit of this base. Letters are digits in either case.
+pub(crate) fn digit(b: u8, base: u32) -> Option<u32>
+    requires lower_bound { 2 ≤ base }
+    requires upper_bound { base ≤ 16 }
+    ensures { IsDigit base (digit_of b) result }
 {
-    (b as char).to_digit(16)
+    (b as char).to_digit(base)
 }
 
 // Reads one digit or more of this base; the value is at most the limit. This is no `from_str_radix`, which takes a
 // `&str`: each of the four readers would first test its word for UTF-8. It also reads a `+`, which `given` refuses.
 #[tactic(auto, using(crate::proofs::Values::number_some, crate::proofs::Values::number_none, crate::proofs::Values::limited, crate::proofs::Values::no_digit, crate::proofs::Values::past_limit, crate::proofs::Values::next_digit, crate::proofs::Values::value_end))]
-fn number(s: &[u8], base: u64, limit: u64) -> Option<u64>
-    requires { base ≤ 16 }
+fn number(s: &[u8], base: u32, limit: u64) -> Option<u64>
+    requires lower_bound { 2 ≤ base }
+    requires upper_bound { base ≤ 16 }
     ensures { (result ≡ number_in base limit s.now) × AtMost limit result }
 {
     if s.is_empty() {
@@ -29,11 +31,8 @@ fn number(s: &[u8], base: u64, limit: u64) -> Option<u64>
     }
     let mut v: u64 = 0;
     for &b in s {
-        let d = digit(b)? as u64;
-        if base <= d {
-            return None;
-        }
-        v = v.checked_mul(base)?.checked_add(d)?;
+        let d = digit(b, base)?;
+        v = v.checked_mul(base as u64)?.checked_add(d as u64)?;
         if limit < v {
             return None;
         }
@@ -43,10 +42,10 @@ fn number(s: &[u8], base: u64, limit: u64) -> Option<u64>
 
 // An unsigned number of 32 bits.
 #[tactic(auto, unfolding(crate::specs::Numbers::unsigned_of))]
-pub fn unsigned(s: &[u8]) -> Option<u64>
-    ensures { (result ≡ unsigned_of s.now) × AtMost (2 ^ 32 - 1) result }
+pub fn unsigned(s: &[u8]) -> Option<u32>
+    ensures { result ≡ unsigned_of s.now }
 {
-    number(bytes::strip(s, b'+'), 10, 0xFFFF_FFFF)
+    u32::try_from(number(bytes::strip(s, b'+'), 10, 0xFFFF_FFFF)?).ok()
 }
 
 // A decimal number: digits alone, no sign, no needless zero at the start, at most the limit. Each number has one text.

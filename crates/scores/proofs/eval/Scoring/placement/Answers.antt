@@ -24,7 +24,7 @@ term-requires-2 c =
 
 pub term-requires-3 : goal.term-requires-3
 term-requires-3 c =
-    record { weight_value = held_within 10000 c.args.self.weights.guard (lit< tt) (weights_of_lem c.args.self.weights c.args.self.fit).guard; number_bound = c.guards.ensures.upper_bound }
+    record { weight_value = held_within 10000 c.args.self.weights.guard (lit< tt) (weights_of_lem c.args.self.weights c.args.self.fit).guard; number_bound = count_le _ _ c.count-2.ensures }
 
 pub overflow_add-result-2 : goal.overflow_add-result-2
 overflow_add-result-2 c =
@@ -45,5 +45,5 @@ returns c =
     (of_term w.center _ _ _ fit.center
     (c.count.ensures ∙ ap₂ (λ (s k : ℕ). size (bit_and s k)) c.men-men.ensures (sym center_is)) c.term-2.ensures)
     (lit< tt) (lit< tt))
-    (of_term w.guard _ _ _ fit.guard c.guards.ensures.value c.term-3.ensures)
+    (of_term w.guard _ _ _ fit.guard (c.count-2.ensures ∙ c.guards.ensures) c.term-3.ensures)
     (lit< tt) (lit< tt)) (lit< tt)

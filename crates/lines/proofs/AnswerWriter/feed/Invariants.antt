@@ -3,7 +3,7 @@ use Prim.Native.Nat.{◌+◌, ◌≤◌}
 use lib.ListN.{length}
 use Rattle.requests.specs.Requests.{longest}
 use Rattle.lines.proofs.Turns.{Feeding}
-use Rattle.lines.proofs.feed.Given as goal
+use Rattle.lines.proofs.AnswerWriter.feed.Given as goal
 
 abbrev pub invariant-loop : goal.invariant-loop
-invariant-loop g l = (length l.input ≤ longest + 1) × Feeding (g.R.Read.remaining l.initial.from) (g.R.Read.remaining l.from) (g.W.Write.contents l.initial.to) (g.W.Write.contents l.to) l.input
+invariant-loop g l = (length l.input ≤ longest + 1) × Feeding (g.R.Read.remaining l.initial.from) (g.R.Read.remaining l.from) l.initial.self l.self l.input

@@ -2,7 +2,7 @@
 use native.Mathlib.Omega.{arith}
 use Rattle.std.proofs.lemmas.Result.{err_from_is_err_and}
 use Rattle.lines.proofs.Turns.{all_lines, all_written, step_cut}
-use Rattle.lines.proofs.write_answers.Goals as goal
+use Rattle.lines.proofs.AnswerWriter.write_answers.Goals as goal
 
 pub returns-then-next-rest-clause-sent : goal.returns-then-next-rest-clause-sent
 returns-then-next-rest-clause-sent g c =

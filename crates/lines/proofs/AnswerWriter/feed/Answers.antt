@@ -2,7 +2,7 @@
 use Rattle.std.proofs.KnownBytes.{Keeps-refl}
 use Rattle.std.proofs.lemmas.Result.{err_from_is_err_and}
 use Rattle.lines.proofs.Turns as turns
-use Rattle.lines.proofs.feed.Goals as goal
+use Rattle.lines.proofs.AnswerWriter.feed.Goals as goal
 
 pub returns-in_err-read_more : goal.returns-in_err-read_more
 returns-in_err-read_more g c =
