@@ -1,10 +1,10 @@
--- Search in a list of moves, as a chain asks it, and what a list is after one more.
+-- The search in a list of moves, as the library makes it, and what a list is after one more.
 use Rattle.std.specs.Prelude.{Option, Some, None, Ok, Err}
-use mathlib.Core.Path.{◌≡◌, refl, sym, ap, ◌∙◌}
-use mathlib.Core.Bool.{Bool, true, false, cond, ◌||◌}
+use mathlib.Core.Path.{◌≡◌, refl, sym, ap, ap₂, ◌∙◌}
+use mathlib.Core.Bool.{Bool, true, false, cond, ◌||◌, ◌&&◌, and-true}
 use Prim.Native.Nat.{ℕ, min}
 use native.Mathlib.Omega.{arith}
-use lib.Dec.{ltb, leb}
+use lib.Dec.{ltb, leb, eqb}
 use lib.ListN.{length, take}
 use lib.Seq.{take_all}
 use borrow.Author.Tests.{leb-true, leb-false}
@@ -15,10 +15,17 @@ use Rattle.std.specs.List.{list_any}
 use Rattle.captures.specs.declared.moves.MoveList.{MoveList}
 use Rattle.captures.specs.Lists.{entries, listed, push_of, kept, put_of}
 
-pub listed_any : (l : List Move) (m : Move) → listed l m ≡ list_any (λ x. same x m) l
-unfolding listed
+turned : (a b c : Bool) → (a && (b && c)) ≡ (b && (c && a))
+turned true b c = ap (λ (x : Bool). b && x) (sym (and-true c))
+turned false true true = refl
+turned false true false = refl
+turned false false c = refl
+
+-- the library's test, which compares the fields of a move in their order
+pub listed_any : (l : List Move) (m : Move) → list_any (λ x. eqb x.captured m.captured && (eqb x.from m.from && eqb x.to m.to)) l ≡ listed l m
+unfolding listed same
 listed_any [] m = refl
-listed_any (x ∷ l) m = ap (λ (b : Bool). same x m || b) (listed_any l m)
+listed_any (x ∷ l) m = ap₂ ◌||◌ (turned (eqb x.captured m.captured) (eqb x.from m.from) (eqb x.to m.to)) (listed_any l m)
 
 -- with room or without, the list is the one with the move at its end
 pub put_push : (l k : MoveList) (r : Option Unit) (m : Move) → kept k r ≡ put_of l m → k ≡ push_of l m

@@ -17,12 +17,11 @@ pub struct View {
     pub side: Color,
 }
 
-impl View {
-    // The board of a position, as its side to move sees it. By name and no `From`: the call reads as a view of the
-    // position.
-    pub fn of(p: Position) -> View
-        ensures { result ≡ view_of (board_of p) }
-    {
+// The board of a position, as its side to move sees it.
+impl From<Position> for View {
+    ghost from_gives = { λ p v. v ≡ view_of (board_of p) };
+
+    fn from(p: Position) -> View {
         View {
             us: p.pieces(p.side),
             them: p.pieces(!p.side),
@@ -30,15 +29,17 @@ impl View {
             side: p.side,
         }
     }
+}
 
-    // Its men.
+impl View {
+    // The men of its side.
     pub fn men(self) -> Bitboard
         ensures { result ≡ own_men_of self }
     {
         bitboard::difference(self.us, self.kings)
     }
 
-    // Its kings.
+    // The kings of its side.
     pub fn own_kings(self) -> Bitboard
         ensures { result ≡ own_kings_of self }
     {
@@ -51,19 +52,6 @@ impl View {
     {
         bitboard::not(self.us | self.them)
     }
-
-    // Its sets, for the search. By name and no `From`: the name says what is taken of the view.
-    pub fn sets(self) -> Sets
-        ensures { result ≡ sets_of self }
-    {
-        Sets {
-            men: self.men(),
-            kings: self.own_kings(),
-            them: self.them,
-            empty: self.empty(),
-            side: self.side,
-        }
-    }
 }
 
 // What the search for moves and its tests take: the men and the kings of the side to move, the enemy's pieces, the
@@ -75,4 +63,18 @@ pub struct Sets {
     pub them: Bitboard,
     pub empty: Bitboard,
     pub side: Color,
+}
+
+impl From<View> for Sets {
+    ghost from_gives = { λ v s. s ≡ sets_of v };
+
+    fn from(v: View) -> Sets {
+        Sets {
+            men: v.men(),
+            kings: v.own_kings(),
+            them: v.them,
+            empty: v.empty(),
+            side: v.side,
+        }
+    }
 }

@@ -8,6 +8,7 @@ use native.Mathlib.Numerals.{add-one}
 use Rattle.std.specs.declared.option.Option.{Option}
 use Rattle.std.proofs.KnownBytes.{Consumes-nil, Consumes-trans}
 use Rattle.std.specs.Io.KnownBytes.{Consumes}
+use Rattle.std.specs.Io.{ReadsAtMost}
 use lib.Dec.{eqb}
 use lib.ListN.{length, take, drop, set, length-set, length-drop}
 use lib.Seq.{drop-drop, take-suc-set, drop-set-lt, take-append-add, take-append-le, length-take-le}
@@ -15,7 +16,22 @@ use borrow.Author.Tests.{ne_eqb}
 use borrow.Rule.Slice.PartMut.{put_mid, post_of, same_len_mid}
 use Rattle.texts.specs.Bytes.{holds}
 use Rattle.texts.proofs.Cuts.{rest}
-use Rattle.frame.specs.Input.{LineIn}
+use Rattle.frame.specs.Input.{LineIn, CameIn}
+use Rattle.frame.specs.declared.output.Failure.{Failure}
+use Rattle.frame.specs.declared.output.Failure.TheVariants as failure
+use Rattle.std.specs.Prelude.{Result, Ok, Err}
+
+-- ---- one read
+abbrev pub came_of : {E : Type 0} → Result ℕ E → Result ℕ Failure
+came_of (Ok n) = Ok n
+came_of (Err e) = Err failure.Read
+
+fits : {E : Type 0} (got : Result ℕ E) (space : List ℕ) → ReadsAtMost got space → CameIn (length space) (came_of got)
+fits (Ok n) space h = h.0
+fits (Err e) space h = tt
+
+pub came_in : {E : Type 0} (got : Result ℕ E) (space : List ℕ) (r : Result ℕ Failure) → ReadsAtMost got space → r ≡ came_of got → CameIn (length space) r
+came_in got space r h e = subst (λ (x : Result ℕ Failure). CameIn (length space) x) (sym e) (fits got space h)
 
 -- a read into the part of a buffer from a place on
 module _ (buf part : List ℕ) (n : ℕ) (h : n < length buf) (e : length part ≡ length (take (length buf - n) (drop n buf))) where

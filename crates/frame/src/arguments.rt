@@ -3,14 +3,13 @@
 // No contract says which arguments there are, since that of the library's `arg` does not. The contract of `arguments`
 // says that the bytes are words joined by single spaces. Only the code shows that these are the arguments, in order.
 // An argument need not be UTF-8: its bytes are passed on as they are.
-ghost use Rattle.std.specs.Prelude.{◌≡◌, length};
 ghost use Rattle.frame.specs.Arguments.{WordIn, GivenIn};
 
 use std::env::{Env, FillError};
 use texts::space::Space;
 
-// The arguments, or one of them, have no room: at least one byte of the buffer would have to be free.
-#[derive(Clone, Copy)]
+// The joined arguments leave no byte of the buffer free, or one argument is too long to be read.
+#[derive(Clone, Copy, Debug, PartialEq, Eq)]
 pub struct TooLong;
 
 // Puts the argument of this number at the start of the word. Returns how many bytes it has, or nothing where there is
@@ -26,7 +25,8 @@ fn read_word<E: Env>(rt: &E, i: usize, word: &mut [u8]) -> Result<Option<usize>,
 }
 
 // Puts the arguments, joined by single spaces, at the start of the buffer. Returns how many bytes that is, or nothing
-// where there are no arguments. The bytes after them stay.
+// where there are no arguments. The bytes after them stay. `TooLong` where the arguments do not leave a byte of the
+// buffer free, or where one of them has more than 131072 bytes.
 pub fn arguments<E: Env>(rt: &E, buf: &mut [u8]) -> Result<Option<usize>, TooLong>
     ensures { GivenIn buf.old buf.new result }
 {

@@ -41,8 +41,7 @@ pub fn read_line<R: Read>(from: &mut R, buf: &mut [u8]) -> Result<usize, Failure
 {
     for (n, place) in buf.iter_mut().enumerate() {
         match read_byte(from)? {
-            None => return Ok(n),
-            Some(b'\n') => return Ok(n),
+            None | Some(b'\n') => return Ok(n),
             Some(b) => *place = b,
         }
     }

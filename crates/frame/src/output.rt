@@ -10,7 +10,7 @@ ghost use Rattle.frame.specs.Output.{Put};
 use std::io::Write;
 
 // Why a run stops before all was read and written: a read failed, or a write.
-#[derive(Clone, Copy)]
+#[derive(Clone, Copy, Debug, PartialEq, Eq)]
 pub enum Failure {
     Read,
     Write,

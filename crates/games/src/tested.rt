@@ -5,7 +5,7 @@ ghost use Rattle.movegen.specs.Lists.{after_of};
 ghost use Rattle.games.specs.Games.{last_of, valid, stood, judged_of, ended};
 ghost use Rattle.games.specs.Play.{moved_of, reached_of};
 
-use crate::game::{Game, Outcome};
+use crate::game::{Game, Outcome, Termination};
 use crate::{endings, keeping};
 use positions::moves::Move;
 use positions::position::Position;
@@ -28,7 +28,8 @@ impl<'a> Tested<'a> {
         self.game.kept[i]
     }
 
-    // How often the current position is in the window, this time included.
+    // How often the current position is in the window, this time included. The hash is not compared: two boards may
+    // share one.
     #[tactic(auto, using(crate::proofs::Valid::window_fits))]
     pub(crate) fn stood(self) -> u32
         ensures { result ≡ stood self.entry.game.now }
@@ -36,21 +37,26 @@ impl<'a> Tested<'a> {
         let p = self.last();
         self.game.kept[..self.game.len]
             .iter()
-            .filter(|q| keeping::same_position(**q, p))
+            .filter(|q| q.same(p))
             .count() as u32
     }
 
-    // The outcome, if the game is over.
-    #[tactic(auto, unfolding(crate::specs::Games::judged_of), using(crate::proofs::Window::last_sound))]
+    // The outcome, if the game is over: the tests in order.
+    #[tactic(auto, unfolding(crate::specs::Games::judged_of, crate::specs::Games::judge), using(crate::proofs::Window::last_sound))]
     pub(crate) fn judged(self) -> Option<Outcome>
         ensures { result ≡ judged_of self.entry.game.now }
     {
-        endings::judge(
-            self.last(),
-            self.stood(),
-            self.game.reversible,
-            self.game.material,
-        )
+        let p = self.last();
+        if !endings::can_move(p) {
+            return Some(Outcome::win(!p.side));
+        }
+        if 3 <= self.stood() {
+            return Some(Outcome::draw(Termination::Repetition));
+        }
+        if 50 <= self.game.reversible {
+            return Some(Outcome::draw(Termination::TwentyFiveMoves));
+        }
+        endings::king_ending(p, self.game.material)
     }
 
     pub(crate) fn has_ended(self) -> bool
@@ -78,8 +84,8 @@ impl<'a> Tested<'a> {
         let p = self.last();
         let material = keeping::material_after(p, mv, self.game.material);
         if mv.is_capture() | keeping::man_moves(p, mv) {
-            return keeping::alone(q, material);
+            return Game::alone(q, material);
         }
-        keeping::appended(self.game, q, material)
+        self.game.appended(q, material)
     }
 }

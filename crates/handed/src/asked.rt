@@ -18,7 +18,7 @@ use positions::position::Position;
 use scores::eval;
 use squares::refusal::Refusal;
 use squares::{bitboard, square};
-use std::io;
+use std::{array, io};
 use texts::{bytes, fen, hub};
 use wording::words;
 
@@ -88,18 +88,11 @@ fn of_game(rt: &impl Print, entry: u64, n: u64, v: &Values) -> io::Result<()> {
     }
 }
 
-// Reads the numbers of a list. They come after the first three words of the line.
-fn listed(s: &[u8], list: &mut [u64]) {
-    for (i, number) in list.iter_mut().enumerate() {
-        *number = given::number(s, i + 3);
-    }
-}
-
 // Lends the first numbers of a list of nine, and a byte for each of at most four answers. Each byte is 46 beforehand.
+// The numbers come after the first three words of the line.
 fn of_list(rt: &impl Print, s: &[u8], p: Position, answers: u64, count: u64) -> io::Result<()> {
-    let mut list = [0u64; 9];
+    let list: [u64; 9] = array::from_fn(|i| given::number(s, i + 3));
     let mut lent = [b'.'; 4];
-    listed(s, &mut list);
     let Some(numbers) = list.get(..count as usize) else {
         return Ok(());
     };

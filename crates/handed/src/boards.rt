@@ -5,7 +5,8 @@ use squares::piece::Color;
 use squares::zobrist;
 
 // These sets with the hash of the pieces in them, whatever is wrong with the sets. The bits of `wrong` are flipped in
-// the hash.
+// the hash. The hash is put together here from the keys, apart from the test of refusal 12, so that a fault in that test
+// shows.
 pub(crate) fn with_hash(
     white: Bitboard,
     black: Bitboard,

@@ -91,7 +91,7 @@ impl Values {
         Values {
             position: position::initial(),
             mv: BLANK,
-            weights: Classical::new(),
+            weights: Classical::default(),
             game: Game::new(),
         }
     }

@@ -5,7 +5,6 @@ use captures::moves::{BLANK, MoveList};
 use movegen::perft::Divided;
 use positions::moves::Move;
 use positions::position::Position;
-use squares::bitboard::Bitboard;
 use squares::piece::Piece;
 use squares::refusal::Refusal;
 use std::fmt::Display;

@@ -23,12 +23,9 @@ fn blank_positions(g: Game) -> usize {
 }
 
 fn game(rt: &impl Print, g: Game) -> io::Result<()> {
-    write_numbers(rt, g.len, g.reversible, g.material)?;
+    print!(rt; ", kept {}", g.len)?;
+    print!(rt; ", counters {} {}", g.reversible, g.material)?;
     print!(rt; ", {} blank", blank_positions(g))
-}
-
-fn write_numbers(rt: &impl Print, len: usize, reversible: u32, material: u32) -> io::Result<()> {
-    print!(rt; ", kept {len}, counters {reversible} {material}")
 }
 
 // Where a new game is refused, the empty one stands in its place.

@@ -140,7 +140,7 @@ impl Answers {
         ensures { self.new ≡ last_answer answer_of line.now }
     {
         self.clear();
-        if line.len() > 0 {
+        if !line.is_empty() {
             self.answer(line);
         }
     }
@@ -163,6 +163,6 @@ impl Answers {
     pub(crate) fn write<W: Write>(&self, to: &mut W) -> Result<(), Failure>
         ensures { Put (W.contents to.old) (W.contents to.new) self.now result }
     {
-        output::write(to, &self.bytes[..self.count])
+        output::write(to, self.as_slice())
     }
 }

@@ -35,6 +35,9 @@ use std::io;
 use std::io::{Input, Read, Write};
 use std::marker::Model;
 
+// Room for the longest line and one byte more.
+const LINE: usize = requests::requests::LONGEST + 1;
+
 // A writer, and the buffer of the answers that are not written to it yet. Contracts see the bytes of the writer.
 #[derive(Drop)]
 struct AnswerWriter<W: Write> {
@@ -113,8 +116,8 @@ impl<W: Write> AnswerWriter<W> {
     }
 
     // Answers the arguments, or standard input where there are none. The buffer `line` has one byte more than the
-    // longest line. So arguments that leave no byte of it free are a line that is too long, and so is the whole buffer:
-    // all lines that are too long have one answer (law `given_long`).
+    // longest line. Arguments that leave no byte of it free are too long for a line. Then the whole buffer is
+    // answered in their place: it is too long as well, and all such lines have one answer (law `given_long`).
     fn run<E: Env, R: Read>(&mut self, rt: &E, from: &mut R, line: &mut [u8]) -> Result<(), Failure>
         ensures { Ran line.old line.new (R.remaining from.old) (R.remaining from.new) self.old self.new result }
     {
@@ -129,7 +132,7 @@ impl<W: Write> AnswerWriter<W> {
 // The whole program. It ends with the input, or at the first read or write that fails, and reports that on standard
 // error.
 pub fn serve<R: Env + Input + Print + Eprint>(rt: &R) {
-    let mut line = [0u8; 65537];
+    let mut line = [0u8; LINE];
     let mut from = rt.reader();
     let mut writer = AnswerWriter::new(io::writer(rt));
     output::report(rt, writer.run(rt, &mut from, &mut line));

@@ -21,7 +21,7 @@ ghost use Rattle.movegen.specs.Lists.{view_at, legal_moves_of, has_captures_of, 
 use crate::moves::{MAX_MOVES, MoveList};
 use crate::position;
 use captures::pieces::{ROOM, all_captures};
-use captures::view::View;
+use captures::view::{Sets, View};
 use positions::moves::Move;
 use positions::position::Position;
 use squares::bitboard;
@@ -36,7 +36,7 @@ const FEW_KINGS: u32 = 3;
 pub(crate) fn generate(v: View) -> Option<MoveList>
     ensures { result ≡ generate_of v }
 {
-    let sets = v.sets();
+    let sets = Sets::from(v);
     if quiets::quiets::has_capture(sets) {
         if bitboard::count(sets.kings) <= FEW_KINGS {
             let few = all_captures::<ROOM>(sets);
@@ -58,7 +58,7 @@ pub(crate) fn view(p: Position) -> Result<View, Refusal>
     ensures { result ≡ view_at p }
 {
     Refusal::BadPosition.unless(p.sound())?;
-    Ok(View::of(p))
+    Ok(View::from(p))
 }
 
 // All legal moves, at most `limit` of them. Refusals: 12, 10, 17.
@@ -78,7 +78,7 @@ pub fn legal_moves(p: Position, limit: usize) -> Result<MoveList, Refusal>
 pub fn has_captures(p: Position) -> Result<bool, Refusal>
     ensures { result ≡ has_captures_of p }
 {
-    Ok(quiets::quiets::has_capture(view(p)?.sets()))
+    Ok(quiets::quiets::has_capture(Sets::from(view(p)?)))
 }
 
 // Whether the side to move has a quiet move, even where it must capture. Refusal: 12.
@@ -86,7 +86,7 @@ pub fn has_captures(p: Position) -> Result<bool, Refusal>
 pub fn has_quiet_moves(p: Position) -> Result<bool, Refusal>
     ensures { result ≡ has_quiet_moves_of p }
 {
-    Ok(quiets::quiets::has_quiet(view(p)?.sets()))
+    Ok(quiets::quiets::has_quiet(Sets::from(view(p)?)))
 }
 
 // The position after a legal move, with its hash. Refusals: 12, 11, 17, 15.

@@ -58,7 +58,7 @@ fn captures_count(s: Sets) -> Result<u64, Refusal>
 fn last_ply(v: View) -> Result<u64, Refusal>
     ensures { result ≡ last_ply_of v }
 {
-    let sets = v.sets();
+    let sets = Sets::from(v);
     if quiets::quiets::has_capture(sets) {
         captures_count(sets)
     } else {
@@ -112,7 +112,8 @@ fn split(v: View, plies: u32) -> Result<Divided, Refusal>
     Ok(Divided { list, counts })
 }
 
-// The depth count split by first move. Depth 0 is read as 1. Refusals: 12, 10, 17.
+// The depth count split by first move. Depth 0 is read as 1. Refusals: 12, 10, 17. The first two tests are those of
+// `perft`. They are in no function of their own, since its contract would be longer than they are.
 #[tactic(auto, unfolding(crate::specs::Counts::divide_of, crate::specs::Lists::view_at))]
 pub fn divide(p: Position, depth: u32) -> Result<Divided, Refusal>
     ensures { result ≡ divide_of p depth }

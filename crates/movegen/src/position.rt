@@ -15,7 +15,7 @@ use squares::{bitboard, zobrist};
 pub(crate) fn play(p: Position, mv: Move) -> Position
     ensures { result ≡ play_of p mv }
 {
-    let v = playing::next(View::of(p), mv);
+    let v = playing::next(View::from(p), mv);
     let kept = bitboard::difference(p.kings, mv.captured);
     let hash = p.hash
         ^ p.keys_on(!p.side, mv.captured)

@@ -9,7 +9,7 @@ use lib.Dec.{eqb, leb}
 use borrow.Author.Tests.{eqb-true}
 use Rattle.texts.specs.Bytes.{is, holds, split_on, read_square}
 use Rattle.texts.proofs.ListLaws.{lacks_held, split_agree}
-use Rattle.notation.specs.Notation.{at_cut, is_cross, malformed, unsaid, as_first, as_second, as_later, heard_square, on_square, heard_squares, well_formed, in_form, heard_trimmed}
+use Rattle.notation.specs.Notation.{at_cut, malformed, unsaid, as_first, as_second, as_later, heard_square, on_square, heard_squares, well_formed, in_form, heard_trimmed}
 use Rattle.notation.specs.declared.notation.Said.{Said}
 use Rattle.squares.specs.declared.refusal.Refusal.{Refusal}
 
@@ -86,12 +86,11 @@ without_cross t d e x =
     ap (λ (l : List (List ℕ)). in_form d (heard_squares (unsaid false) l)) (sym (split_dash t x))
     ∙ sym (ap₂ (λ (u v : Bool). in_form u (heard_squares (unsaid v) (split_on at_cut t))) (sym e) x)
 
--- what was read of a text that was split at its separator c
-pub separated : (t : List ℕ) (d : Bool) (c : ℕ) (a : Result Said Refusal) → d ≡ holds 45 t → c ≡ cond (holds 120 t) 120 45
-    → a ≡ heard_squares (unsaid (is_cross c)) (split_on (is c) t) → in_form d a ≡ heard_trimmed t
-separated t d c a e f g =
-    ap (in_form d) (g ∙ ap (λ (x : ℕ). heard_squares (unsaid (is_cross x)) (split_on (is x) t)) f) ∙ go (holds 120 t) refl
+-- what was read of a text that was split at the separator of its kind
+pub separated : (t : List ℕ) (d x : Bool) (a : Result Said Refusal) → d ≡ holds 45 t → x ≡ holds 120 t
+    → a ≡ heard_squares (unsaid x) (split_on (is (cond x 120 45)) t) → in_form d a ≡ heard_trimmed t
+separated t d x a e f g = ap (in_form d) g ∙ go x (sym f)
   where
-    go : (x : Bool) → holds 120 t ≡ x → in_form d (heard_squares (unsaid (is_cross (cond x 120 45))) (split_on (is (cond x 120 45)) t)) ≡ heard_trimmed t
+    go : (y : Bool) → holds 120 t ≡ y → in_form d (heard_squares (unsaid y) (split_on (is (cond y 120 45)) t)) ≡ heard_trimmed t
     go true = with_cross t d e
     go false = without_cross t d e

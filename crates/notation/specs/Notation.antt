@@ -13,10 +13,6 @@ use Rattle.squares.specs.declared.refusal.Refusal.{Refusal}
 unfoldable pub at_cut : ℕ → Bool
 at_cut b = is (code "-") b || is (code "x") b
 
--- the squares of a capture are separated by x
-abbrev pub is_cross : ℕ → Bool
-is_cross c = eqb c (code "x")
-
 abbrev pub malformed : Result Said Refusal
 malformed = Err (refusal 9)
 

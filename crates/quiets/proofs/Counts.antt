@@ -77,10 +77,10 @@ at_most n s e = omega (arith, size_most s)
 pub kings_at_most : (kings empty n : ℕ) → n ≡ length (king_quiets kings empty) → n ≤ 16384
 kings_at_most kings empty n e = omega (arith, kings_most kings empty)
 
-pub all_sum : (men kings empty : ℕ) (side : Color) (f x y a b k : ℕ) → f ≡ forward_of side → x ≡ shifted (direction_at f) men → y ≡ shifted (direction_at (f + 1)) men
+pub all_sum : (men kings empty : ℕ) (side : Color) (f g x y a b k : ℕ) → f ≡ forward_of side → g ≡ forward_of side + 1 → x ≡ shifted (direction_at f) men → y ≡ shifted (direction_at g) men
     → a ≡ size (bit_and x empty) → b ≡ size (bit_and y empty) → k ≡ length (king_quiets kings empty) → a + b + k ≡ length (all_quiets men kings empty side)
-all_sum men kings empty side f x y a b k ef ex ey ea eb ek =
+all_sum men kings empty side f g x y a b k ef eg ex ey ea eb ek =
     ap₂ (λ (u v : ℕ). u + v + k) (ea ∙ ap (λ (z : ℕ). size (bit_and z empty)) (ex ∙ ap (λ (d : ℕ). shifted (direction_at d) men) ef))
-    (eb ∙ ap (λ (z : ℕ). size (bit_and z empty)) (ey ∙ ap (λ (d : ℕ). shifted (direction_at (d + 1)) men) ef))
+    (eb ∙ ap (λ (z : ℕ). size (bit_and z empty)) (ey ∙ ap (λ (d : ℕ). shifted (direction_at d) men) eg))
     ∙ ap (λ (u : ℕ). size (bit_and (shifted (direction_at (forward_of side)) men) empty) + size (bit_and (shifted (direction_at (forward_of side + 1)) men) empty) + u) ek
     ∙ sym (all_count men kings empty side)

@@ -7,7 +7,7 @@
 //   makes a list.
 //
 // Most is computed for all pieces at once: their set is shifted by one step, and what falls on `empty` can step there.
-ghost use Rattle.std.specs.Prelude.{◌≡◌, ◌<◌, length};
+ghost use Rattle.std.specs.Prelude.{◌≡◌, ◌<◌, ◌+◌, ◌-◌, length};
 ghost use Rattle.captures.specs.Lists.{kept, list_of};
 ghost use Rattle.captures.specs.Rays.{ray_of, ray_left};
 ghost use Rattle.captures.specs.Walks.{up_to};
@@ -32,13 +32,14 @@ use squares::bitboard;
 use squares::bitboard::{Bitboard, Singles};
 use squares::piece::Color;
 
-// The index of the first of a man's two forward directions; the other has the next index. White goes up, Black down.
-fn forward(side: Color) -> usize
-    ensures { result ≡ forward_of side }
+// The two directions in which a man goes forward, to the left and to the right: White goes up, Black down.
+fn forward(side: Color) -> (usize, usize)
+    ensures left { result.0 ≡ forward_of side }
+    ensures right { result.1 ≡ forward_of side + 1 }
 {
     match side {
-        Color::White => 0,
-        Color::Black => 2,
+        Color::White => (0, 1),
+        Color::Black => (2, 3),
     }
 }
 
@@ -54,18 +55,25 @@ fn steps(set: Bitboard, empty: Bitboard, d: usize) -> bool
 pub fn has_quiet(s: Sets) -> bool
     ensures { result ≡ has_quiet_of s.men s.kings s.empty s.side }
 {
-    let first = forward(s.side);
-    let men = (first..first + 2).any(|d| steps(s.men, s.empty, d));
+    let (left, right) = forward(s.side);
+    let men = steps(s.men, s.empty, left) | steps(s.men, s.empty, right);
     men | (0..4).any(|d| steps(s.kings, s.empty, d))
 }
 
+// The direction opposite to `d`; up-left for a number above 3.
+fn opposite(d: usize) -> usize
+    ensures { result ≡ 3 - d }
+{
+    3usize.saturating_sub(d)
+}
+
 // Whether some man has an enemy next to it in direction `d`, with an empty square behind it. The test goes back from
-// the empty squares: the direction opposite to `d` has index 3 - d.
+// the empty squares.
 #[tactic(auto, unfolding(crate::specs::Tests::men_jump))]
 fn men_jump(s: Sets, d: usize) -> bool
     ensures { result ≡ men_jump s.men s.them s.empty d }
 {
-    let back = 3usize.saturating_sub(d);
+    let back = opposite(d);
     let over = bitboard::shift(s.empty, back) & s.them;
     bitboard::shift(over, back) & s.men != 0
 }
@@ -98,17 +106,16 @@ fn quiet_move(from: Bitboard, to: Bitboard) -> Move
 // The men's steps in direction `d`, by the bit reached.
 #[inline(always)]
 fn put_steps(list: &mut MoveList, s: Sets, d: usize) -> Option<()>
-    requires { d < 4 }
     ensures { kept list.new result ≡ put_all list.old (men_steps s.men s.empty d) }
 {
     for at in Singles(bitboard::shift(s.men, d) & s.empty) {
-        list.put(quiet_move(bitboard::shift(at, 3 - d), at))?;
+        list.put(quiet_move(bitboard::shift(at, opposite(d)), at))?;
     }
     Some(())
 }
 
 // A king on the square `at`, and the empty squares over which it flies. Its moves are put and counted by functions of
-// their own: no function can hand out the chain of its squares.
+// their own. One iterator over its squares in all directions would count the directions by hand.
 #[derive(Clone, Copy)]
 struct Flyer {
     at: Bitboard,
@@ -178,9 +185,9 @@ fn put_kings(list: &mut MoveList, s: Sets) -> Option<()>
 pub fn put_quiets(list: &mut MoveList, s: Sets) -> Option<()>
     ensures { kept list.new result ≡ put_all list.old (all_quiets s.men s.kings s.empty s.side) }
 {
-    let first = forward(s.side);
-    put_steps(list, s, first)?;
-    put_steps(list, s, first + 1)?;
+    let (left, right) = forward(s.side);
+    put_steps(list, s, left)?;
+    put_steps(list, s, right)?;
     put_kings(list, s)
 }
 
@@ -207,9 +214,9 @@ fn kings_count(s: Sets) -> u32
 pub fn quiet_count(s: Sets) -> u32
     ensures { result ≡ length (all_quiets s.men s.kings s.empty s.side) }
 {
-    let first = forward(s.side);
-    let a = bitboard::count(bitboard::shift(s.men, first) & s.empty);
-    let b = bitboard::count(bitboard::shift(s.men, first + 1) & s.empty);
+    let (left, right) = forward(s.side);
+    let a = bitboard::count(bitboard::shift(s.men, left) & s.empty);
+    let b = bitboard::count(bitboard::shift(s.men, right) & s.empty);
     let steps = a + b;
     steps + kings_count(s)
 }

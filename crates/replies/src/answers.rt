@@ -197,12 +197,12 @@ pub fn tell_list(out: &mut Space, l: Result<MoveList, Refusal>)
     tell(out, l, put_list);
 }
 
-// The moves of a list, each with its count.
+// The first moves, each with its count.
 #[tactic(auto, using(crate::proofs::Listing::counts_none))]
-fn put_counts(out: &mut Space, list: MoveList, counts: [u64; 256])
-    ensures { out.new ≡ over (counts_text list.moves counts (min list.len 256)) out.old }
+fn put_counts(out: &mut Space, d: Divided)
+    ensures { out.new ≡ over (counts_text d.list.moves d.counts (min d.list.len 256)) out.old }
 {
-    for (&m, &count) in list.entries().iter().zip(&counts) {
+    for (&m, &count) in d.list.entries().iter().zip(&d.counts) {
         out.put_byte(b' ');
         put_move(out, m);
         out.put_byte(b'=');
@@ -213,9 +213,8 @@ fn put_counts(out: &mut Space, list: MoveList, counts: [u64; 256])
 fn put_divided(out: &mut Space, d: Divided)
     ensures { out.new ≡ over (divided_word d) out.old }
 {
-    let list = d.list;
-    output::put_decimal(out, list.len as u64);
-    put_counts(out, list, d.counts);
+    output::put_decimal(out, d.list.len as u64);
+    put_counts(out, d);
 }
 
 pub fn tell_divided(out: &mut Space, d: Result<Divided, Refusal>)

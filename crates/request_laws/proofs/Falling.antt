@@ -50,9 +50,7 @@ use Rattle.wording.specs.Output.{decimal, number_word}
 use Rattle.texts.specs.Bytes.{cons_head, parts_at}
 use Rattle.replies.specs.Answers.{move_word, count_word}
 use Rattle.replies.specs.States.{winner_word, ending_word, judged_word, plies_text, state_text, stand_word, moves_word, end_text}
-use Rattle.requests.specs.Plays.{words_of, record_of, play_text_of, play_move, play_record_of, play_word_of, text_told, record_told, word_told, game_text}
-use Rattle.requests.specs.Given.{Given}
-use Rattle.requests.specs.Given as given
+use Rattle.requests.specs.Plays.{words_of, record_of, play_text_of, play_move, play_record_of, text_told, record_told, game_text}
 use Rattle.request_laws.proofs.Lengths.{decimal_most, decimal_two, fen_most, move_by}
 use Rattle.squares.specs.declared.piece.Color.{Color}
 use Rattle.std.specs.declared.option.Option.{Option}
@@ -221,6 +219,10 @@ pub record Word (g : Game) (told : List ℕ) (n : Game) : Type 0 where
   pub good : Good n
   pub cost : length told + 3 * pieces n ≤ 22 + 3 * pieces g
 
+-- the words that are played and told so: each costs at most 22 bytes, and three for each piece that it takes
+abbrev pub Costs : (Game → List ℕ → Result PlayedText Refusal) → (Result PlayedText Refusal → List ℕ) → Type 0
+Costs play tell = (g : Game) → Good g → (w : List ℕ) → Word g (tell (play g w)) (played_on g (play g w))
+
 -- the word plays a move, or it is refused
 data Case_of (g : Game) (a : Result PlayedText Refusal) : Type 0 where
   plays : (m : Move) → a ≡ beside m (play_of g m) → Case_of g a
@@ -289,9 +291,11 @@ module _ (g : Game) (r : Good g) where
         go (done n q v) = done-cost m n v a (p ∙ ap (beside m) q)
     by_case a (leaves e p) = refused-cost e a p
 
-  pub word_cost : (h : Given) (w : List ℕ) → Word g (word_told h (play_word_of h g w)) (played_on g (play_word_of h g w))
-  word_cost given.Text w = by_case text_told text_refused text_done (play_text_of g w) (text_case w)
-  word_cost given.Record w = by_case record_told record_refused record_done (play_record_of g w) (record_case w)
+  pub text_cost : (w : List ℕ) → Word g (text_told (play_text_of g w)) (played_on g (play_text_of g w))
+  text_cost w = by_case text_told text_refused text_done (play_text_of g w) (text_case w)
+
+  pub record_cost : (w : List ℕ) → Word g (record_told (play_record_of g w)) (played_on g (play_record_of g w))
+  record_cost w = by_case record_told record_refused record_done (play_record_of g w) (record_case w)
 
 -- ---- all words, then the end
 stand_most : (p : Result Position Refusal) → length (stand_word p) ≤ 196
@@ -319,14 +323,15 @@ end_most g =
       length_most l,
     )
 
-pub game_cost : (h : Given) (g : Game) → Good g → (ws : List (List ℕ)) → length (game_text h g ws) ≤ 22 * length ws + 3 * pieces g + 291
-unfolding game_text
-game_cost h g r [] = omega (arith, end_most g)
-game_cost h g r (w ∷ ws) =
-    let a = play_word_of h g w in
-    let v = word_cost g r h w in
-    let i = game_cost h (played_on g a) v.good ws in
-    omega (arith, length-append (word_told h a) (game_text h (played_on g a) ws), v.cost, i)
+module _ (play : Game → List ℕ → Result PlayedText Refusal) (tell : Result PlayedText Refusal → List ℕ) (cost : Costs play tell) where
+  pub game_cost : (g : Game) → Good g → (ws : List (List ℕ)) → length (game_text play tell g ws) ≤ 22 * length ws + 3 * pieces g + 291
+  unfolding game_text
+  game_cost g r [] = omega (arith, end_most g)
+  game_cost g r (w ∷ ws) =
+      let a = play g w in
+      let v = cost g r w in
+      let i = game_cost (played_on g a) v.good ws in
+      omega (arith, length-append (tell a) (game_text play tell (played_on g a) ws), v.cost, i)
 
 pub pieces_most : (g : Game) → pieces g ≤ 128
 unfolding pieces pieces_on

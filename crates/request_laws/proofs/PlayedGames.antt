@@ -24,7 +24,6 @@ use Rattle.wording.specs.Escapes.{undone}
 use Rattle.wording.specs.Output.{decimal}
 use Rattle.requests.specs.Plays.{record_of, play_text_of, play_record_of, text_told, record_told, game_text}
 use Rattle.replies.specs.States.{end_text}
-use Rattle.requests.specs.Given as given
 use Rattle.squares.specs.declared.refusal.Refusal.{Refusal}
 
 -- the words are the records of these moves
@@ -42,7 +41,7 @@ beside_same : (g : Game) (m : Move) (x : Result Game Refusal) → (answer_number
 beside_same g m (Ok h) = (refl, refl)
 beside_same g m (Err e) = (refl, refl)
 
-pub record_run : {ws : List (List ℕ)} {ms : List Move} (g : Game) → Records ws ms → game_text given.Record g ws ≡ numbers_text (answers_to play_of g ms) ++ end_text (game_after play_of g ms)
+pub record_run : {ws : List (List ℕ)} {ms : List Move} (g : Game) → Records ws ms → game_text play_record_of record_told g ws ≡ numbers_text (answers_to play_of g ms) ++ end_text (game_after play_of g ms)
 unfolding game_text answers_to game_after record_told play_record_of numbers_text
 record_run g none = refl
 record_run g (more {w} {ws} {m} {ms} e r) =
@@ -54,7 +53,7 @@ record_run g (more {w} {ws} {m} {ms} e r) =
 -- demand 3 holds of what a `record` with these words answers
 pub record RecordTold (p : Position) (ws : List (List ℕ)) (ms : List Move) : Type 0 where
   pub demand : Demand3 p ms (heard p ms)
-  pub told : game_text given.Record (game_of (new_of p)) ws ≡ numbers_text (heard p ms).answers ++ end_text (heard p ms).game
+  pub told : game_text play_record_of record_told (game_of (new_of p)) ws ≡ numbers_text (heard p ms).answers ++ end_text (heard p ms).game
 
 pub record_demand : {ws : List (List ℕ)} {ms : List Move} (p : Position) → sound p ≡ true → Records ws ms → RecordTold p ws ms
 unfolding heard_of
@@ -97,9 +96,9 @@ word_plays g w = text_plays g (undone w)
 pub record TextsTold (g : Game) (ws : List (List ℕ)) : Type 0 where
   pub played : List Move
   pub before : List ℕ
-  pub told : game_text given.Text g ws ≡ before ++ end_text (game_after play_of g played)
+  pub told : game_text play_text_of text_told g ws ≡ before ++ end_text (game_after play_of g played)
 
-told_more : (g : Game) (w : List ℕ) (ws : List (List ℕ)) (a : Result PlayedText Refusal) → Plays g a → (r : TextsTold (played_on g a) ws) → (ms : List Move) × (game_text given.Text (played_on g a) ws ≡ r.before ++ end_text (game_after play_of g ms))
+told_more : (g : Game) (w : List ℕ) (ws : List (List ℕ)) (a : Result PlayedText Refusal) → Plays g a → (r : TextsTold (played_on g a) ws) → (ms : List Move) × (game_text play_text_of text_told (played_on g a) ws ≡ r.before ++ end_text (game_after play_of g ms))
 unfolding game_after
 told_more g w ws a (moves m e) r = (m ∷ r.played, r.told ∙ ap (λ (x : Game). r.before ++ end_text (game_after play_of x r.played)) (ap (played_on g) e ∙ (beside_same g m (play_of g m)).1))
 told_more g w ws a (leaves e) r = (r.played, r.told ∙ ap (λ (x : Game). r.before ++ end_text (game_after play_of x r.played)) e)
@@ -122,7 +121,7 @@ pub record PlayTold (p : Position) (ws : List (List ℕ)) : Type 0 where
   pub played : List Move
   pub before : List ℕ
   pub demand : Demand3 p played (heard p played)
-  pub told : game_text given.Text (game_of (new_of p)) ws ≡ before ++ end_text (heard p played).game
+  pub told : game_text play_text_of text_told (game_of (new_of p)) ws ≡ before ++ end_text (heard p played).game
 
 pub play_demand : (p : Position) (ws : List (List ℕ)) → sound p ≡ true → PlayTold p ws
 unfolding heard_of

@@ -21,6 +21,8 @@ use Rattle.movegen.specs.Counts.{perft_of, divide_of}
 use Rattle.movegen.specs.Lists.{legal_moves_of, has_captures_of, has_quiet_moves_of, after_of}
 use Rattle.games.specs.Demand3.{game_of}
 use Rattle.games.specs.Play.{new_of, outcome_of}
+use Rattle.games.specs.declared.game.Game.{Game}
+use Rattle.gametexts.specs.declared.game.PlayedText.{PlayedText}
 use Rattle.texts.specs.Bytes.{is, index_of}
 use Rattle.texts.proofs.Cuts.{after_is}
 use Rattle.wording.specs.Numbers.{unsigned_of, set_of}
@@ -31,16 +33,14 @@ use Rattle.wording.specs.declared.output.Flaw.{Flaw}
 use Rattle.wording.specs.declared.output.Flaw.TheVariants as flaw
 use Rattle.replies.specs.Answers.{ok, fen_answer, hub_answer, hash_answer, set_word, bits_answer, placed_answer, scored_answer, tested_answer, counted_answer, move_word, record_word, move_answer, after_answer, list_answer, divided_answer, on_ok, fen_word, after_text, yes_no, count_word}
 use Rattle.requests.specs.Asked.{on_parsed, on_sided, on_weights, moves_request, atmost_request, parse_request, after_request, perft_request, divide_request, eval_request, weights_of, evalw_request, square_request, side_of, sets_answer, parts_request}
-use Rattle.requests.specs.Plays.{words_of, all_records, game_answer, play_request, record_request, outcome_request}
+use Rattle.requests.specs.Plays.{words_of, all_records, play_text_of, play_record_of, text_told, record_told, game_answer, play_request, record_request, outcome_request}
 use Rattle.requests.specs.Reading.{fen_in, hub_in, position_in, move_in, square_in}
 use Rattle.requests.specs.Requests.{whole_position, first_position, request_of, request_answer, named_answer, longest, answer_room, answer_of}
 use Rattle.replies.specs.States.{judged_word}
-use Rattle.requests.specs.Given.{Given}
-use Rattle.requests.specs.Given as given
 use Rattle.requests.specs.declared.requests.Request.{Request}
 use Rattle.requests.specs.declared.requests.Request.TheVariants as request
 use Rattle.request_laws.proofs.Lengths.{decimal_most, hex_most, hash_long, signed_most, refusal_most, bad_most, fen_most, hub_most, move_most, list_most, divided_most}
-use Rattle.request_laws.proofs.Falling.{new_good, judged_most, count_most, game_cost, pieces_most, words_most}
+use Rattle.request_laws.proofs.Falling.{Costs, new_good, judged_most, count_most, text_cost, record_cost, game_cost, pieces_most, words_most}
 use Rattle.std.specs.declared.option.Option.{Option}
 use Rattle.squares.specs.declared.refusal.Refusal.{Refusal}
 
@@ -193,17 +193,18 @@ unfolding parts_request
 parts_most arg = cond_most (eqb (blanks_in arg) 3) (sets_answer arg) flaw.Words 45380 (omega arith) (sets_most arg)
 
 -- ---- games, the only long answers
-game_most : (h : Given) (p : Position) (s : List ℕ) → length s ≤ longest → length (game_answer h p s) ≤ 1442469
-unfolding game_answer
-game_most h p s l = omega (arith, game_cost h (game_of (new_of p)) (new_good p) (words_of s), pieces_most (game_of (new_of p)), words_most s)
+module _ (play : Game → List ℕ → Result PlayedText Refusal) (tell : Result PlayedText Refusal → List ℕ) (cost : Costs play tell) where
+  game_most : (p : Position) (s : List ℕ) → length s ≤ longest → length (game_answer play tell p s) ≤ 1442469
+  unfolding game_answer
+  game_most p s l = omega (arith, game_cost play tell cost (game_of (new_of p)) (new_good p) (words_of s), pieces_most (game_of (new_of p)), words_most s)
 
 play_most : (x : Result Position Refusal) (s : List ℕ) → length s ≤ longest → length (play_request x s) ≤ 1442469
-play_most x s l = on_ok_lem x (λ q. game_answer given.Text q s) 1442469 (omega arith) (λ q. game_most given.Text q s l)
+play_most x s l = on_ok_lem x (λ q. game_answer play_text_of text_told q s) 1442469 (omega arith) (λ q. game_most play_text_of text_told text_cost q s l)
 
 record_most : (x : Result Position Refusal) (s : List ℕ) → length s ≤ longest → length (record_request x s) ≤ 1442469
 record_most x s l =
-    on_ok_lem x (λ q. cond (all_records (words_of s)) (game_answer given.Record q s) (bad flaw.Number)) 1442469 (omega arith)
-    (λ q. cond_most (all_records (words_of s)) (game_answer given.Record q s) flaw.Number 1442469 (omega arith) (game_most given.Record q s l))
+    on_ok_lem x (λ q. cond (all_records (words_of s)) (game_answer play_record_of record_told q s) (bad flaw.Number)) 1442469 (omega arith)
+    (λ q. cond_most (all_records (words_of s)) (game_answer play_record_of record_told q s) flaw.Number 1442469 (omega arith) (game_most play_record_of record_told record_cost q s l))
 
 -- ---- the line
 after_word_lem : (s : List ℕ) → length (after_word s) ≤ length s

@@ -14,21 +14,20 @@ use Rattle.games.specs.declared.game.Game.{Game}
 use Rattle.gametexts.specs.Texts.{play_str_of, played_on}
 use Rattle.gametexts.specs.declared.game.PlayedText.{PlayedText}
 use Rattle.wording.specs.Escapes.{undone}
-use Rattle.requests.specs.Plays.{is_record_of, all_records, play_text_of, play_word_of, word_told, game_text}
+use Rattle.requests.specs.Plays.{is_record_of, all_records, play_text_of, game_text}
 use Rattle.replies.specs.States.{end_text}
-use Rattle.requests.specs.Given.{Given}
 use Rattle.requests.proofs.Readings.{cut}
 use Rattle.squares.specs.declared.refusal.Refusal.{Refusal}
 
 -- ---- a word and the words after it
-module _ (left rest : List (List ℕ)) (word : List ℕ) (w : left ≡ word ∷ rest) where
-  pub game_next : (h : Given) (g : Game) (a : Result PlayedText Refusal) → a ≡ play_word_of h g word → word_told h a ++ game_text h (played_on g a) rest ≡ game_text h g left
+module _ (play : Game → List ℕ → Result PlayedText Refusal) (tell : Result PlayedText Refusal → List ℕ) where
+  pub game_next : (left rest : List (List ℕ)) (word : List ℕ) → left ≡ word ∷ rest → (g : Game) (a : Result PlayedText Refusal) → a ≡ play g word → tell a ++ game_text play tell (played_on g a) rest ≡ game_text play tell g left
   unfolding game_text
-  game_next h g a e = rw (w, e)
+  game_next left rest word w g a e = rw (w, e)
 
-pub game_end : (left : List (List ℕ)) (h : Given) (g : Game) → left ≡ [] → end_text g ≡ game_text h g left
-unfolding game_text
-game_end left h g e = rw e
+  pub game_end : (left : List (List ℕ)) (g : Game) → left ≡ [] → end_text g ≡ game_text play tell g left
+  unfolding game_text
+  game_end left g e = rw e
 
 -- ---- records
 pub records_all : (ws : List (List ℕ)) → list_all is_record_of ws ≡ all_records ws

@@ -1,29 +1,42 @@
--- The table of the requests, row by row: as the program reads it, it is the table of the definitions.
+-- The table of the requests: the lines of the help text name the requests (`found`); the rows of the code, looked up and
+-- printed.
 use Rattle.std.specs.Prelude.{None, Some, option_map}
 use Rattle.std.specs.declared.option.Option.{Option}
 use Rattle.std.proofs.Common.{Bor}
 use Rattle.std.specs.List.{zip, find}
-use Prim.Native.Nat.{ℕ}
-use mathlib.Core.Path.{◌≡◌, refl, ap, ◌∙◌}
-use mathlib.Core.List.{List, [], ◌∷◌, map}
+use Prim.Native.Nat.{ℕ, ◌+◌, ◌<◌, ◌≤◌}
+use mathlib.Core.Path.{◌≡◌, refl, ap, sym, ◌∙◌}
+use mathlib.Core.List.{List, [], ◌∷◌, ◌++◌, map}
 use mathlib.Core.Bool.{Bool, true, false, cond}
-use Rattle.wording.specs.Words.{same_text, first_word}
+use lib.ListN.{length, get_or, drop}
 use Rattle.std.proofs.iter.Yields.{fronts}
-use Rattle.std.proofs.lemmas.Iterator.{zips, YieldsList, YieldsList-from_zip, YieldsList-from_slice}
-use Rattle.std.proofs.lemmas.Iterator.Consumers.{YieldsList-from_first}
-use Rattle.std.specs.Iterator.{YieldsFirstBy}
-use Rattle.std.specs.Iterator.Adapters.{zip_first, zip_second}
-use Rattle.std.specs.Slice.Iter.{iter_rest}
-use Rattle.std.specs.declared.iter.Zip.{Zip}
+use Rattle.std.proofs.lemmas.Iterator.{YieldsList}
 use Rattle.std.specs.declared.slice.Iter.{Iter}
+use Rattle.std.proofs.lemmas.List.{at_drop_more, at_drop_all}
+use Rattle.wording.specs.Words.{same_text, first_word}
+use Rattle.texts.proofs.Overs.{over_moved, over_none}
 use Rattle.texts.specs.Bytes as bytes
 use Rattle.texts.specs.Bytes.{is, split_on, up_to}
-use Rattle.texts.specs.Split.{parts_left}
-use Rattle.texts.specs.declared.split.Split.{Split}
+use Rattle.texts.specs.Lent.{over}
+use Rattle.texts.specs.declared.space.Space.{Space}
 use Rattle.requests.specs.Requests.{Row, requests, help_text, request_of}
 use Rattle.requests.specs.declared.requests.Request.{Request}
 
--- what the rows ask, each beside its line
+-- ---- what the first row that passes asks
+module _ {A : Type 0} (test : A → Bool) (asks : A → Request) where
+  abbrev pub first_asked : List A → Option Request
+  first_asked [] = None
+  first_asked (r ∷ rs) = cond (test r) (Some (asks r)) (first_asked rs)
+
+  pub finds : (rs : List A) → option_map asks (find test rs) ≡ first_asked rs
+  finds [] = refl
+  finds (r ∷ rs) = go (finds rs) (test r)
+    where
+      go : option_map asks (find test rs) ≡ first_asked rs → (b : Bool) → option_map asks (cond b (Some r) (find test rs)) ≡ cond b (Some (asks r)) (first_asked rs)
+      go h true = refl
+      go h false = h
+
+-- ---- the lines of the help text, each beside what it asks
 unfoldable pub rows : List (Request × List ℕ)
 rows = zip (map (λ (r : Row). r.asks) requests) (split_on (is 10) help_text)
 
@@ -31,35 +44,40 @@ rows = zip (map (λ (r : Row). r.asks) requests) (split_on (is 10) help_text)
 abbrev pub has_name : List ℕ → Request × List ℕ → Bool
 has_name name row = same_text name (first_word row.1)
 
--- what the first row with this name asks
-asked : List ℕ → List (Request × List ℕ) → Option Request
-asked name [] = None
-asked name (r ∷ rs) = cond (has_name name r) (Some r.0) (asked name rs)
+pub found : (name : List ℕ) → option_map (λ r. r.0) (find (has_name name) rows) ≡ request_of name
+unfolding request_of rows help_text first_word up_to bytes.split_on bytes.cons_head is same_text
+found name = finds (has_name name) (λ r. r.0) rows
 
-first_asked : (name : List ℕ) (rs : List (Request × List ℕ)) → option_map (λ r. r.0) (find (has_name name) rs) ≡ asked name rs
-unfolding asked
-first_asked name [] = refl
-first_asked name (r ∷ rs) = go (first_asked name rs) (has_name name r)
+-- ---- the rows of the code: the name, the arguments and what is asked
+abbrev pub CodeRow : Type 0
+CodeRow = Bor (List ℕ) × Bor (List ℕ) × Request
+
+abbrev pub is_named : List ℕ → CodeRow → Bool
+is_named name row = same_text name row.0.now
+
+-- i goes over the rows, o is the row that is found, and r what it asks
+pub found_asks : (name : List ℕ) {i : Iter CodeRow} {rs : List CodeRow} (o : Option (Bor CodeRow)) {r : Option Request}
+    → YieldsList fronts (λ x. x.now) i rs → option_map (λ x. x.now) o ≡ find (is_named name) rs → r ≡ option_map (λ x. x.now.2) o
+    → r ≡ first_asked (is_named name) (λ x. x.2) rs
+found_asks name {rs = rs} o y e q = q ∙ go o ∙ ap (option_map (λ (x : CodeRow). x.2)) e ∙ finds (is_named name) (λ x. x.2) rs
   where
-    go : option_map (λ r. r.0) (find (has_name name) rs) ≡ asked name rs → (b : Bool) → option_map (λ r. r.0) (cond b (Some r) (find (has_name name) rs)) ≡ cond b (Some r.0) (asked name rs)
-    go h true = refl
-    go h false = h
-
-found : (name : List ℕ) → option_map (λ r. r.0) (find (has_name name) rows) ≡ request_of name
-unfolding asked request_of rows help_text first_word up_to bytes.split_on bytes.cons_head is same_text
-found name = first_asked name rows
-
--- o is the row that is found, and r what it asks
-pub found_asks : (name : List ℕ) (o : Option (Bor Request × Bor (List ℕ))) {r : Option Request} → option_map (λ x. (x.0.now, x.1.now)) o ≡ find (has_name name) rows → r ≡ option_map (λ x. x.0.now) o
-    → r ≡ request_of name
-found_asks name o e q = q ∙ go o ∙ ap (option_map (λ (r : Request × List ℕ). r.0)) e ∙ found name
-  where
-    go : (o : Option (Bor Request × Bor (List ℕ))) → option_map (λ x. x.0.now) o ≡ option_map (λ (r : Request × List ℕ). r.0) (option_map (λ x. (x.0.now, x.1.now)) o)
+    go : (o : Option (Bor CodeRow)) → option_map (λ x. x.now.2) o ≡ option_map (λ (x : CodeRow). x.2) (option_map (λ x. x.now) o)
     go None = refl
     go (Some x) = refl
 
--- the code goes over them
-pub goes_over : {i : Zip (Iter Request) Split} → iter_rest (zip_first i) ≡ map (λ (r : Row). r.asks) requests → parts_left (zip_second i) ≡ split_on (is 10) help_text
-    → YieldsList {B = Request × List ℕ} (zips fronts (YieldsFirstBy (λ (part : Bor (List ℕ)). part.now) parts_left)) (λ x. (x.0.now, x.1.now)) i rows
-unfolding rows
-goes_over a b = YieldsList-from_zip (YieldsList-from_slice _ a) (YieldsList-from_first (λ part. part.now) parts_left _ b)
+-- the rows as the help prints them
+abbrev pub lines_of : List CodeRow → List ℕ
+lines_of [] = []
+lines_of (r ∷ rs) = r.0.now ++ (32 ∷ (r.1.now ++ (10 ∷ lines_of rs)))
+
+-- the row of index i is put: w is the space after the lines of all rows
+pub row_next : (rs : List CodeRow) (i : ℕ) (r : CodeRow) (w a b c d e : Space) → i < length rs → over (lines_of (drop i rs)) a ≡ w
+    → b ≡ over (get_or rs i r).0.now a → c ≡ over (32 ∷ []) b → d ≡ over (get_or rs i r).1.now c → e ≡ over (10 ∷ []) d → over (lines_of (drop (i + 1) rs)) e ≡ w
+row_next rs i r w a b c d e l h p q s t =
+    let row = get_or rs i r in
+    let all : over (lines_of (row ∷ drop (i + 1) rs)) a ≡ w = sym (at_drop_more (λ (rs : List CodeRow). over (lines_of rs) a) rs i r l) ∙ h in
+    over_moved (10 ∷ []) _ w d e (over_moved row.1.now _ w c d (over_moved (32 ∷ []) _ w b c (over_moved row.0.now _ w a b all p) q) s) t
+
+-- no row is left
+pub row_last : (rs : List CodeRow) (i : ℕ) (w a : Space) → length rs ≤ i → over (lines_of (drop i rs)) a ≡ w → a ≡ w
+row_last rs i w a l h = sym (over_none a) ∙ sym (at_drop_all (λ (rs : List CodeRow). over (lines_of rs) a) rs i l) ∙ h

@@ -1,4 +1,3 @@
-pub mod Given
 pub mod Reading
 pub mod Asked
 pub mod Plays

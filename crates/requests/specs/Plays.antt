@@ -16,8 +16,6 @@ use Rattle.wording.specs.Escapes.{undone}
 use Rattle.wording.specs.declared.output.Flaw.TheVariants as flaw
 use Rattle.replies.specs.Answers.{ok, on_ok, move_word}
 use Rattle.replies.specs.States.{judged_word, state_text, end_text}
-use Rattle.requests.specs.Given.{Given}
-use Rattle.requests.specs.Given as given
 use Rattle.positions.specs.declared.moves.Move.{Move}
 use Rattle.std.specs.declared.option.Option.{Option}
 use Rattle.squares.specs.declared.refusal.Refusal.{Refusal}
@@ -58,10 +56,6 @@ play_move g None = Err (refusal 9)
 unfoldable pub play_record_of : Game → List ℕ → Result PlayedText Refusal
 play_record_of g w = play_move g (record_of w)
 
-abbrev pub play_word_of : Given → Game → List ℕ → Result PlayedText Refusal
-play_word_of given.Text g w = play_text_of g w
-play_word_of given.Record g w = play_record_of g w
-
 -- ---- what is written of it
 
 -- of a text: the move and the game after it, or the refusal
@@ -76,26 +70,27 @@ text_told r = code " " ∷ text_answer r
 unfoldable pub record_told : Result PlayedText Refusal → List ℕ
 record_told r = code " " ∷ decimal (answer_number_of r)
 
-abbrev pub word_told : Given → Result PlayedText Refusal → List ℕ
-word_told given.Text r = text_told r
-word_told given.Record r = record_told r
+-- ---- the words played, by how a word is played and what is written of it
 
 -- each play gets the game that the plays before it led to
-unfoldable pub game_text : Given → Game → List (List ℕ) → List ℕ
-game_text h g [] = end_text g
-game_text h g (w ∷ ws) = let r = play_word_of h g w in word_told h r ++ game_text h (played_on g r) ws
+unfoldable pub game_text : (Game → List ℕ → Result PlayedText Refusal) → (Result PlayedText Refusal → List ℕ) → Game → List (List ℕ) → List ℕ
+game_text play tell g [] = end_text g
+game_text play tell g (w ∷ ws) = let r = play g w in tell r ++ game_text play tell (played_on g r) ws
 
 -- the words played on a new game
-unfoldable pub game_answer : Given → Position → List ℕ → List ℕ
-game_answer h p s = bytes "ok" ++ game_text h (game_of (new_of p)) (words_of s)
+unfoldable pub game_answer : (Game → List ℕ → Result PlayedText Refusal) → (Result PlayedText Refusal → List ℕ) → Position → List ℕ → List ℕ
+game_answer play tell p s = bytes "ok" ++ game_text play tell (game_of (new_of p)) (words_of s)
 
 -- ---- the requests
+abbrev pub game_request : (Game → List ℕ → Result PlayedText Refusal) → (Result PlayedText Refusal → List ℕ) → Result Position Refusal → List ℕ → List ℕ
+game_request play tell p s = on_ok p (λ q. game_answer play tell q s)
+
 abbrev pub play_request : Result Position Refusal → List ℕ → List ℕ
-play_request p texts = on_ok p (λ q. game_answer given.Text q texts)
+play_request p texts = game_request play_text_of text_told p texts
 
 -- every record must be readable before one is played
 abbrev pub record_request : Result Position Refusal → List ℕ → List ℕ
-record_request p records = on_ok p (λ q. cond (all_records (words_of records)) (game_answer given.Record q records) (bad flaw.Number))
+record_request p records = on_ok p (λ q. cond (all_records (words_of records)) (game_answer play_record_of record_told q records) (bad flaw.Number))
 
 -- the outcome of a new game
 abbrev pub outcome_request : Result Position Refusal → List ℕ

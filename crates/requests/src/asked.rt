@@ -1,5 +1,5 @@
-// The requests about a position, one function each. Those that only tell what was read of their text have none here:
-// see `answer_request`.
+// The requests about a position that are more than one call of `answers`. `Question` has those that get a position and
+// the rest of the line.
 //
 // The position that a request is about comes as what was read of its text. If that is a refusal, it is the answer.
 ghost use Rattle.std.specs.Prelude.{◌≡◌};
@@ -9,6 +9,7 @@ ghost use Rattle.wording.specs.Words.{first_word, after_word};
 ghost use Rattle.wording.specs.declared.output.Flaw.TheVariants as flaw;
 ghost use Rattle.replies.specs.Answers.{on_ok, placed_answer};
 ghost use Rattle.requests.specs.Reading.{position_in};
+ghost use Rattle.requests.specs.Requests.{first_position};
 ghost use Rattle.requests.specs.Asked.{on_read, SaysRead, side_of, parts_request, moves_request, atmost_request, parse_request, after_request, perft_request, divide_request, eval_request, weights_of, evalw_request, flip_request, caps_request, quiet_request};
 
 use crate::reading;
@@ -56,49 +57,81 @@ pub(crate) fn atmost(arg: &[u8], out: &mut Space)
     });
 }
 
-pub(crate) fn parse(p: Result<Position, Refusal>, text: &[u8], out: &mut Space)
-    ensures { out.new ≡ over (parse_request p text.now) out.old }
-{
-    answers::tell_move(out, p.and_then(|q| reading::listed_move(q, text)));
+// A question about a position: what was read of the first word, and what comes after that word.
+#[derive(Clone, Copy)]
+pub(crate) struct Question<'a> {
+    pub(crate) position: Result<Position, Refusal>,
+    pub(crate) rest: &'a [u8],
 }
 
-pub(crate) fn after(p: Result<Position, Refusal>, text: &[u8], out: &mut Space)
-    ensures { out.new ≡ over (after_request p text.now) out.old }
-{
-    answers::tell_after(
-        out,
-        p.and_then(|q| movegen::movegen::after(q, reading::listed_move(q, text)?)),
-    );
-}
-
-// A number cannot be read. The refusal of the position comes first. This is no `answers::tell`, which writes `ok`.
-pub(crate) fn no_number(p: Result<Position, Refusal>, out: &mut Space)
-    ensures { out.new ≡ over (on_ok p (λ _. bad flaw.Number)) out.old }
-{
-    match p {
-        Ok(_) => output::put_bad(out, Flaw::Number),
-        Err(e) => output::put_refusal(out, e),
+impl<'a> Question<'a> {
+    #[tactic(auto, unfolding(crate::specs::Requests::first_position))]
+    pub(crate) fn read(arg: &'a [u8]) -> Question<'a>
+        ensures position { result.position ≡ first_position arg.now }
+        ensures rest { result.rest.now ≡ after_word arg.now }
+    {
+        Question {
+            position: reading::position(words::first(arg)),
+            rest: words::rest(arg),
+        }
     }
-}
 
-// The guard is all that `perft` and `divide` share. A function for it would take the rest as a closure, and be longer
-// than the two guards.
-pub(crate) fn perft(p: Result<Position, Refusal>, depth: &[u8], out: &mut Space)
-    ensures { out.new ≡ over (perft_request p depth.now) out.old }
-{
-    let Some(n) = numbers::unsigned(depth) else {
-        return no_number(p, out);
-    };
-    answers::tell_counted(out, p.and_then(|q| movegen::perft::perft(q, n)));
-}
+    // The rest is a move's text.
+    pub(crate) fn parse(self, out: &mut Space)
+        ensures { out.new ≡ over (parse_request self.entry.position self.entry.rest.now) out.old }
+    {
+        answers::tell_move(
+            out,
+            self.position
+                .and_then(|q| reading::listed_move(q, self.rest)),
+        );
+    }
 
-pub(crate) fn divide(p: Result<Position, Refusal>, depth: &[u8], out: &mut Space)
-    ensures { out.new ≡ over (divide_request p depth.now) out.old }
-{
-    let Some(n) = numbers::unsigned(depth) else {
-        return no_number(p, out);
-    };
-    answers::tell_divided(out, p.and_then(|q| movegen::perft::divide(q, n)));
+    pub(crate) fn after(self, out: &mut Space)
+        ensures { out.new ≡ over (after_request self.entry.position self.entry.rest.now) out.old }
+    {
+        answers::tell_after(
+            out,
+            self.position.and_then(|q| movegen::movegen::after(
+                q,
+                reading::listed_move(q, self.rest)?,
+            )),
+        );
+    }
+
+    // A number of the rest cannot be read. The refusal of the position comes first. This is no `answers::tell`, which
+    // writes `ok`.
+    pub(crate) fn no_number(self, out: &mut Space)
+        ensures { out.new ≡ over (on_ok self.entry.position (λ _. bad flaw.Number)) out.old }
+    {
+        match self.position {
+            Ok(_) => output::put_bad(out, Flaw::Number),
+            Err(e) => output::put_refusal(out, e),
+        }
+    }
+
+    // The rest is a depth. The guard is all that `perft` and `divide` share. A function for it would take what follows
+    // as a closure, and be longer than the two guards.
+    pub(crate) fn perft(self, out: &mut Space)
+        ensures { out.new ≡ over (perft_request self.entry.position self.entry.rest.now) out.old }
+    {
+        let Some(n) = numbers::unsigned(self.rest) else {
+            return self.no_number(out);
+        };
+        answers::tell_counted(out, self.position.and_then(|q| movegen::perft::perft(q, n)));
+    }
+
+    pub(crate) fn divide(self, out: &mut Space)
+        ensures { out.new ≡ over (divide_request self.entry.position self.entry.rest.now) out.old }
+    {
+        let Some(n) = numbers::unsigned(self.rest) else {
+            return self.no_number(out);
+        };
+        answers::tell_divided(
+            out,
+            self.position.and_then(|q| movegen::perft::divide(q, n)),
+        );
+    }
 }
 
 // The score with these weights.
@@ -131,7 +164,7 @@ fn read_weights(arg: &[u8]) -> Option<Classical>
 fn read_evalw(arg: &[u8]) -> Result<Classical, Flaw>
     ensures { on_read result (λ w. eval_request (position_in (first_word arg.now)) w) ≡ evalw_request arg.now }
 {
-    Flaw::Words.unless(words::blanks(arg) == 5)?;
+    (words::blanks(arg) == 5).then_some(()).ok_or(Flaw::Words)?;
     read_weights(arg).ok_or(Flaw::Number)
 }
 
@@ -177,7 +210,7 @@ fn side(word: &[u8]) -> Result<Color, Refusal>
 fn read_parts(arg: &[u8]) -> Result<Result<Position, Refusal>, Flaw>
     ensures { on_read result placed_answer ≡ parts_request arg.now }
 {
-    Flaw::Words.unless(words::blanks(arg) == 3)?;
+    (words::blanks(arg) == 3).then_some(()).ok_or(Flaw::Words)?;
     let white = numbers::set(words::word(arg, 0)).ok_or(Flaw::Number)?;
     let black = numbers::set(words::word(arg, 1)).ok_or(Flaw::Number)?;
     let kings = numbers::set(words::word(arg, 2)).ok_or(Flaw::Number)?;

@@ -4,17 +4,18 @@
 // the numbers of a move's first and last square and its set in hexadecimal. `play` writes
 // ` HUB/OUTCOME/COUNT1/COUNT2/TIMES` for each text, or ` !N` where it is refused; `record` writes ` N` for each record,
 // 0 where it is accepted. Both end with ` | FEN OUTCOME COUNT1 COUNT2 TIMES MOVES`.
-ghost use Rattle.std.specs.Prelude.{◌≡◌};
+ghost use Rattle.std.specs.Prelude.{◌≡◌, ℕ, List, Result};
+ghost use Rattle.squares.specs.declared.refusal.Refusal.{Refusal};
+ghost use Rattle.games.specs.declared.game.Game.{Game};
+ghost use Rattle.gametexts.specs.declared.game.PlayedText.{PlayedText};
 ghost use Rattle.texts.specs.Lent.{over};
 ghost use Rattle.gametexts.specs.Texts.{played_on};
 ghost use Rattle.games.specs.Play.{new_of};
 ghost use Rattle.games.specs.Demand3.{game_of};
-ghost use Rattle.replies.specs.Answers.{on_ok};
-ghost use Rattle.requests.specs.Given as given;
-ghost use Rattle.requests.specs.Given.{Given};
-ghost use Rattle.requests.specs.Plays.{record_of, is_record_of, all_records, words_of, play_word_of, word_told, game_text, game_answer, play_request, record_request, outcome_request};
+ghost use Rattle.requests.specs.Plays.{record_of, is_record_of, all_records, words_of, play_text_of, text_told, play_record_of, record_told, game_text, game_request, play_request, record_request, outcome_request};
 
-use crate::{asked, reading};
+use crate::asked::Question;
+use crate::reading;
 use games::game::Game;
 use gametexts::game::PlayedText;
 use positions::moves::Move;
@@ -29,13 +30,15 @@ use wording::{numbers, output};
 
 // How the plays of a game are given: how a word is played, and what is written of it.
 trait PlayForm {
-    ghost given: { Given };
+    ghost played: { Game → List ℕ → Result PlayedText Refusal };
+
+    ghost told: { Result PlayedText Refusal → List ℕ };
 
     fn play(g: Game, word: &[u8]) -> Result<PlayedText, Refusal>
-        ensures { result ≡ play_word_of given g word.now };
+        ensures { result ≡ played g word.now };
 
     fn tell(out: &mut Space, r: Result<PlayedText, Refusal>)
-        ensures { out.new ≡ over (word_told given r) out.old };
+        ensures { out.new ≡ over (told r) out.old };
 }
 
 // The numbers may be any of 32 bits: which of them are squares is the game's to say.
@@ -63,11 +66,14 @@ fn all_records(s: &[u8]) -> bool
     Words(s).all(is_record)
 }
 
-// The plays are move texts.
-struct Texts;
+// The plays are move texts. The type is not private, since the proof of `Question::play`, which names it, stands with
+// `Question`.
+pub(crate) struct Texts;
 
 impl PlayForm for Texts {
-    ghost given = { given.Text };
+    ghost played = { play_text_of };
+
+    ghost told = { text_told };
 
     fn play(g: Game, word: &[u8]) -> Result<PlayedText, Refusal> {
         reading::unescaped(word, |text| gametexts::game::play_str(g, text))
@@ -87,11 +93,13 @@ impl PlayForm for Texts {
     }
 }
 
-// The plays are records.
-struct Records;
+// The plays are records. The type is not private, as `Texts`.
+pub(crate) struct Records;
 
 impl PlayForm for Records {
-    ghost given = { given.Record };
+    ghost played = { play_record_of };
+
+    ghost told = { record_told };
 
     // A word that is no record is not played. `record` answers a line with such a word before it plays any.
     #[tactic(auto, unfolding(crate::specs::Plays::play_record_of))]
@@ -119,7 +127,7 @@ fn played_on(g: Game, r: Result<PlayedText, Refusal>) -> Game
 // Plays the words in order; each play gets the game that the plays before it led to.
 #[tactic(auto, using(crate::proofs::PlayLaws::game_end))]
 fn play_words<F: PlayForm>(start: Game, s: &[u8], out: &mut Space)
-    ensures { out.new ≡ over (game_text F.given start (words_of s.now)) out.old }
+    ensures { out.new ≡ over (game_text F.played F.told start (words_of s.now)) out.old }
 {
     let mut g = start;
     for word in Words(s) {
@@ -137,35 +145,37 @@ fn new_game(p: Position) -> Game
     Game::from_position(p).unwrap_or(Game::empty())
 }
 
-// Begins a game and plays the words. This is no `answers::tell`: that writes `ok` and a space, but here each play
-// writes the space before its own answer.
-#[tactic(auto, using(texts::proofs::Overs::over_append), unfolding(texts::specs::Lent::over, crate::specs::Plays::game_answer))]
-fn play_game<F: PlayForm>(p: Result<Position, Refusal>, s: &[u8], out: &mut Space)
-    ensures { out.new ≡ over (on_ok p (λ q. game_answer F.given q s.now)) out.old }
-{
-    match p {
-        Ok(q) => {
-            out.put(b"ok");
-            play_words::<F>(new_game(q), s, out);
+impl<'a> Question<'a> {
+    // Begins a game and plays the words. This is no `answers::tell`: that writes `ok` and a space, but here each play
+    // writes the space before its own answer.
+    #[tactic(auto, using(texts::proofs::Overs::over_append), unfolding(texts::specs::Lent::over, crate::specs::Plays::game_answer))]
+    fn play_game<F: PlayForm>(self, out: &mut Space)
+        ensures { out.new ≡ over (game_request F.played F.told self.entry.position self.entry.rest.now) out.old }
+    {
+        match self.position {
+            Ok(q) => {
+                out.put(b"ok");
+                play_words::<F>(new_game(q), self.rest, out);
+            }
+            Err(e) => output::put_refusal(out, e),
         }
-        Err(e) => output::put_refusal(out, e),
     }
-}
 
-pub(crate) fn play(p: Result<Position, Refusal>, texts: &[u8], out: &mut Space)
-    ensures { out.new ≡ over (play_request p texts.now) out.old }
-{
-    play_game::<Texts>(p, texts, out);
-}
+    pub(crate) fn play(self, out: &mut Space)
+        ensures { out.new ≡ over (play_request self.entry.position self.entry.rest.now) out.old }
+    {
+        self.play_game::<Texts>(out);
+    }
 
-// Every record must be readable before one is played.
-pub(crate) fn record(p: Result<Position, Refusal>, records: &[u8], out: &mut Space)
-    ensures { out.new ≡ over (record_request p records.now) out.old }
-{
-    if all_records(records) {
-        play_game::<Records>(p, records, out);
-    } else {
-        asked::no_number(p, out);
+    // Every record must be readable before one is played.
+    pub(crate) fn record(self, out: &mut Space)
+        ensures { out.new ≡ over (record_request self.entry.position self.entry.rest.now) out.old }
+    {
+        if all_records(self.rest) {
+            self.play_game::<Records>(out);
+        } else {
+            self.no_number(out);
+        }
     }
 }
 

@@ -3,8 +3,9 @@ ghost use Rattle.std.specs.Prelude.{◌≡◌, min, length};
 ghost use Rattle.texts.specs.Lent.{over, written, Adds};
 ghost use Rattle.wording.specs.Words.{after_word};
 ghost use Rattle.requests.specs.Asked.{on_read};
-ghost use Rattle.requests.specs.Requests.{help_text, request_of, whole_position, first_position, request_answer, answer_of};
+ghost use Rattle.requests.specs.Requests.{help_text, request_of, whole_position, request_answer, answer_of};
 
+use crate::asked::Question;
 use crate::{asked, plays, reading};
 use captures::moves::MAX_MOVES;
 use positions::position::Position;
@@ -12,40 +13,14 @@ use replies::answers;
 use scores::eval::Classical;
 use squares::refusal::Refusal;
 use texts::space::Space;
-use texts::split::Split;
 use wording::output::Flaw;
 use wording::{escapes, words};
 
 // The longest line that is looked at.
 pub const LONGEST: usize = 65536;
 
-// The requests with their arguments, one a line: what `dame --help` prints. FEN is a position: one word, or the rest of
-// the line where nothing follows it. TEXT is the rest of the line, or one word where `..` follows it.
-const TABLE: [u8; 328] = *b"fen TEXT\n\
-hub TEXT\n\
-fen2hub TEXT\n\
-hub2fen TEXT\n\
-square TEXT\n\
-parts WHITE BLACK KINGS SIDE\n\
-bits FEN\n\
-moves FEN\n\
-atmost LIMIT FEN\n\
-parse FEN TEXT\n\
-after FEN TEXT\n\
-perft FEN DEPTH\n\
-divide FEN DEPTH\n\
-eval FEN\n\
-evalw FEN MAN KING ADVANCE CENTER GUARD\n\
-hash FEN\n\
-flip FEN\n\
-caps FEN\n\
-quiet FEN\n\
-play FEN TEXT ..\n\
-outcome FEN\n\
-record FEN FIRST,LAST,SET ..\n";
-
 // What a line may ask for.
-#[derive(Clone, Copy)]
+#[derive(Clone, Copy, Debug, PartialEq, Eq)]
 pub enum Request {
     Fen,
     Hub,
@@ -71,58 +46,53 @@ pub enum Request {
     Record,
 }
 
-// The requests in the order of the table. A name is looked up in the table's bytes, since these are what `--help`
-// prints; the law `found` says that the two agree.
-const REQUESTS: [Request; 22] = [
-    Request::Fen,
-    Request::Hub,
-    Request::Fen2hub,
-    Request::Hub2fen,
-    Request::Square,
-    Request::Parts,
-    Request::Bits,
-    Request::Moves,
-    Request::Atmost,
-    Request::Parse,
-    Request::After,
-    Request::Perft,
-    Request::Divide,
-    Request::Eval,
-    Request::Evalw,
-    Request::Hash,
-    Request::Flip,
-    Request::Caps,
-    Request::Quiet,
-    Request::Play,
-    Request::Outcome,
-    Request::Record,
+// A name, the arguments as `dame --help` prints them, and what is asked. FEN is a position: one word, or the rest of
+// the line where nothing follows it. TEXT is the rest of the line, or one word where `..` follows it.
+static REQUESTS: [(&[u8], &[u8], Request); 22] = [
+    (b"fen", b"TEXT", Request::Fen),
+    (b"hub", b"TEXT", Request::Hub),
+    (b"fen2hub", b"TEXT", Request::Fen2hub),
+    (b"hub2fen", b"TEXT", Request::Hub2fen),
+    (b"square", b"TEXT", Request::Square),
+    (b"parts", b"WHITE BLACK KINGS SIDE", Request::Parts),
+    (b"bits", b"FEN", Request::Bits),
+    (b"moves", b"FEN", Request::Moves),
+    (b"atmost", b"LIMIT FEN", Request::Atmost),
+    (b"parse", b"FEN TEXT", Request::Parse),
+    (b"after", b"FEN TEXT", Request::After),
+    (b"perft", b"FEN DEPTH", Request::Perft),
+    (b"divide", b"FEN DEPTH", Request::Divide),
+    (b"eval", b"FEN", Request::Eval),
+    (
+        b"evalw",
+        b"FEN MAN KING ADVANCE CENTER GUARD",
+        Request::Evalw,
+    ),
+    (b"hash", b"FEN", Request::Hash),
+    (b"flip", b"FEN", Request::Flip),
+    (b"caps", b"FEN", Request::Caps),
+    (b"quiet", b"FEN", Request::Quiet),
+    (b"play", b"FEN TEXT ..", Request::Play),
+    (b"outcome", b"FEN", Request::Outcome),
+    (b"record", b"FEN FIRST,LAST,SET ..", Request::Record),
 ];
 
-// The request with this name: the rows of the table beside what they ask for.
+// The request whose row in the table has this name.
 fn request_of(name: &[u8]) -> Option<Request>
     ensures { result ≡ request_of name.now }
 {
-    let table = TABLE;
     REQUESTS
         .iter()
-        .zip(Split::new(&table, b'\n'))
-        .find(|(_, row)| words::same(name, words::first(row)))
-        .map(|(request, _)| *request)
+        .find(|(known, _, _)| words::same(name, known))
+        .map(|(_, _, asks)| *asks)
 }
 
-// The position that the whole argument means, or its first word alone.
+// The position that the whole argument means.
 #[tactic(auto, unfolding(crate::specs::Requests::whole_position))]
 fn whole(arg: &[u8]) -> Result<Position, Refusal>
     ensures { result ≡ whole_position arg.now }
 {
     reading::position(arg)
-}
-
-#[tactic(auto, unfolding(crate::specs::Requests::first_position))]
-fn first(arg: &[u8]) -> Result<Position, Refusal>
-    ensures { result ≡ first_position arg.now }
-{
-    reading::position(words::first(arg))
 }
 
 fn answer_request(request: Request, arg: &[u8], out: &mut Space)
@@ -138,19 +108,19 @@ fn answer_request(request: Request, arg: &[u8], out: &mut Space)
         Request::Bits => answers::tell_bits(out, whole(arg)),
         Request::Moves => asked::moves(whole(arg), MAX_MOVES, out),
         Request::Atmost => asked::atmost(arg, out),
-        Request::Parse => asked::parse(first(arg), words::rest(arg), out),
-        Request::After => asked::after(first(arg), words::rest(arg), out),
-        Request::Perft => asked::perft(first(arg), words::rest(arg), out),
-        Request::Divide => asked::divide(first(arg), words::rest(arg), out),
-        Request::Eval => asked::eval(whole(arg), Classical::new(), out),
+        Request::Parse => Question::read(arg).parse(out),
+        Request::After => Question::read(arg).after(out),
+        Request::Perft => Question::read(arg).perft(out),
+        Request::Divide => Question::read(arg).divide(out),
+        Request::Eval => asked::eval(whole(arg), Classical::default(), out),
         Request::Evalw => asked::evalw(arg, out),
         Request::Hash => answers::tell_hash(out, whole(arg)),
         Request::Flip => asked::flip(whole(arg), out),
         Request::Caps => asked::caps(whole(arg), out),
         Request::Quiet => asked::quiet(whole(arg), out),
-        Request::Play => plays::play(first(arg), words::rest(arg), out),
+        Request::Play => Question::read(arg).play(out),
         Request::Outcome => plays::outcome(whole(arg), out),
-        Request::Record => plays::record(first(arg), words::rest(arg), out),
+        Request::Record => Question::read(arg).record(out),
     }
 }
 
@@ -159,8 +129,8 @@ fn answer_request(request: Request, arg: &[u8], out: &mut Space)
 fn read_request(line: &[u8]) -> Result<Request, Flaw>
     ensures { on_read result (λ r. request_answer r (after_word line.now)) ≡ answer_of line.now }
 {
-    Flaw::Length.unless(line.len() <= LONGEST)?;
-    Flaw::Escape.unless(escapes::is_plain(line))?;
+    (line.len() <= LONGEST).then_some(()).ok_or(Flaw::Length)?;
+    escapes::is_plain(line).then_some(()).ok_or(Flaw::Escape)?;
     request_of(words::first(line)).ok_or(Flaw::Name)
 }
 
@@ -184,11 +154,15 @@ pub fn answer(line: &[u8], out: &mut [u8]) -> usize
 }
 
 // The requests with their arguments, one a line, at the start of the lent bytes; what has no room is left out.
-#[tactic(auto, unfolding(crate::specs::Requests::help_text))]
 pub fn help(out: &mut [u8]) -> usize
     ensures { Adds help_text out.old 0 out.new result }
 {
-    let n = TABLE.len().min(out.len());
-    out[..n].copy_from_slice(&TABLE[..n]);
-    n
+    let mut space = Space::new(out);
+    for (name, arguments, _) in &REQUESTS {
+        space.put(name);
+        space.put_byte(b' ');
+        space.put(arguments);
+        space.put_byte(b'\n');
+    }
+    space.at
 }

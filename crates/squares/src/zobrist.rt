@@ -46,8 +46,9 @@ pub fn splitmix64(state: u64) -> Drawn
     }
 }
 
-// The first 256 outputs: 64 keys each, by bit, for white men, black men, white kings and black kings.
-const PIECE_KEYS: [u64; 256] = [
+// The first 256 outputs: 64 keys each, by bit, for white men, black men, white kings and black kings. One flat table,
+// where the Rust has four: its law is one about the outputs in a row.
+static PIECE_KEYS: [u64; 256] = [
     0x687B_1986_4A3F_7771,
     0x1E98_557B_34C6_91B9,
     0x3A1A_7B1C_E297_A55D,
@@ -316,8 +317,8 @@ pub fn side_key() -> u64
     SIDE_KEY
 }
 
-// Which of the four blocks of 64 keys belongs to this kind of piece. Colour and kind come apart here as in the Rust,
-// and not as a `Piece`; so they do in `set_key` and `piece_key`, whose parameters are public and stay.
+// The number of the block of 64 keys for this kind of piece, as in the Rust. Colour and kind are two parameters and no
+// `Piece`, as they are in `set_key` and `piece_key`, which are public.
 pub(crate) fn index(color: Color, kind: PieceKind) -> usize
     ensures { result ≡ block color kind }
 {
@@ -329,16 +330,12 @@ pub(crate) fn index(color: Color, kind: PieceKind) -> usize
     }
 }
 
-// The exclusive or of the keys of such pieces on the squares of the set. Only this function reads PIECE_KEYS: a lookup
-// rebuilds the table on the stack, so it is copied once before the loop, and not at all for an empty set.
+// The exclusive or of the keys of such pieces on the squares of the set. Only this function reads PIECE_KEYS.
 #[tactic(auto, unfolding(crate::proofs::zobrist::set_key::Invariants::keyed, crate::specs::Keys::keys, crate::specs::Keys::outputs, crate::specs::Keys::output, crate::specs::Keys::advance, crate::specs::Keys::scramble))]
 pub fn set_key(color: Color, kind: PieceKind, set: Bitboard) -> u64
     ensures { result ≡ set_key_of color kind set }
 {
-    if set & ALL == 0 {
-        return 0;
-    }
-    let keys = PIECE_KEYS;
+    let keys = &PIECE_KEYS;
     let from = 64 * index(color, kind);
     let mut key: u64 = 0;
     for bit in Members(set & ALL) {

@@ -8,10 +8,9 @@ use native.Mathlib.Omega.{arith}
 use lib.ListN.{length, drop, get_or, drop_of_length-le}
 use lib.Dec.{leb}
 use borrow.Author.Tests.{le-leb, lt-leb, leb-false}
-use Rattle.std.specs.Char.{is_ascii_digit}
 use Rattle.squares.specs.Squares.{is_square}
 use Rattle.squares.specs.Refusals.{unless_of}
-use Rattle.squares.proofs.Refusals.{holds, fails, stopped, passed}
+use Rattle.squares.proofs.Refusals.{fails, stopped, passed}
 use Rattle.squares.proofs.Numbers.{square_range}
 use Rattle.squares.specs.declared.refusal.Refusal.TheVariants.{BadSquare}
 use Rattle.texts.specs.Bytes.{in_range, digits_from, number, strip, read_square}
@@ -36,13 +35,10 @@ unfolding digits_from
 big v [] h = range_high v h
 big v (b ∷ s) h = rw (big (v * 10 + (b - 48)) s (omega arith)) (same (leb 48 b && leb b 57))
 
-digits_other : (v : ℕ) (s : List ℕ) (i : ℕ) → i < length s → is_ascii_digit (get_or s i 0) ≡ false → digits_from v (drop i s) ≡ bad
+-- a value above 5 with another byte after it
+more : (v : ℕ) (s : List ℕ) (i : ℕ) → i < length s → 5 < v → digits_from v (drop i s) ≡ bad
 unfolding digits_from
-digits_other v s i h e = rw (drop_next s i h, e)
-
-digits_next : (v : ℕ) (s : List ℕ) (i : ℕ) → i < length s → is_ascii_digit (get_or s i 0) ≡ true → digits_from v (drop i s) ≡ digits_from (v * 10 + (get_or s i 0 - 48)) (drop (i + 1) s)
-unfolding digits_from
-digits_next v s i h e = rw (drop_next s i h, e)
+more v s i h l = rw (drop_next s i h, big (v * 10 + (get_or s i 0 - 48)) (drop (i + 1) s) (omega (arith, l))) (same (leb 48 (get_or s i 0) && leb (get_or s i 0) 57))
 
 digits_end : (v : ℕ) (s : List ℕ) (i : ℕ) → length s ≤ i → digits_from v (drop i s) ≡ in_range v
 unfolding digits_from
@@ -55,15 +51,10 @@ number_start (b ∷ s) = refl
 
 -- ---- the number v was read before the place i; r is what a guard hands back
 module _ (s : List ℕ) (v i : ℕ) (g : number s ≡ digits_from v (drop i s)) where
-  module _ {t : Bool} (h : i < length s) (e : t ≡ is_ascii_digit (get_or s i 0)) {r : Result ℕ Refusal} {f : Refusal} (q : r ≡ Err f) where
-    pub no_digit : ◌≡◌ {A = Result Unit Refusal} (Err f) (unless_of BadSquare t) → r ≡ number s
-    no_digit w = q ∙ stopped BadSquare t bad w ∙ same t ∙ sym (g ∙ digits_other v s i h (sym e ∙ fails BadSquare t w))
-
-    pub too_big : {u : Unit {0}} → ◌≡◌ {A = Result Unit Refusal} (Ok u) (unless_of BadSquare t) → ◌≡◌ {A = Result Unit Refusal} (Err f) (unless_of BadSquare (leb v 5)) → r ≡ number s
-    too_big p w =
-        let d : leb v 5 ≡ false = fails BadSquare (leb v 5) w in
-        q ∙ stopped BadSquare (leb v 5) bad w ∙ same (leb v 5)
-        ∙ sym (g ∙ digits_next v s i h (sym e ∙ holds BadSquare t p) ∙ big (v * 10 + (get_or s i 0 - 48)) (drop (i + 1) s) (omega (arith, leb-false v 5 d)))
+  pub too_big : i < length s → {r : Result ℕ Refusal} {f : Refusal} → r ≡ Err f → ◌≡◌ {A = Result Unit Refusal} (Err f) (unless_of BadSquare (leb v 5)) → r ≡ number s
+  too_big h q w =
+      q ∙ stopped BadSquare (leb v 5) bad w ∙ same (leb v 5)
+      ∙ sym (g ∙ more v s i h (leb-false v 5 (fails BadSquare (leb v 5) w)))
 
   module _ {t : Bool} (h : length s ≤ i) (e : t ≡ is_square v) where
     pub no_square : {r : Result ℕ Refusal} {f : Refusal} → r ≡ Err f → ◌≡◌ {A = Result Unit Refusal} (Err f) (unless_of BadSquare t) → r ≡ number s

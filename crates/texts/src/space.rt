@@ -57,7 +57,7 @@ impl<'a> Space<'a> {
         self.put_byte(b'0' + n % 10);
     }
 
-    // The bytes before the place. The fields are open, so the place is tested.
+    // The bytes before the place. The fields are public, so a place after the end may be handed in; it is tested here.
     #[tactic(auto, unfolding(crate::specs::Lent::text_of))]
     #[inline(always)]
     pub fn text(&self) -> &[u8]

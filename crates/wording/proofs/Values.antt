@@ -1,19 +1,16 @@
--- Digits and numbers, place by place.
+-- What a digit is to the library and to the definitions.
 use Rattle.std.specs.Prelude.{None, Some}
-use Prim.Native.Nat.{ℕ, ◌+◌, ◌-◌, ◌*◌, ◌≤◌, ◌<◌}
-use mathlib.Core.Path.{◌≡◌, refl, ap, sym, ◌∙◌, subst}
+use Prim.Native.Nat.{ℕ, ◌+◌, ◌-◌, ◌≤◌, ◌<◌}
+use mathlib.Core.Path.{◌≡◌, refl, sym, ◌∙◌}
 use mathlib.Core.List.{List, [], ◌∷◌}
-use mathlib.Core.Bool.{Bool, true, false, cond, ◌&&◌}
+use mathlib.Core.Bool.{Bool, true, false}
 use native.Mathlib.Omega.{arith}
-use lib.ListN.{take, length, drop, get_or, drop_of_length-le}
-use lib.Dec.{leb, ltb, eqb}
-use borrow.Author.Tests.{le-leb, lt-leb, lt-ltb, le-ltb, eq-eqb, ne_eqb, leb-true, leb-false, ltb-true, ltb-false}
-use Rattle.squares.proofs.Bools.{and_right}
-use Rattle.texts.specs.Bytes.{strip}
-use Rattle.texts.proofs.Cuts.{drop_next, rest}
+use lib.ListN.{length}
+use lib.Dec.{leb, ltb}
+use borrow.Author.Tests.{le-leb, lt-leb, lt-ltb, le-ltb, leb-true, leb-false, ltb-true, ltb-false}
 use Rattle.std.specs.Char.{digit_value}
 use Rattle.std.specs.Prelude.{SomeIff}
-use Rattle.wording.specs.Numbers.{IsDigit, AtMost, digit_of, value_from, number_in, without_prefix, positive_of, negative_of, signed_of}
+use Rattle.wording.specs.Numbers.{IsDigit, digit_of, value_from, number_in}
 use Rattle.std.specs.declared.option.Option.{Option}
 
 -- ---- digits
@@ -55,7 +52,7 @@ past_capitals b false e h k =
     let q : digit_value b ≡ 36 = rw (le-ltb b 48 (omega (arith, h)), le-ltb b 58 (omega (arith, h)), le-ltb b 65 (omega (arith, h)), le-ltb b 91 (ltb-false b 91 e), lt-ltb b 97 k) in
     omega (arith, q)
 
-past_letters : (b : ℕ) (t : Bool) → ltb b 123 ≡ t → 102 < b → 16 ≤ digit_value b
+pub past_letters : (b : ℕ) (t : Bool) → ltb b 123 ≡ t → 102 < b → 16 ≤ digit_value b
 past_letters b true e h =
     let q : digit_value b ≡ b - 87 = rw (le-ltb b 48 (omega (arith, h)), le-ltb b 58 (omega (arith, h)), le-ltb b 65 (omega (arith, h)), le-ltb b 91 (omega (arith, h)), le-ltb b 97 (omega (arith, h)), lt-ltb b 123 (ltb-true b 123 e)) in
     omega (arith, q, h)
@@ -113,102 +110,7 @@ digit_found base b None k h =
     digit_none base b k (ltb (digit_value b) 16) refl h w
 
 -- ---- numbers
-pub number_none : (base limit : ℕ) (s : List ℕ) → length s ≡ 0 → number_in base limit s ≡ None
-unfolding number_in
-number_none base limit [] e = refl
-number_none base limit (b ∷ s) e = absurd (omega arith)
-
 pub number_some : (base limit : ℕ) (s : List ℕ) → (length s ≡ 0 → ⊥) → number_in base limit s ≡ value_from base limit 0 s
 unfolding number_in
 number_some base limit [] e = absurd (e refl)
 number_some base limit (b ∷ s) e = refl
-
-both : (t : Bool) (p : Option ℕ) → cond (t && false) p None ≡ None
-both true p = refl
-both false p = refl
-
-module _ (base limit v : ℕ) (s : List ℕ) (i d : ℕ) (h : i < length s) (e : d ≡ digit_of (get_or s i 0)) where
-  pub no_digit : base ≤ d → value_from base limit v (drop i s) ≡ None
-  unfolding value_from
-  no_digit k = rw (drop_next s i h, ← e, le-ltb d base k)
-
-  pub past_limit : limit < v * base + d → value_from base limit v (drop i s) ≡ None
-  unfolding value_from
-  past_limit k = rw (drop_next s i h, ← e, lt-leb (v * base + d) limit k) (both (ltb d base) _)
-
-  pub next_digit : d < base → v * base + d ≤ limit → value_from base limit v (drop i s) ≡ value_from base limit (v * base + d) (drop (i + 1) s)
-  unfolding value_from
-  next_digit k l = rw (drop_next s i h, ← e, lt-ltb d base k, le-leb (v * base + d) limit l)
-
-pub value_end : (base limit v : ℕ) (s : List ℕ) (i : ℕ) → length s ≤ i → value_from base limit v (drop i s) ≡ Some v
-unfolding value_from
-value_end base limit v s i h = rw (drop_of_length-le s h)
-
--- what is read is at most the limit
-at_most_cond : (k : ℕ) (t : Bool) (p : Option ℕ) → (t ≡ true → AtMost k p) → AtMost k (cond t p None)
-at_most_cond k true p a = a refl
-at_most_cond k false p a = tt
-
-value_limit : (base limit v : ℕ) (s : List ℕ) → v ≤ limit → AtMost limit (value_from base limit v s)
-unfolding value_from
-value_limit base limit v [] h = h
-value_limit base limit v (b ∷ s) h =
-    at_most_cond limit (ltb (digit_of b) base && leb (v * base + digit_of b) limit) _
-    (λ e. value_limit base limit (v * base + digit_of b) s (leb-true _ _ (and_right (ltb (digit_of b) base) _ e)))
-
-number_limit : (base limit : ℕ) (s : List ℕ) → AtMost limit (number_in base limit s)
-unfolding number_in
-number_limit base limit [] = tt
-number_limit base limit (b ∷ s) = value_limit base limit 0 (b ∷ s) (omega arith)
-
--- both clauses of the contract from the first
-pub limited : (base limit : ℕ) (s : List ℕ) (r : Option ℕ) → r ≡ number_in base limit s → (r ≡ number_in base limit s) × AtMost limit r
-limited base limit s r e = (e, subst (λ (x : Option ℕ). AtMost limit x) (sym e) (number_limit base limit s))
-
--- ---- without every 0x at the start
-prefixed : (q : Bool) (a b : ℕ) (t : List ℕ) → List ℕ
-prefixed q a b t = elim q [ true ↦ without_prefix t | false ↦ a ∷ (b ∷ t) ]
-
-pair : (a b : ℕ) (t : List ℕ) (q : Bool) → (eqb a 48 && eqb b 120) ≡ q → without_prefix (a ∷ (b ∷ t)) ≡ prefixed q a b t
-unfolding without_prefix prefixed
-pair a b t q e = ap (λ (x : Bool). prefixed x a b t) e
-
-pub prefix_next : (s : List ℕ) → 2 ≤ length s → get_or s 0 0 ≡ 48 → get_or s 1 0 ≡ 120 → without_prefix s ≡ without_prefix (take (length s - 2) (drop 2 s))
-unfolding prefixed
-prefix_next [] h e f = absurd (omega arith)
-prefix_next (a ∷ []) h e f = absurd (omega arith)
-prefix_next (a ∷ (b ∷ t)) h e f = pair a b t true (rw (eq-eqb a 48 e, eq-eqb b 120 f)) ∙ ap without_prefix (sym (rest (a ∷ (b ∷ t)) 2))
-
-pub prefix_first : (s : List ℕ) → 2 ≤ length s → (get_or s 0 0 ≡ 48 → ⊥) → without_prefix s ≡ s
-unfolding prefixed
-prefix_first [] h e = absurd (omega arith)
-prefix_first (a ∷ []) h e = absurd (omega arith)
-prefix_first (a ∷ (b ∷ t)) h e = pair a b t false (rw (ne_eqb a 48 e))
-
-pub prefix_second : (s : List ℕ) → 2 ≤ length s → get_or s 0 0 ≡ 48 → (get_or s 1 0 ≡ 120 → ⊥) → without_prefix s ≡ s
-unfolding prefixed
-prefix_second [] h e f = absurd (omega arith)
-prefix_second (a ∷ []) h e f = absurd (omega arith)
-prefix_second (a ∷ (b ∷ t)) h e f = pair a b t false (rw (eq-eqb a 48 e, ne_eqb b 120 f))
-
-pub prefix_end : (s : List ℕ) → length s < 2 → without_prefix s ≡ s
-unfolding without_prefix
-prefix_end [] k = refl
-prefix_end (a ∷ []) k = refl
-prefix_end (a ∷ (b ∷ t)) k = absurd (omega arith)
-
--- ---- signs
-pub signed_none : (s : List ℕ) → length s < 1 → signed_of s ≡ positive_of (number_in 10 4294967295 (strip 43 s))
-unfolding signed_of number_in strip
-signed_none [] e = refl
-signed_none (b ∷ s) e = absurd (omega arith)
-
-pub signed_minus : (s : List ℕ) → 1 ≤ length s → get_or s 0 0 ≡ 45 → signed_of s ≡ negative_of (number_in 10 4294967295 (take (length s - 1) (drop 1 s)))
-unfolding signed_of
-signed_minus [] h e = absurd (omega arith)
-signed_minus (b ∷ s) h e = rw (eq-eqb b 45 e) (ap (λ (x : List ℕ). negative_of (number_in 10 4294967295 x)) (sym (rest (b ∷ s) 1)))
-
-pub signed_plus : (s : List ℕ) → 1 ≤ length s → (get_or s 0 0 ≡ 45 → ⊥) → signed_of s ≡ positive_of (number_in 10 4294967295 (strip 43 s))
-unfolding signed_of
-signed_plus [] h e = absurd (omega arith)
-signed_plus (b ∷ s) h e = rw (ne_eqb b 45 e)

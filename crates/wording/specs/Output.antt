@@ -1,5 +1,5 @@
 -- The texts of numbers, refusals and bad requests.
-use Rattle.std.specs.Prelude.{◌≡◌, ℕ, zero, suc, ◌/◌, List, ◌∷◌, ◌++◌, Bool, true, false, cond, ltb, ℤ, pos, negsuc, Result, Ok, Err}
+use Rattle.std.specs.Prelude.{◌≡◌, ℕ, zero, suc, ◌/◌, List, ◌∷◌, ◌++◌, true, false, ltb, ℤ, pos, negsuc}
 use Prim.Native.Char.{code}
 use Rattle.io.specs.Digits.{last_digits, IsDigitCount}
 use Rattle.squares.specs.Refusals.{number_of, square_of}
@@ -47,10 +47,6 @@ refusal_text e = bytes "err " ++ (decimal (number_of e) ++ (code " " ∷ decimal
 -- ! and the number of the refusal
 unfoldable pub number_word : Refusal → List ℕ
 number_word e = code "!" ∷ decimal (number_of e)
-
--- the flaw, unless the test holds
-abbrev pub unless_of : Flaw → Bool → Result Unit Flaw
-unless_of f t = cond t (Ok tt) (Err f)
 
 -- what is wrong with a bad request, in one word
 unfoldable pub flaw_word : Flaw → List ℕ

@@ -7,23 +7,25 @@
 ghost use Rattle.std.specs.Prelude.{◌≡◌, ◌∷◌};
 ghost use Rattle.std.specs.Iterator.{YieldsFirst, item_count};
 ghost use Rattle.texts.specs.Lent.{over};
-ghost use Rattle.wording.specs.Numbers.{IsDigit};
+ghost use Rattle.wording.specs.Numbers.{digit_of, IsDigit};
 ghost use Rattle.wording.specs.Escapes.{high_of, hex_escape, escape_of, Escaped, plain, is_plain, undone, Undid};
 ghost use Rattle.wording.specs.Steps.{undone_left};
 
-use crate::numbers;
 use texts::space::Space;
+
+// The value of a hexadecimal digit in either case.
+fn digit(b: u8) -> Option<u32>
+    ensures { IsDigit 16 (digit_of b) result }
+{
+    (b as char).to_digit(16)
+}
 
 // The value of the first of two hexadecimal digits. Rust reads a `+` there as a sign, so `\x+A` is the byte 10.
 #[tactic(auto, unfolding(crate::specs::Escapes::high_of))]
 fn high(b: u8) -> Option<u32>
     ensures { IsDigit 16 (high_of b) result }
 {
-    if b == b'+' {
-        Some(0)
-    } else {
-        numbers::digit(b, 16)
-    }
+    if b == b'+' { Some(0) } else { digit(b) }
 }
 
 // Reads the two digits after `\x`.
@@ -35,7 +37,7 @@ fn hex_escape(s: &[u8]) -> Option<(u8, &[u8])>
         return None;
     };
     let a = high(*x)?;
-    let b = numbers::digit(*y, 16)?;
+    let b = digit(*y)?;
     Some(((a * 16 + b) as u8, rest))
 }
 

@@ -1,13 +1,13 @@
 // Writers of answers. An answer is written piece by piece into a space; what has no room is left out.
 ghost use Rattle.std.specs.Prelude.{◌≡◌, ◌≤◌};
 ghost use Rattle.texts.specs.Lent.{over};
-ghost use Rattle.wording.specs.Output.{decimal, hex, hash, signed, refusal_text, number_word, unless_of, flaw_word, bad, Wide};
+ghost use Rattle.wording.specs.Output.{decimal, hex, hash, signed, refusal_text, number_word, flaw_word, bad, Wide};
 
 use squares::refusal::Refusal;
 use texts::space::Space;
 
 // What is wrong with a bad request.
-#[derive(Clone, Copy)]
+#[derive(Clone, Copy, Debug, PartialEq, Eq)]
 pub enum Flaw {
     // The line is too long.
     Length,
@@ -21,15 +21,6 @@ pub enum Flaw {
     Number,
     // The side is neither W nor B.
     Side,
-}
-
-impl Flaw {
-    // This flaw, unless the test holds. With `?` it guards what follows.
-    pub fn unless(self, holds: bool) -> Result<(), Flaw>
-        ensures { result ≡ unless_of self holds }
-    {
-        if holds { Ok(()) } else { Err(self) }
-    }
 }
 
 // Writes a number in decimal, without needless zeros.

@@ -1,5 +1,5 @@
-// The words of a line. Every single space ends a word, so two spaces have an empty word between them, and a line has
-// one word more than it has spaces.
+// The words of a line. Every single space ends a word, so two spaces have an empty word between them. After a space at
+// the end of the line there is no word.
 ghost use Rattle.std.specs.Prelude.{◌≡◌};
 ghost use Rattle.std.specs.Iterator.{YieldsFirstBy, item_count};
 ghost use Rattle.wording.specs.Words.{same_text, first_word, after_word, word_at, blanks_in};
@@ -7,7 +7,7 @@ ghost use Rattle.wording.specs.Steps.{words_left};
 
 use texts::bytes;
 
-// Whether two texts are the same: `==` of slices, whose contract says it byte by byte.
+// Whether two texts are the same: `==` of slices, under the public name that it had.
 #[tactic(auto, using(crate::proofs::WordLaws::same_pointwise))]
 pub fn same(a: &[u8], b: &[u8]) -> bool
     ensures { result ≡ same_text a.now b.now }
@@ -31,8 +31,8 @@ pub fn rest(s: &[u8]) -> &[u8]
     bytes::after_first(s, b' ')
 }
 
-// The words of a line one after another: `for word in Words(line)`. After a space at the end there is no word. `Split`
-// gives an empty part there. Which part is the last shows only in what is left, so dropping it takes this test as well.
+// The words of a line one after another: `for word in Words(line)`. This is no `Split`, which would give an empty part
+// after a space at the end.
 #[derive(Clone, Copy)]
 pub struct Words<'a>(pub &'a [u8]);
 

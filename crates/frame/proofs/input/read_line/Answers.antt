@@ -8,4 +8,4 @@ pub loop-n-preserved : goal.loop-n-preserved
 loop-n-preserved g c =
     let i = c.loop-n.invariant in
     let one = rw c.in-Some.is at c.in_ok-read_byte.ensures in
-    (search rules, laws.line_next _ i.1 (omega arith) c.in-Some.b-test.1, laws.byte_more _ _ _ c.loop-n.buf c.loop-n.n i.2 _ (omega arith) one)
+    (search rules, laws.line_next _ i.1 (omega arith) (search rules), laws.byte_more _ _ _ c.loop-n.buf c.loop-n.n i.2 _ (omega arith) one)

@@ -25,14 +25,14 @@ captures_are v s l q e h = e ∙ takes_captures s.men s.kings s.them s.empty s.s
 
 pub returns-then-is_some : goal.returns-then-is_some
 returns-then-is_some c =
-    captures_are c.args.v c.sets-sets.result _ c.sets-sets.ensures
+    captures_are c.args.v c.from-sets.result _ c.from-sets.ensures
     (c.whole.ensures ∙ spread_is _ _ _ _ _ c.all_captures-few.ensures (sym c.is_some.ensures ∙ c.if-is_some.true))
     (sym c.has_capture.ensures ∙ c.if-has_capture.true)
 
 pub returns-then-has_capture : goal.returns-then-has_capture
 unfolding capture_moves_of
 returns-then-has_capture c =
-    captures_are c.args.v c.sets-sets.result _ c.sets-sets.ensures (c.whole-then-has_capture.ensures ∙ ap whole_in c.all_captures.ensures) (sym c.has_capture.ensures ∙ c.if-has_capture.true)
+    captures_are c.args.v c.from-sets.result _ c.from-sets.ensures (c.whole-then-has_capture.ensures ∙ ap whole_in c.all_captures.ensures) (sym c.has_capture.ensures ∙ c.if-has_capture.true)
 
 -- the quiet moves, where none is open
 quiets_are : (v : View) (s : Sets) (l : Option MoveList) → s ≡ sets_of v → l ≡ quiet_moves_of s.men s.kings s.empty s.side → has_capture_of s.men s.kings s.them s.empty ≡ false
@@ -42,16 +42,16 @@ quiets_are v s l q e h = e ∙ takes_quiets s.men s.kings s.them s.empty s.side 
 
 pub returns-in_err-put_quiets : goal.returns-in_err-put_quiets
 returns-in_err-put_quiets c =
-    let s = c.sets-sets.result in
+    let s = c.from-sets.result in
     let q : c.from_residual.result ≡ None = search rules in
     q
-    ∙ quiets_are c.args.v s None c.sets-sets.ensures
+    ∙ quiets_are c.args.v s None c.from-sets.ensures
     (no_room s.men s.kings s.empty s.side _ (c.in_err-put_quiets.ensures ∙ ap (λ (l : MoveList). put_all l (all_quiets s.men s.kings s.empty s.side)) c.new-list.ensures))
     (sym c.has_capture.ensures ∙ c.if-has_capture.false)
 
 pub returns : goal.returns
 returns c =
-    let s = c.sets-sets.result in
-    quiets_are c.args.v s _ c.sets-sets.ensures
+    let s = c.from-sets.result in
+    quiets_are c.args.v s _ c.from-sets.ensures
     (all_room s.men s.kings s.empty s.side _ (c.in_ok-put_quiets.ensures ∙ ap (λ (l : MoveList). put_all l (all_quiets s.men s.kings s.empty s.side)) c.new-list.ensures))
     (sym c.has_capture.ensures ∙ c.if-has_capture.false)

@@ -6,4 +6,4 @@ use Rattle.movegen.proofs.movegen.has_captures.Goals as goal
 pub returns : goal.returns
 returns c =
     let w = viewed c.args.p _ c.in_ok-view.ensures in
-    captures_tested c.args.p w.0 _ w.1 _ c.sets.ensures _ c.has_capture.ensures
+    captures_tested c.args.p w.0 _ w.1 _ c.from.ensures _ c.has_capture.ensures

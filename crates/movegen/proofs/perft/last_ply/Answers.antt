@@ -8,14 +8,14 @@ use Rattle.movegen.proofs.perft.last_ply.Goals as goal
 pub returns-then-has_capture : goal.returns-then-has_capture
 unfolding last_ply_of
 returns-then-has_capture c =
-    let s = c.sets-sets.result in
+    let s = c.from-sets.result in
     c.captures_count.ensures ∙ counts_captures s.men s.kings s.them s.empty s.side (sym c.has_capture.ensures ∙ c.if-has_capture.true)
-    ∙ ap (λ (s : Sets). count_by_sets s.men s.kings s.them s.empty s.side) c.sets-sets.ensures
+    ∙ ap (λ (s : Sets). count_by_sets s.men s.kings s.them s.empty s.side) c.from-sets.ensures
 
 pub returns-else-has_capture : goal.returns-else-has_capture
 unfolding last_ply_of
 returns-else-has_capture c =
-    let s = c.sets-sets.result in
+    let s = c.from-sets.result in
     c.limited.ensures ∙ ap limited_count c.quiet_count.ensures
     ∙ counts_quiets s.men s.kings s.them s.empty s.side (sym c.has_capture.ensures ∙ c.if-has_capture.false)
-    ∙ ap (λ (s : Sets). count_by_sets s.men s.kings s.them s.empty s.side) c.sets-sets.ensures
+    ∙ ap (λ (s : Sets). count_by_sets s.men s.kings s.them s.empty s.side) c.from-sets.ensures

@@ -15,7 +15,7 @@ returns c =
     let m = c.args.mv in
     played p _ m _ _ _ _
     c.with_hash.ensures.sets
-    (c.next-v.ensures ∙ ap (λ (v : View). next_of v m) c.of.ensures)
+    (c.next-v.ensures ∙ ap (λ (v : View). next_of v m) c.from.ensures)
     c.with_hash.ensures.hash
     (c.keys_on.ensures ∙ ap (λ (x : Color). keys_on x m.captured p.kings) c.not.ensures)
     (c.moved_key.ensures ∙ ap (λ (k : ℕ). moved_key p.side k m) c.difference-kept.ensures)

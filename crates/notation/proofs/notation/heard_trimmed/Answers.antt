@@ -8,7 +8,7 @@ use Rattle.notation.proofs.notation.heard_trimmed.Goals as goal
 pub returns-in_err-heard_squares : goal.returns-in_err-heard_squares
 returns-in_err-heard_squares c =
     let q : c.from_residual.result ≡ Err c.in_err-heard_squares.field-0.0 = search rules in
-    q ∙ separated c.args.s.now _ _ _ refl c.separator.ensures c.in_err-heard_squares.ensures
+    q ∙ separated c.args.s.now _ _ _ refl c.holds.ensures c.in_err-heard_squares.ensures
 
 pub returns : goal.returns
-returns c = c.in_form.ensures ∙ separated c.args.s.now _ _ _ c.holds.ensures c.separator.ensures c.in_ok-heard_squares.ensures
+returns c = c.in_form.ensures ∙ separated c.args.s.now _ _ _ c.holds-2.ensures c.holds.ensures c.in_ok-heard_squares.ensures

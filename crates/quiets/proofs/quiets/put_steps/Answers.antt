@@ -13,9 +13,11 @@ use Rattle.quiets.proofs.Added.{adding_turn, adding_stop, adding_done, ones, put
 use Rattle.quiets.proofs.quiets.put_steps.Goals as goal
 
 -- the move that is put in is the step to the lowest bit left
-put_step : (d left at back : ℕ) (m : Move) (l : MoveList) (r : Result MoveList MoveList) → at ≡ 2 ^ lowest left
-    → back ≡ shifted (direction_at (3 - d)) at → m ≡ quiet_move back at → r ≡ put_of l m → r ≡ put_all l (step_move d (lowest left) ∷ [])
-put_step d left at back m l r ea eb em e = e ∙ ap (put_of l) (step_made d at (lowest left) back m ea eb em) ∙ sym (put_one l (step_move d (lowest left)))
+put_step : (d o left at back : ℕ) (m : Move) (l : MoveList) (r : Result MoveList MoveList) → at ≡ 2 ^ lowest left
+    → o ≡ 3 - d → back ≡ shifted (direction_at o) at → m ≡ quiet_move back at → r ≡ put_of l m → r ≡ put_all l (step_move d (lowest left) ∷ [])
+put_step d o left at back m l r ea eo eb em e =
+    e ∙ ap (put_of l) (step_made d at (lowest left) back m ea (eb ∙ ap (λ (k : ℕ). shifted (direction_at k) at) eo) em)
+    ∙ sym (put_one l (step_move d (lowest left)))
 
 -- the steps by the bit reached
 steps_are : (men empty d y : ℕ) (l : MoveList) → y ≡ shifted (direction_at d) men
@@ -29,7 +31,7 @@ loop-at-preserved c =
     let l = c.loop-at in
     rw s.2
     (adding_turn _ _ l.list l.at-iterator.0 l.invariant c.put.new.self s.0
-    (put_step _ _ _ _ _ l.list _ s.1 c.shift-in-loop-at.ensures c.quiet_move.ensures c.in_ok-put.ensures))
+    (put_step _ _ _ _ _ _ l.list _ s.1 c.opposite.ensures c.shift-in-loop-at.ensures c.quiet_move.ensures c.in_ok-put.ensures))
 
 pub returns-in_err-put : goal.returns-in_err-put
 returns-in_err-put c =
@@ -38,7 +40,7 @@ returns-in_err-put c =
     let l = c.loop-at in
     ap (kept c.put.new.self) q
     ∙ adding_stop _ _ l.list l.at-iterator.0 (rw c.into_iter-at-iterator.ensures.into_iter_gives at l.invariant) _ s.0
-    (put_step _ _ _ _ _ l.list _ s.1 c.shift-in-loop-at.ensures c.quiet_move.ensures c.in_err-put.ensures)
+    (put_step _ _ _ _ _ _ l.list _ s.1 c.opposite.ensures c.shift-in-loop-at.ensures c.quiet_move.ensures c.in_err-put.ensures)
     ∙ steps_are _ _ _ _ _ c.shift.ensures
 
 pub returns : goal.returns

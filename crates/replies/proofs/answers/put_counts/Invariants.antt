@@ -6,4 +6,4 @@ use Rattle.texts.specs.Lent.{over}
 use Rattle.replies.proofs.answers.put_counts.Given as goal
 
 abbrev pub invariant-loop-m : goal.invariant-loop-m
-invariant-loop-m l = l.out ≡ over (counts_text l.fn.list.moves l.fn.counts (length l.yielded)) l.initial.out
+invariant-loop-m l = l.out ≡ over (counts_text l.fn.d.list.moves l.fn.d.counts (length l.yielded)) l.initial.out

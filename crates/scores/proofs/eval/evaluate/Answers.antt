@@ -8,5 +8,5 @@ use Rattle.scores.proofs.eval.evaluate.Goals as goal
 pub returns : goal.returns
 returns c =
     let p = c.args.p in
-    let is : c.evaluate.result ≡ evaluate_of default p = c.evaluate.ensures ∙ ap (λ (w : Classical). evaluate_of w p) c.new.ensures in
+    let is : c.evaluate.result ≡ evaluate_of default p = c.evaluate.ensures ∙ ap (λ (w : Classical). evaluate_of w p) c.default.ensures in
     record { value = is; result_value = ap limited is ∙ evaluate_limited p }

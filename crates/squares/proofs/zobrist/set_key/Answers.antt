@@ -1,9 +1,7 @@
 -- Each turn takes the lowest square's key; what is left is the exclusive or over the rest. The table is tested once against its rule.
--- A set without squares has the key 0.
 use Rattle.std.proofs.Common.{◌≡◌, ℕ, ◌+◌, ◌-◌, ◌*◌, ◌^◌, ◌<◌, List, get_or, sym, refl, ap, ◌∙◌, ap₂, arith}
 use lib.Bits.{bit_and, bit_xor, and_le_l, xor_comm, xor_zero_r}
 use Rattle.squares.specs.Sets.{lowest}
-use Rattle.squares.specs.Folds.{xor_over}
 use Rattle.squares.specs.Keys.{advance, scramble, output, outputs, keys, block, set_key_of}
 use Rattle.squares.specs.declared.piece.Color.{Color}
 use Rattle.squares.specs.declared.piece.PieceKind.{PieceKind}
@@ -33,15 +31,6 @@ ended c k from s left key table f z e t =
     sym (xor_zero_r key) ∙ ap (bit_xor key) (sym (ap (keyed table (64 * from)) z ∙ xor_none (λ i. get_or table (64 * from + i) 0))) ∙ e.sum
     ∙ ap₂ (λ (l : List ℕ) (n : ℕ). keyed l (64 * n) (bit_and s 0x003F_F7FE_FFDF_FBFF)) t f
     ∙ ap (λ (m : ℕ). keyed keys (64 * block c k) (bit_and s m)) (sym all_is) ∙ table_key c k s
-
--- nothing on the board
-empty_key : (c : Color) (k : PieceKind) (s : ℕ) → bit_and s 0x003F_F7FE_FFDF_FBFF ≡ 0 → 0 ≡ set_key_of c k s
-empty_key c k s z =
-    sym (xor_none (λ i. get_or keys (64 * block c k + i) 0))
-    ∙ ap (xor_over (λ i. get_or keys (64 * block c k + i) 0)) (sym z ∙ ap (bit_and s) (sym all_is)) ∙ table_key c k s
-
-pub returns-then-set-eq0 : goal.returns-then-set-eq0
-returns-then-set-eq0 c = empty_key _ _ _ c.if-set-eq0.true
 
 pub loop-bit-preserved : goal.loop-bit-preserved
 loop-bit-preserved c =

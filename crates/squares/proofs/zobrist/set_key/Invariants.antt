@@ -1,5 +1,4 @@
 -- Each turn takes the lowest square's key; what is left is the exclusive or over the rest. The table is tested once against its rule.
--- A set without squares has the key 0.
 use Rattle.std.proofs.Common.{◌≡◌, ℕ, ◌+◌, ◌^◌, ◌<◌, List, get_or}
 use lib.Bits.{bit_xor}
 use Rattle.squares.specs.Folds.{xor_over}

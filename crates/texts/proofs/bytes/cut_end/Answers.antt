@@ -7,5 +7,5 @@ use Rattle.texts.proofs.bytes.cut_end.Goals as goal
 
 pub returns : goal.returns
 returns g c p k =
-    laws.end_at p c.args.s.now c.position-kept.result (IsFirst-from_position c.position-kept.new.self _ c.position-kept.result (λ b. p b ≡ false) (λ b. p b ≡ true) c.position-kept.ensures.ran (YieldsList-from_rev_slice c.args.s.now (search rules))
+    laws.end_at p c.args.s.now c.position-cut_off.result (IsFirst-from_position c.position-cut_off.new.self _ c.position-cut_off.result (λ b. p b ≡ false) (λ b. p b ≡ true) c.position-cut_off.ensures.ran (YieldsList-from_rev_slice c.args.s.now (search rules))
     (λ x q e. search (rules, tests, k)) (λ x q e. search (rules, tests, k))) c.unwrap_or.ensures
