@@ -11,7 +11,8 @@ OLD_TREE is a checkout of the commit in the first line of the page. The new tree
 The blocks are sorted by name. A text is written without comments and with single spaces, then wrapped.
 
 - Signatures: of crates/*/src/*.rt each `pub fn` with its clauses, each `pub struct` and `pub enum` with its derives,
-  each `impl Trait for Type` with its ghost items. No bodies, other attributes, constants, `type`s or traits.
+  each `pub trait` as a whole, each `impl Trait for Type` with its ghost items. No other bodies, attributes,
+  constants or `type`s.
 - Definitions: each `pub` definition of crates/*/specs/*.antt as a whole, without the parameters of its module.
 - Theorems: each `pub` law of crates/*/proofs/*.antt that a page of either tree names, without its proof. A page names
   what it has in backticks, alone or at the end of a path (`a::law`).
@@ -43,8 +44,8 @@ def one_line(*parts):
 RT_TEXT = re.compile(r'("(?:[^"\\]|\\.)*"|b?\'(?:[^\'\\\n]|\\.)\')|//.*')
 RT_ITEM = re.compile(
     r"""^(?P<indent>\ *)(?P<attributes>(?:\#\[.*\]\s*)*)
-    (?: (?P<item>pub\ (?P<kind>fn|struct|enum)\ (?P<name>\w+))
-      | impl(?:<[^>]*>)?(?P<head>\ (?:(?P<trait>[\w:]+)\ for\ )?(?P<type>\w+).*?\{) )""",
+    (?: (?P<item>pub\ (?P<kind>fn|struct|enum|trait)\ (?P<name>\w+))
+      | impl(?:<[^>]*>)?(?P<head>\ (?:(?P<trait>[\w:<>]+)\ for\ )?(?P<type>\w+).*?\{) )""",
     re.M | re.X,
 )
 CLAUSE = re.compile(r"\b(?:requires|ensures)(?: \w+)?\s*\Z")
@@ -92,7 +93,8 @@ def signatures(tree):
                 else:
                     end = first(code, end, "};", "{}") + 1
                     derives = re.findall(r"#\[derive.*\]", m["attributes"])
-                    found[f"{module}::{m['name']} (type)"] = one_line(*derives, text[start:end])
+                    kind = "trait" if m["kind"] == "trait" else "type"
+                    found[f"{module}::{m['name']} ({kind})"] = one_line(*derives, text[start:end])
     return found
 
 

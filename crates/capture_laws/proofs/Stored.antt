@@ -1,5 +1,5 @@
 -- The list of moves that its array holds: the moves and then blanks.
-use mathlib.Core.Path.{◌≡◌, refl, ap, sym, ◌∙◌}
+use mathlib.Core.Path.{◌≡◌, refl, ap, ap₂, sym, ◌∙◌}
 use Prim.Native.Nat.{ℕ, ◌≤◌}
 use mathlib.Core.Bool.{Bool, true, false}
 use native.Mathlib.Omega.{arith}
@@ -9,6 +9,7 @@ use lib.Seq.{take-append-le, take_all, take-take}
 use lib.Dec.{ltb}
 use borrow.Author.Tests.{ltb-true, ltb-false}
 use Rattle.positions.specs.declared.moves.Move.{Move}
+use Rattle.captures.specs.declared.moves.MoveList.{MoveList}
 use Rattle.captures.specs.Lists.{blank, entries, list_of}
 use Rattle.captures.proofs.Stored.{filled, front}
 
@@ -21,11 +22,14 @@ pub few_entries : (xs : List Move) → length xs ≤ 256 → entries (list_of xs
 unfolding list_of
 few_entries xs h = front blank 256 xs h
 
--- what does not fit is not among the entries
-pub cut_entries : (xs : List Move) → (list_of (take 256 xs)).moves ≡ (list_of xs).moves
+-- what does not fit is not listed
+pub cut_listed : (xs : List Move) → list_of (take 256 xs) ≡ list_of xs
 unfolding list_of
-cut_entries xs = go (ltb (length xs) 256) refl
+cut_listed xs = ap₂ list (go (ltb (length xs) 256) refl) (omega (arith, length-take 256 xs))
   where
+    list : List Move → ℕ → MoveList
+    list ms n = record { moves = ms; len = n }
+
     go : (t : Bool) → ltb (length xs) 256 ≡ t → filled blank 256 (take 256 xs) ≡ filled blank 256 xs
     go true e =
         let h = ltb-true (length xs) 256 e in
@@ -34,3 +38,6 @@ cut_entries xs = go (ltb (length xs) 256) refl
         let h = ltb-false (length xs) 256 e in
         take-append-le 256 (take 256 xs) (replicate 256 blank) (omega (arith, length-take 256 xs)) ∙ take-take 256 256 xs (omega arith)
         ∙ sym (take-append-le 256 xs (replicate 256 blank) h)
+
+pub cut_entries : (xs : List Move) → (list_of (take 256 xs)).moves ≡ (list_of xs).moves
+cut_entries xs = ap (λ l. l.moves) (cut_listed xs)

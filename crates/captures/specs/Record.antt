@@ -2,9 +2,8 @@
 -- has room for N moves, in a list of legal moves 256; where there are more, it has no length.
 use Rattle.std.specs.Prelude.{ℕ, ◌+◌, Option, Some, None, unwrap_or, option_map, List, ◌++◌, cond, ◌||◌, eqb, ltb, set, take, replicate}
 use Rattle.squares.specs.Sets.{size}
-use Rattle.squares.specs.Squares.{first_of}
 use Rattle.positions.specs.declared.moves.Move.{Move}
-use Rattle.positions.specs.Moves.{move}
+use Rattle.positions.specs.Moves.{by_bits}
 use Rattle.captures.specs.declared.moves.MoveList.{MoveList}
 use Rattle.captures.specs.declared.movegen.Captures.{Captures}
 use Rattle.captures.specs.Lists.{blank, listed}
@@ -40,7 +39,7 @@ module _ {N : ℕ} where
 
   -- the move of a sequence that ends on `to` and has taken c
   abbrev pub move_of : Captures N → ℕ → ℕ → Move
-  move_of s to c = move (first_of s.from) (first_of to) c
+  move_of s to c = by_bits s.from to c
 
   -- the search s with other entries, another number of moves, of pieces taken
   abbrev pub holding : Captures N → List Move → Option ℕ → ℕ → Captures N

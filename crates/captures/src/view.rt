@@ -31,6 +31,7 @@ impl From<Position> for View {
     }
 }
 
+// A `Position` has such sets by colour. A board by the two sides has no colours to ask it with, so these are its own.
 impl View {
     // The men of its side.
     pub fn men(self) -> Bitboard

@@ -5,8 +5,11 @@
 //
 // A write fails where the writer answers an error or takes no byte; some of the bytes may be written then. The reason
 // is not asked: a call that a signal interrupts counts as one that failed.
-ghost use Rattle.frame.specs.Output.{Put};
+ghost use Rattle.std.specs.Prelude.{Some};
+ghost use Rattle.frame.specs.Output.{Put, failure_text};
 
+use std::error::Error;
+use std::fmt;
 use std::io::Write;
 
 // Why a run stops before all was read and written: a read failed, or a write.
@@ -15,6 +18,20 @@ pub enum Failure {
     Read,
     Write,
 }
+
+// What is said of the failure on standard error.
+impl fmt::Display for Failure {
+    ghost output = { λ e. Some (failure_text e) };
+
+    fn fmt<W: fmt::Write>(&self, f: &mut fmt::Formatter<W>) -> fmt::Result {
+        match self {
+            Failure::Read => f.write_str("a read failed"),
+            Failure::Write => f.write_str("a write failed"),
+        }
+    }
+}
+
+impl Error for Failure {}
 
 // Writes the bytes, all of them unless it fails.
 #[tactic(auto, using(crate::proofs::Putting::by_writes))]
@@ -35,10 +52,7 @@ pub fn write<W: Write>(to: &mut W, out: &[u8]) -> Result<(), Failure>
 
 // Writes a line on standard error where a read or a write failed. The exit status is 0 all the same.
 pub fn report<E: Eprint>(rt: &E, end: Result<(), Failure>) {
-    let text = match end {
-        Ok(()) => return,
-        Err(Failure::Read) => "a read failed",
-        Err(Failure::Write) => "a write failed",
-    };
-    let _ = rt.eprintln(text);
+    if let Err(failure) = end {
+        let _ = rt.eprintln(failure);
+    }
 }

@@ -34,7 +34,7 @@ use Rattle.games.specs.Play.{fresh_of, new_of, moved_of, reached_of, play_of, af
 use Rattle.games.specs.declared.game.Game.{Game}
 use Rattle.games.proofs.BookPlay.{meets, next_of, accepted_listed}
 use Rattle.games.proofs.RefusedPlay.{refused_stands}
-use Rattle.games.proofs.Stands.{Stands, begun_stands, now_sound, now_accepted, same_outcome, room, moved_stands}
+use Rattle.games.proofs.Stands.{Stands, begun_stands, now_sound, now_accepted, same_outcome, room_left, moved_stands}
 use Rattle.games.proofs.Tests.{squares_agree}
 use Rattle.games.proofs.Valid.{alone_last}
 
@@ -72,7 +72,7 @@ module _ (start : Board) (g : Game) (b : Book) (r : Stands start g b) (m : Move)
   accepted q e p k o h s = record {
     answer = ap answer_number_of p ∙ sym k;
     stands = rw (p, next_of b m true (eq-eqb (book_answer b m) 0 k))
-        (moved_stands start g b r m (room g o) h q s e);
+        (moved_stands start g b r m (room_left g o) h q s e);
   }
 
   step : Step start g b m

@@ -105,18 +105,19 @@ module _ (start : Board) (g : Game) (b : Book) (r : Stands start g b) where
 
 -- ---- an accepted play
 -- no outcome leaves room for one more position
-pub room : (g : Game) → ended (judged_of g) ≡ false → g.reversible < 50
-unfolding judged_of judge
-room g e = leb-false 50 g.reversible (go (can_move p) (leb 3 (stood g)) (leb 50 g.reversible) e)
+pub room : (p : Board) (n f s : ℕ) → ended (judge p n f s) ≡ false → f < 50
+unfolding judge
+room p n f s e = leb-false 50 f (go (can_move p) (leb 3 n) (leb 50 f) e)
   where
-    p : Board
-    p = board_of (last_of g)
-
-    go : (x y z : Bool) → ended (cond x (cond y (Some (drawn Repetition)) (cond z (Some (drawn TwentyFiveMoves)) (king_ending p g.material))) (Some (won (other p.side)))) ≡ false → z ≡ false
+    go : (x y z : Bool) → ended (cond x (cond y (Some (drawn Repetition)) (cond z (Some (drawn TwentyFiveMoves)) (king_ending p s))) (Some (won (other p.side)))) ≡ false → z ≡ false
     go false y z q = absurd (true≢false q)
     go true true z q = absurd (true≢false q)
     go true false true q = absurd (true≢false q)
     go true false false q = refl
+
+pub room_left : (g : Game) → ended (judged_of g) ≡ false → g.reversible < 50
+unfolding judged_of
+room_left g e = room (board_of (last_of g)) (stood g) g.reversible g.material e
 
 module _ (start : Board) (g : Game) (b : Book) (r : Stands start g b) (m : Move) (o : g.reversible < 50) (h : Legal (standing b) m) (q : Position) (s : sound q ≡ true) (e : board_of q ≡ reached b m) where
   a : Accepted (standing b)

@@ -19,7 +19,7 @@ use Rattle.games.specs.Games.{last_of, valid, irreversible, material_after, judg
 use Rattle.games.specs.Play.{alone_of, fresh_of, appended_of, moved_of, reached_of, new_of, play_of, after_play}
 use Rattle.games.specs.declared.game.Game.{Game}
 use Rattle.games.proofs.Laws.{new_is}
-use Rattle.games.proofs.Stands.{room}
+use Rattle.games.proofs.Stands.{room_left}
 use Rattle.games.proofs.Valid.{valid_says, material_fits, alone_long, alone_valid, more_long, more_valid}
 use Rattle.squares.specs.declared.refusal.Refusal.{Refusal}
 
@@ -41,7 +41,7 @@ module _ (g : Game) (f : Fit g) (m : Move) where
       go false =
           let k = material_after (board_of (last_of g)) m g.material in
           let v = valid_says g f.valid in
-          let r = room g o in
+          let r = room_left g o in
           record { valid = more_valid g q k v f.long r s (material_fits (board_of (last_of g)) m g.material); long = more_long g q k v f.long r }
 
   pub play_fit : Fit (after_play g (play_of g m))

@@ -66,7 +66,7 @@ impl<'a> Tested<'a> {
     }
 
     // Plays a move record on a game that is not over. Refusals: 17, 15.
-    #[tactic(auto, using(crate::proofs::Stands::room))]
+    #[tactic(auto, using(crate::proofs::Stands::room_left))]
     pub(crate) fn moved(self, mv: Move) -> Result<Game, Refusal>
         requires { ended (judged_of self.game.now) ≡ false }
         ensures { result ≡ reached_of self.entry.game.now mv (after_of (last_of self.entry.game.now) mv) }

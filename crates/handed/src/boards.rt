@@ -1,12 +1,11 @@
 // Makes a position of three sets and a side without testing them.
 use positions::position::Position;
 use squares::bitboard::Bitboard;
-use squares::piece::Color;
-use squares::zobrist;
+use squares::piece::{Color, PieceKind};
+use squares::{bitboard, zobrist};
 
 // These sets with the hash of the pieces in them, whatever is wrong with the sets. The bits of `wrong` are flipped in
-// the hash. The hash is put together here from the keys, apart from the test of refusal 12, so that a fault in that test
-// shows.
+// the hash. No public function hashes a board that is not accepted, so it is put together here.
 pub(crate) fn with_hash(
     white: Bitboard,
     black: Bitboard,

@@ -17,10 +17,6 @@ use scores::eval::Classical;
 use squares::piece::Color;
 use wording::{numbers, words};
 
-pub(crate) fn letter(s: &[u8]) -> u8 {
-    s.first().copied().unwrap_or(0)
-}
-
 // The number in the word with this index.
 pub(crate) fn number(s: &[u8], index: usize) -> u64 {
     numbers::set(words::word(s, index)).unwrap_or(0)
@@ -98,14 +94,14 @@ impl Values {
 
     // Takes what a line hands in.
     pub(crate) fn take(&mut self, s: &[u8]) {
-        match letter(s) {
-            b'i' => self.position = position::initial(),
-            b'p' => self.position = placed(s),
-            b'm' => self.mv = record(s),
-            b'w' => self.weights = weights(s),
-            b'f' => self.game.kept = [self.position; 51],
-            b'k' => keep(&mut self.game, self.position, number(s, 1)),
-            b'n' => set_numbers(&mut self.game, s),
+        match s.first() {
+            Some(b'i') => self.position = position::initial(),
+            Some(b'p') => self.position = placed(s),
+            Some(b'm') => self.mv = record(s),
+            Some(b'w') => self.weights = weights(s),
+            Some(b'f') => self.game.kept = [self.position; 51],
+            Some(b'k') => keep(&mut self.game, self.position, number(s, 1)),
+            Some(b'n') => set_numbers(&mut self.game, s),
             _ => {}
         }
     }

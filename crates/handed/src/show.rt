@@ -17,10 +17,7 @@ pub(crate) fn refusal(rt: &impl Print, e: Refusal) -> io::Result<()> {
 
 // The first n bytes.
 fn part(rt: &impl Print, text: &[u8], n: usize) -> io::Result<()> {
-    match text.get(..n) {
-        Some(first) => rt.write_all(first),
-        None => Ok(()),
-    }
+    text.get(..n).map_or(Ok(()), |first| rt.write_all(first))
 }
 
 // What `put` writes of the value, or the refusal.
@@ -46,10 +43,7 @@ pub(crate) fn position(rt: &impl Print, p: Position) -> io::Result<()> {
 
 // Whether the call was refused.
 pub(crate) fn answer<T>(rt: &impl Print, a: &Result<T, Refusal>) -> io::Result<()> {
-    match a {
-        Ok(_) => print!(rt; "done"),
-        Err(e) => refusal(rt, *e),
-    }
+    tell(rt, a.as_ref().map_err(|e| *e), |_| print!(rt; "done"))
 }
 
 // A value, or the refusal.
@@ -97,17 +91,13 @@ pub(crate) fn wrote(rt: &impl Print, w: Result<usize, Refusal>, out: &[u8]) -> i
     println!(rt; "]")
 }
 
-// How many of the 256 entries are blank.
-fn blank_moves(list: MoveList) -> usize {
-    list.moves.iter().filter(|m| **m == BLANK).count()
-}
-
-fn zeros(counts: [u64; 256]) -> usize {
-    counts.iter().filter(|count| **count == 0).count()
+// How many entries are as those that are not used.
+pub(crate) fn unused<T: PartialEq>(entries: &[T], blank: &T) -> usize {
+    entries.iter().filter(|entry| *entry == blank).count()
 }
 
 fn list(rt: &impl Print, l: MoveList) -> io::Result<()> {
-    print!(rt; ", {} moves, {} blank", l.len, blank_moves(l))
+    print!(rt; ", {} moves, {} blank", l.len, unused(&l.moves, &BLANK))
 }
 
 // A refused list has no moves.
@@ -120,11 +110,7 @@ pub(crate) fn listed(rt: &impl Print, l: Result<MoveList, Refusal>) -> io::Resul
 // A refused count has no moves, and all counts are 0.
 pub(crate) fn divided(rt: &impl Print, d: Result<Divided, Refusal>) -> io::Result<()> {
     answer(rt, &d)?;
-    let nothing = Divided {
-        list: MoveList::new(),
-        counts: [0; 256],
-    };
-    let divided = d.unwrap_or(nothing);
-    list(rt, divided.list)?;
-    println!(rt; ", {} counts 0", zeros(divided.counts))
+    let (moves, zeros) = d.map_or((MoveList::new(), 256), |x| (x.list, unused(&x.counts, &0)));
+    list(rt, moves)?;
+    println!(rt; ", {zeros} counts 0")
 }

@@ -5,27 +5,14 @@ use crate::show;
 use captures::moves::BLANK;
 use games::game::{Game, Outcome, Termination};
 use gametexts::game::PlayedText;
-use positions::position::Position;
-use squares::piece::Color;
+use positions::position;
 use squares::refusal::Refusal;
 use std::io;
-
-const BLANK_POSITION: Position = Position {
-    white: 0,
-    black: 0,
-    kings: 0,
-    side: Color::White,
-    hash: 0,
-};
-
-fn blank_positions(g: Game) -> usize {
-    g.kept.iter().filter(|p| **p == BLANK_POSITION).count()
-}
 
 fn game(rt: &impl Print, g: Game) -> io::Result<()> {
     print!(rt; ", kept {}", g.len)?;
     print!(rt; ", counters {} {}", g.reversible, g.material)?;
-    print!(rt; ", {} blank", blank_positions(g))
+    print!(rt; ", {} blank", show::unused(&g.kept, &position::BLANK))
 }
 
 // Where a new game is refused, the empty one stands in its place.
@@ -82,31 +69,25 @@ pub(crate) fn played_text(
     came: Game,
     r: Result<PlayedText, Refusal>,
 ) -> io::Result<()> {
-    let played = r.unwrap_or(PlayedText {
-        game: came,
-        mv: BLANK,
-    });
     after_play(rt, came, r.map(|p| p.game))?;
     print!(rt; ", move ")?;
-    show::record(rt, played.mv)?;
+    show::record(rt, r.map_or(BLANK, |p| p.mv))?;
     println!(rt)
 }
 
-fn termination(rt: &impl Print, t: Termination) -> io::Result<()> {
+fn reason(t: Termination) -> &'static str {
     match t {
-        Termination::NoMoves => print!(rt; " no moves"),
-        Termination::Repetition => print!(rt; " repetition"),
-        Termination::TwentyFiveMoves => print!(rt; " 25 moves"),
-        Termination::SixteenMoves => print!(rt; " 16 moves"),
-        Termination::FiveMoves => print!(rt; " 5 moves"),
+        Termination::NoMoves => "no moves",
+        Termination::Repetition => "repetition",
+        Termination::TwentyFiveMoves => "25 moves",
+        Termination::SixteenMoves => "16 moves",
+        Termination::FiveMoves => "5 moves",
     }
 }
 
 fn outcome(rt: &impl Print, o: Outcome) -> io::Result<()> {
-    let text = o.result();
-    let why = o.termination;
-    rt.write_all(&text)?;
-    termination(rt, why)
+    rt.write_all(&o.result())?;
+    print!(rt; " {}", reason(o.termination))
 }
 
 pub(crate) fn judged(rt: &impl Print, j: Result<Option<Outcome>, Refusal>) -> io::Result<()> {

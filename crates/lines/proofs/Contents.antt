@@ -7,16 +7,17 @@ use native.Mathlib.Omega.{arith}
 use lib.Dec.{leb}
 use lib.ListN.{length, take, drop, set, length-append, length-drop, take-append-drop}
 use lib.Seq.{drop-drop, take-length, take_all, take_at, take-suc-set, take-append-add, take-append-le, drop-append-le, length-take-le, paste, take-paste}
-use borrow.Author.Tests.{leb-true, leb-false}
+use borrow.Author.Tests.{leb-true, leb-false, ltb-true, ltb-false}
 use borrow.Rule.Slice.PartMut.{put_mid, post_of, same_len_mid}
-use Rattle.texts.proofs.Cuts.{rest}
-use Rattle.texts.specs.Bytes.{bytes, is, index_of}
+use Rattle.texts.proofs.Cuts.{rest, holds_found, index_le, up_to_is, after_is}
+use Rattle.texts.specs.Bytes.{bytes, is, holds, up_to, after_first, index_of}
 use Rattle.texts.specs.Lent.{written}
 use Rattle.wording.specs.Words.{same_text}
 use Rattle.texts.proofs.Pieces.{written_length, starts}
 use Rattle.requests.specs.Requests.{help_text, longest, answer_room, answer_of}
 use Rattle.request_laws.proofs.Room.{answer_short}
 use Rattle.line_laws.specs.Lines.{whole_of, open_line, carried_of, last_answer}
+use Rattle.line_laws.specs.Steps.{Answered}
 use Rattle.line_laws.proofs.LineLaws.{whole_le}
 use Rattle.line_laws.proofs.StepLaws.{Answering, start, answered, finished, full}
 use Rattle.std.specs.Prelude.{Option, IsTrue, ◌↔◌}
@@ -95,29 +96,52 @@ lines_none s new e =
 pub all_left : (s : List ℕ) → s ≡ drop (length s - length s) s
 all_left s = let z : length s - length s ≡ 0 = omega arith in sym (ap (λ (k : ℕ). drop k s) z)
 
-module _ (s left : List ℕ) (q : left ≡ drop (length s - length left) s) (n : ℕ) (h : n ≤ length left) where
-  next_place : length s - length (take (length left - n) (drop n left)) ≡ (length s - length left) + n
-  next_place = omega (arith, h, ap length q, length-drop (length s - length left) s, ap length (rest left n), length-drop n left)
+-- left has a line feed, and after it comes what is left then
+module _ (left after : List ℕ) (h : holds 10 left ≡ true) (r : after ≡ after_first 10 left) where
+  feed_inside : index_of (is 10) left < length left
+  feed_inside = ltb-true _ _ (holds_found 10 left ∙ h)
 
-  pub next_left : take (length left - n) (drop n left) ≡ drop (length s - length (take (length left - n) (drop n left))) s
-  next_left =
-      rest left n ∙ ap (drop n) q ∙ drop-drop n (length s - length left) s ∙ ap (λ (k : ℕ). drop k s) (sym next_place)
+  after_drop : after ≡ drop (index_of (is 10) left + 1) left
+  after_drop = r ∙ after_is 10 left
 
-pub lines_next : (s left old new : List ℕ) (n : ℕ) → left ≡ drop (length s - length left) s
-    → Answering answer_of s 0 old (length s - length left) (length old)
-    → n ≡ index_of (is 10) left → n ≤ length left → (n ≡ length left → ⊥)
-    → new ≡ old ++ (answer_of (take n left) ++ (10 ∷ []))
-    → Answering answer_of s 0 new (length s - length (take (length left - (n + 1)) (drop (n + 1) left))) (length new)
-lines_next s left old new n q g e h f a =
-    let at = length s - length left in
-    let k : at + n + 1 ≡ length s - length (take (length left - (n + 1)) (drop (n + 1) left)) =
-    omega (arith, next_place s left q (n + 1) (omega (arith, h, f))) in
-    subst (λ (k : ℕ). Answering answer_of s 0 new k (length new)) k
-    (answered answer_of s 0 old at (length old) g left q n e new (length new) (omega (arith, h, f)) (omega arith)
-    (take-length new ∙ a ∙ ap (λ (x : List ℕ). x ++ (answer_of (take n left) ++ (10 ∷ []))) (sym (take-length old))))
+  after_length : length after ≡ length left - (index_of (is 10) left + 1)
+  after_length = ap length after_drop ∙ length-drop (index_of (is 10) left + 1) left
+
+  pub left_shorter : length after < length left
+  left_shorter = omega (arith, after_length, feed_inside)
+
+  module _ (s : List ℕ) (q : left ≡ drop (length s - length left) s) where
+    next_place : length s - length after ≡ (length s - length left) + index_of (is 10) left + 1
+    next_place = omega (arith, after_length, feed_inside, ap length q, length-drop (length s - length left) s)
+
+    pub next_left : after ≡ drop (length s - length after) s
+    next_left =
+        let n = index_of (is 10) left + 1 in
+        let k : (length s - length left) + n ≡ length s - length after = omega (arith, next_place) in
+        after_drop ∙ ap (drop n) q ∙ drop-drop n (length s - length left) s ∙ ap (λ (k : ℕ). drop k s) k
+
+    pub lines_next : (line old new : List ℕ) → Answering answer_of s 0 old (length s - length left) (length old)
+        → line ≡ up_to 10 left → new ≡ old ++ (answer_of line ++ (10 ∷ []))
+        → Answering answer_of s 0 new (length s - length after) (length new)
+    lines_next line old new g e a =
+        let at = length s - length left in
+        let n = index_of (is 10) left in
+        let f : take (length new) new ≡ take (length old) old ++ (answer_of (take n left) ++ (10 ∷ [])) =
+        take-length new ∙ a ∙ ap (λ (x : List ℕ). x ++ (answer_of line ++ (10 ∷ []))) (sym (take-length old))
+        ∙ ap (λ (x : List ℕ). take (length old) old ++ (answer_of x ++ (10 ∷ []))) (e ∙ up_to_is 10 left) in
+        subst (λ (k : ℕ). Answering answer_of s 0 new k (length new)) (sym next_place)
+        (answered answer_of s 0 old at (length old) g left q n refl new (length new) feed_inside (omega arith) f)
+
+-- no line feed is left
+pub lines_end : (s left out : List ℕ) → left ≡ drop (length s - length left) s
+    → Answering answer_of s 0 out (length s - length left) (length out) → holds 10 left ≡ false
+    → Answered answer_of s 0 out (length s - length left) (length out)
+lines_end s left out q g h =
+    let l = ltb-false (index_of (is 10) left) (length left) (holds_found 10 left ∙ h) in
+    finished answer_of s 0 out (length s - length left) (length out) g left q (index_of (is 10) left) refl (omega (arith, l, index_le (is 10) left))
 
 -- what shows which lines were answered
-pub ruleset line_rules = (lines_none, all_left, next_left, finished, full, some_put)
+pub ruleset line_rules = (lines_none, all_left, left_shorter, lines_end, full, some_put)
 
 -- ---- a read into the buffer after the bytes that were carried over
 module _ (buf part now : List ℕ) (count m : ℕ) (long : length buf ≡ m) (h : count < m) (v : take count buf ≡ now)
@@ -186,18 +210,26 @@ module _ (buf new now : List ℕ) (used full r : ℕ) (v : take full buf ≡ now
       ap (drop used) (sym (take-append-drop full buf))
       ∙ drop-append-le used (take full buf) (drop full buf) (omega (arith, low, length-take-le full buf in-buf))
 
-  pub carried : new ≡ paste buf 0 (drop used buf) (used + r - used) → take r new ≡ carried_of longest now
+  -- by the first bytes of the new buffer
+  pub first_carried : take (used + r - used) new ≡ take (used + r - used) (drop used buf) → take r new ≡ carried_of longest now
   unfolding carried_of open_line
-  carried m =
+  first_carried m =
       let z : used + r - used ≡ r = omega arith in
       let d = drop used (take full buf) in
       let j : r ≡ min (longest + 1) (length d) = omega (arith, k, kept_length) in
-      let o : 0 + r ≡ r = omega arith in
-      ap (take r) (m ∙ ap (paste buf 0 (drop used buf)) z) ∙ ap (λ (n : ℕ). take n (paste buf 0 (drop used buf) r)) (sym o)
-      ∙ take-paste buf 0 (drop used buf) r (omega arith) (omega (arith, k, low, length-drop used buf))
+      ap (λ (n : ℕ). take n new) (sym z) ∙ m ∙ ap (λ (n : ℕ). take n (drop used buf)) z
       ∙ ap (take r) kept_part ∙ take-append-le r d (drop full buf) (omega (arith, k, low, kept_length))
       ∙ ap (λ (n : ℕ). take n d) j ∙ take_min (longest + 1) d
       ∙ ap (take (longest + 1)) (ap (drop used) v ∙ ap (λ (n : ℕ). drop n now) e)
+
+  -- by the copy of them
+  pub carried : new ≡ paste buf 0 (drop used buf) (used + r - used) → take r new ≡ carried_of longest now
+  carried m =
+      let n = used + r - used in
+      let o : 0 + n ≡ n = omega arith in
+      first_carried
+      (ap (take n) m ∙ ap (λ (i : ℕ). take i (paste buf 0 (drop used buf) n)) (sym o)
+      ∙ take-paste buf 0 (drop used buf) n (omega arith) (omega (arith, k, low, length-drop used buf)))
 
 -- what shows what is carried over
 pub ruleset carry_rules = (seen, whole_le, carried)

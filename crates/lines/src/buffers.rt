@@ -125,11 +125,11 @@ impl Answers {
         let mut rest = s;
         // The rest gets shorter by whole lines, until there is none or no more room. It is the result.
         while self.has_room() {
-            let Some(n) = bytes::position(rest, b'\n') else {
+            let (line, Some(after)) = bytes::cut_at(rest, b'\n') else {
                 return rest;
             };
-            self.answer(&rest[..n]);
-            rest = &rest[n + 1..];
+            self.answer(line);
+            rest = after;
         }
         rest
     }

@@ -107,7 +107,8 @@ impl<W: Write> AnswerWriter<W> {
         Err(Failure::Read)
     }
 
-    // Writes the answer to the arguments, given as one line. Standard input is not read.
+    // Writes the answer to the arguments, given as one line. Standard input is not read. (One function for this
+    // and `write_last` would take the answer as a closure, and be no shorter.)
     fn answer_given(&mut self, line: &[u8]) -> Result<(), Failure>
         ensures { Put self.old self.new (given_output line.now) result }
     {

@@ -25,7 +25,7 @@ use captures::view::{Sets, View};
 use positions::moves::Move;
 use positions::position::Position;
 use squares::bitboard;
-use squares::refusal::Refusal;
+use squares::refusal::{Guard, Refusal};
 
 // A side with more kings than this skips the short list of captures.
 const FEW_KINGS: u32 = 3;

@@ -21,13 +21,13 @@ use crate::{movegen, playing};
 use captures::pieces::{ROOM, all_captures};
 use captures::view::{Sets, View};
 use positions::position::Position;
-use squares::refusal::Refusal;
+use squares::refusal::{Guard, Refusal};
 
 // The largest depth: 256^7 still fits in 64 bits.
 pub const MAX_DEPTH: u32 = 7;
 
-// The first moves and the count after each; unused counts are 0. The list is as `legal_moves` hands it out, so the
-// counts are beside it.
+// The first moves and the count after each; unused counts are 0. Callers are promised the list as `legal_moves` hands
+// it out, so the counts are beside it.
 #[derive(Clone, Copy)]
 pub struct Divided {
     pub list: MoveList,
@@ -81,6 +81,7 @@ fn count(v: View, depth: u32) -> Result<u64, Refusal>
     let Some(list) = movegen::generate(v) else {
         return Err(Refusal::TooManyMoves);
     };
+    // A `try_fold` would have the same step in a closure.
     let mut sum: u64 = 0;
     for &mv in list.entries() {
         sum += count(playing::next(v, mv), depth - 1)?;
@@ -105,7 +106,7 @@ fn split(v: View, plies: u32) -> Result<Divided, Refusal>
 {
     let list = movegen::generate(v).ok_or(Refusal::TooManyMoves)?;
     let mut counts = [0u64; 256];
-    // Not `zip(&mut counts)`: a proof of such a loop cannot name the counts, so it knows nothing of what it stores.
+    // Over `zip(&mut counts)` this was tried: the proof does not close, since it cannot name the counts that are stored.
     for (i, &mv) in list.entries().iter().enumerate() {
         counts[i] = count(playing::next(v, mv), plies)?;
     }

@@ -1,7 +1,12 @@
 -- Reading a move's text: one separator is enough to split at; one square more.
 use Rattle.std.specs.Prelude.{Err, Ok, Result}
+use Rattle.std.specs.Result.{is_ok}
 use Rattle.std.specs.List.{list_any}
-use Prim.Native.Nat.{ℕ, ◌+◌}
+use Prim.Native.Nat.{ℕ, suc, ◌+◌, ◌<◌}
+use native.Mathlib.Omega.{arith}
+use native.Mathlib.Numerals.{add-one}
+use lib.ListN.{length, drop, get_or, drop_of_length-le}
+use lib.Seq.{drop-cons}
 use mathlib.Core.Path.{◌≡◌, refl, sym, ap, ap₂, ◌∙◌}
 use mathlib.Core.List.{List, [], ◌∷◌}
 use mathlib.Core.Bool.{Bool, true, false, cond, ◌&&◌, ◌||◌}
@@ -51,6 +56,32 @@ one_more h n = go (eqb h.count 0) refl (eqb h.count 1) refl
     go true e t f = ap (λ (x : ℕ). x + 1) (sym (eqb-true h.count 0 e))
     go false e true f = ap (λ (x : ℕ). x + 1) (sym (eqb-true h.count 1 f))
     go false e false f = refl
+
+-- w is what is heard of all the parts, after k of them
+module _ (all : List (List ℕ)) (h : Said) (k : ℕ) (w : Result Said Refusal) (g : heard_squares h (drop k all) ≡ w) where
+  pub heard_end : k ≡ length all → Ok h ≡ w
+  unfolding heard_squares
+  heard_end e = ap (heard_squares h) (sym (drop_of_length-le all (omega (arith, e)))) ∙ g
+
+  -- a is what is read of the next part
+  module _ (t : List ℕ) (l : k < length all) (e : t ≡ get_or all k t) {a : Result ℕ Refusal} (q : a ≡ read_square t) where
+    one_part : on_square a (λ n. heard_squares (heard_square h n) (drop (k + 1) all)) ≡ w
+    unfolding heard_squares
+    one_part =
+        ap (λ (a : Result ℕ Refusal). on_square a (λ n. heard_squares (heard_square h n) (drop (k + 1) all))) q
+        ∙ ap (λ (n : ℕ). heard_squares h (t ∷ drop n all)) (add-one k)
+        ∙ ap (λ (y : List ℕ). heard_squares h (y ∷ drop (suc k) all)) e
+        ∙ ap (heard_squares h) (sym (drop-cons all k t l)) ∙ g
+
+    pub heard_next : {n : ℕ} → a ≡ Ok n → heard_squares (heard_square h n) (drop (k + 1) all) ≡ w
+    heard_next z = sym (ap (λ (a : Result ℕ Refusal). on_square a (λ n. heard_squares (heard_square h n) (drop (k + 1) all))) z) ∙ one_part
+
+    pub heard_stop : is_ok a ≡ false → malformed ≡ w
+    heard_stop z = go a z ∙ one_part
+      where
+        go : (a : Result ℕ Refusal) → is_ok a ≡ false → malformed ≡ on_square a (λ n. heard_squares (heard_square h n) (drop (k + 1) all))
+        go (Ok n) z = absurd (let q : true ≡ false = z in cc)
+        go (Err x) z = refl
 
 -- ---- the form
 

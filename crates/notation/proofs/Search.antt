@@ -1,16 +1,16 @@
 -- The search for the moves that fit, and what it answers on a position.
 use Rattle.std.specs.Prelude.{Err, Ok, Result, None, Some, Option}
 use Rattle.std.specs.List.{filter}
-use Rattle.std.specs.Option.{unwrap_or}
+use Rattle.std.specs.Option.{unwrap_or, option_or}
 use Rattle.std.specs.Iterator.{AlwaysYields}
 use mathlib.Core.Path.{◌≡◌, refl, ap, ◌∙◌}
 use native.Mathlib.Omega.{arith}
-use Prim.Native.Nat.{ℕ, ◌<◌, ◌≤◌}
-use mathlib.Core.Bool.{Bool, true, false, cond}
+use Prim.Native.Nat.{ℕ}
+use mathlib.Core.Bool.{Bool, true, false, cond, ◌&&◌}
 use mathlib.Core.List.{List, [], ◌∷◌}
 use lib.ListN.{length}
-use lib.Dec.{leb}
-use borrow.Author.Tests.{leb-true, lt-ltb, le-ltb}
+use lib.Dec.{leb, ltb}
+use borrow.Author.Tests.{leb-true}
 use Rattle.squares.specs.declared.refusal.Refusal.{Refusal}
 use Rattle.squares.specs.declared.refusal.Refusal.TheVariants.{BadPosition, TooManyMoves, SeveralFit, NoMoveFits}
 use Rattle.positions.specs.Acceptance.{sound}
@@ -51,39 +51,34 @@ module _ {S A : Type 0} (steps : S → Option A → S → Type 0) (v : A → Mov
 
 -- ---- Hub first
 module _ (h : Said) (l : List Move) where
-  -- what the move that fits by its first and last square answers
-  abbrev ends : Result Move Refusal
-  ends = unwrap_or (only_of (filter (by_ends h) l)) (Err NoMoveFits)
+  -- the first of two answers, by the moves of two lists
+  first : (j k : List Move) → unwrap_or (option_or (only_of j) (only_of k)) (Err NoMoveFits) ≡ only (or_else j k)
+  unfolding only or_else
+  first [] [] = refl
+  first [] (m ∷ k) = refl
+  first (m ∷ j) k = refl
 
-  ends_only : ends ≡ only (keep (by_ends h) l)
-  unfolding only
-  ends_only = ap (λ (k : List Move). unwrap_or (only_of k) (Err NoMoveFits)) (filter_keep (by_ends h) l) ∙ go (keep (by_ends h) l)
+  none_kept : (k : List Move) → filter (λ (m : Move). false) k ≡ []
+  none_kept [] = refl
+  none_kept (m ∷ k) = none_kept k
+
+  -- the moves that fit as Hub, where the text has three squares or more
+  abbrev pub hub_fits : Move → Bool
+  hub_fits m = ltb 2 h.count && as_hub h m
+
+  pub chosen : unwrap_or (option_or (only_of (filter hub_fits l)) (only_of (filter (by_ends h) l))) (Err NoMoveFits) ≡ only (fitting h l)
+  unfolding fitting keep or_else
+  chosen = go (ltb 2 h.count)
     where
-      go : (k : List Move) → unwrap_or (only_of k) (Err NoMoveFits) ≡ only k
-      go [] = refl
-      go (m ∷ k) = refl
+      answer : List Move → Result Move Refusal
+      answer j = unwrap_or (option_or (only_of j) (only_of (filter (by_ends h) l))) (Err NoMoveFits)
 
-  -- a move fits as Hub
-  pub hub_said : (x : Result Move Refusal) → 2 < h.count → Some x ≡ only_of (filter (as_hub h) l) → x ≡ only (fitting h l)
-  unfolding fitting or_else
-  hub_said x c e = rw (lt-ltb 2 h.count c) (go (keep (as_hub h) l) (e ∙ ap only_of (filter_keep (as_hub h) l)))
-    where
-      go : (k : List Move) → Some x ≡ only_of k → x ≡ only (or_else k (keep (by_ends h) l))
-      go [] e = absurd (let z : ◌≡◌ {A = ℕ} 0 1 = cc in omega arith)
-      go (m ∷ k) e = cc
+      ends : (j : List Move) → answer j ≡ only (or_else j (keep (by_ends h) l))
+      ends j = first j (filter (by_ends h) l) ∙ ap (λ (k : List Move). only (or_else j k)) (filter_keep (by_ends h) l)
 
-  -- none does
-  pub hub_unsaid : 2 < h.count → None ≡ only_of (filter (as_hub h) l) → ends ≡ only (fitting h l)
-  unfolding fitting or_else
-  hub_unsaid c e = ends_only ∙ rw (lt-ltb 2 h.count c) (go (keep (as_hub h) l) (e ∙ ap only_of (filter_keep (as_hub h) l)))
-    where
-      go : (k : List Move) → None ≡ only_of k → only (keep (by_ends h) l) ≡ only (or_else k (keep (by_ends h) l))
-      go [] e = refl
-      go (m ∷ k) e = absurd (let z : ◌≡◌ {A = ℕ} 0 1 = cc in omega arith)
-
-  pub two_said : h.count ≤ 2 → ends ≡ only (fitting h l)
-  unfolding fitting
-  two_said c = ends_only ∙ rw (le-ltb 2 h.count c) refl
+      go : (t : Bool) → answer (filter (λ (m : Move). t && as_hub h m) l) ≡ only (cond t (or_else (keep (as_hub h) l) (keep (by_ends h) l)) (keep (by_ends h) l))
+      go true = ap answer (filter_keep (as_hub h) l) ∙ ends (keep (as_hub h) l)
+      go false = ap answer (none_kept l) ∙ first [] (filter (by_ends h) l) ∙ ap (λ (k : List Move). only (or_else [] k)) (filter_keep (by_ends h) l)
 
 -- ---- on a position
 module _ (p : Position) (h : Said) where

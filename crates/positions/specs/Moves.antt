@@ -1,11 +1,15 @@
 -- The move record: first square, last square, and the set of pieces taken (docs/RULES.md, "Legal moves").
 use Rattle.std.specs.Prelude.{ℕ, Bool, not, ◌&&◌, eqb}
-use Rattle.squares.specs.Squares.{is_square, squares_only}
+use Rattle.squares.specs.Squares.{is_square, first_of, squares_only}
 use Rattle.positions.specs.declared.moves.Move.{Move}
 
 -- the record of a move
 abbrev pub move : ℕ → ℕ → ℕ → Move
 move from to captured = record { captured = captured; from = from; to = to }
+
+-- the same, where each square is given as a set of one bit
+abbrev pub by_bits : ℕ → ℕ → ℕ → Move
+by_bits from to captured = move (first_of from) (first_of to) captured
 
 -- whether the move takes a piece
 unfoldable pub is_capture : Move → Bool

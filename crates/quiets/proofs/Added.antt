@@ -1,21 +1,15 @@
--- Moves put in one by one: bit by bit, along a ray and direction by direction. Where one has no room, none is put in after it.
+-- Moves put in one by one: bit by bit, and square by square. Where one has no room, none is put in after it.
 use Rattle.std.specs.Prelude.{Result, Ok, Err}
 use mathlib.Core.Path.{◌≡◌, refl, sym, ap, ap₂, ◌∙◌}
-use mathlib.Core.Bool.{Bool, true, false}
 use mathlib.Core.List.{List, [], ◌∷◌, ◌++◌, map, flat_map}
-use Prim.Native.Nat.{ℕ, zero, suc, ◌+◌, ◌-◌, ◌^◌, ◌<◌}
-use native.Mathlib.Numerals.{add-one}
-use native.Mathlib.Omega.{arith}
+use Prim.Native.Nat.{ℕ, ◌-◌, ◌^◌, ◌<◌}
 use lib.Bits.{bit_and}
-use lib.Dec.{eqb}
-use borrow.Author.Tests.{eqb-true, eqb-false}
 use Rattle.squares.specs.Sets.{lowest, members}
 use Rattle.squares.specs.Directions.{direction_at, shifted}
 use Rattle.squares.proofs.Members.{members_cons, members_none}
 use Rattle.squares.proofs.Pointwise.{and_lt}
 use Rattle.positions.specs.declared.moves.Move.{Move}
 use Rattle.captures.specs.declared.moves.MoveList.{MoveList}
-use Rattle.captures.specs.Walks.{up_to}
 use Rattle.captures.specs.Lists.{put_of}
 use Rattle.quiets.specs.Quiets.{then_put, put_all, quiet_move, step_move}
 
@@ -81,7 +75,7 @@ unfolding flat_map
 ones g [] = refl
 ones g (x ∷ l) = ap (λ (r : List Move). g x ∷ r) (ones g l)
 
--- ---- along a ray
+-- ---- square by square
 -- what is left comes to x, and the first of it is m
 module _ (l : MoveList) (m : Move) (ms : List Move) (x : Result MoveList MoveList) (w : put_all l (m ∷ ms) ≡ x) where
   pub next_in : (r : MoveList) → Ok r ≡ put_of l m → put_all r ms ≡ x
@@ -95,26 +89,6 @@ module _ (l : MoveList) (m : Move) (ms : List Move) (x : Result MoveList MoveLis
 pub all_in : (l : MoveList) (x : Result MoveList MoveList) → put_all l [] ≡ x → Ok l ≡ x
 unfolding put_all
 all_in l x w = w
-
--- ---- direction by direction
-module _ (g : ℕ → List Move) (l : MoveList) where
-  pub walk_start : Ok l ≡ put_all l (up_to g 0)
-  unfolding up_to put_all
-  walk_start = refl
-
-  pub walk_on : (s r : MoveList) (k : ℕ) → Ok s ≡ put_all l (up_to g k) → Ok r ≡ put_all s (g k) → Ok r ≡ put_all l (up_to g (k + 1))
-  unfolding up_to
-  walk_on s r k w e = e ∙ sym (rw add-one (put_on l (up_to g k) (g k) s w))
-
-  -- what one direction has no room for, all have not
-  pub walk_stop : (s r : MoveList) (k n : ℕ) → k < n → Ok s ≡ put_all l (up_to g k) → Err r ≡ put_all s (g k) → Err r ≡ put_all l (up_to g n)
-  unfolding up_to
-  walk_stop s r k zero h w e = absurd (omega arith)
-  walk_stop s r k (suc n) h w e = go (eqb k n) refl (λ lt. walk_stop s r k n lt w e)
-    where
-      go : (b : Bool) → eqb k n ≡ b → (k < n → Err r ≡ put_all l (up_to g n)) → Err r ≡ put_all l (up_to g n ++ g n)
-      go true q ih = let z = eqb-true k n q in e ∙ sym (ap (λ (j : ℕ). put_all l (up_to g j ++ g j)) (sym z) ∙ put_on l (up_to g k) (g k) s w)
-      go false q ih = let z = eqb-false k n q in sym (put_off l (up_to g n) (g n) r (ih (omega arith)))
 
 -- ---- the moves that the code makes
 pub step_made : (d at j back : ℕ) (m : Move) → at ≡ 2 ^ j → back ≡ shifted (direction_at (3 - d)) at → m ≡ quiet_move back at → m ≡ step_move d j

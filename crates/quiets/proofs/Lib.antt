@@ -3,3 +3,4 @@ pub mod Added
 pub mod Filled
 pub mod Forward
 pub mod Counts
+pub mod Flights

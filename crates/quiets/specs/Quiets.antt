@@ -4,11 +4,10 @@ use Rattle.std.specs.Prelude.{ℕ, ◌+◌, ◌-◌, ◌^◌, Option, Result, Ok
 use mathlib.Core.List.{List, [], ◌∷◌, ◌++◌, map, flat_map}
 use Rattle.std.specs.Int.Bits.{bit_and}
 use Rattle.squares.specs.Sets.{members}
-use Rattle.squares.specs.Squares.{first_of}
 use Rattle.squares.specs.Directions.{direction_at, shifted}
 use Rattle.squares.specs.declared.piece.Color.{Color}
 use Rattle.positions.specs.declared.moves.Move.{Move}
-use Rattle.positions.specs.Moves.{move}
+use Rattle.positions.specs.Moves.{by_bits}
 use Rattle.captures.specs.declared.moves.MoveList.{MoveList}
 use Rattle.captures.specs.Lists.{put_of, whole_list}
 use Rattle.captures.specs.Rays.{far, landings}
@@ -27,7 +26,7 @@ put_all l (m ∷ ms) = then_put (λ k. put_all k ms) (put_of l m)
 
 -- the quiet move between two squares, each given as a set of one bit
 abbrev pub quiet_move : ℕ → ℕ → Move
-quiet_move from to = move (first_of from) (first_of to) 0
+quiet_move from to = by_bits from to 0
 
 -- the step in the direction of index d that reaches bit z
 abbrev pub step_move : ℕ → ℕ → Move

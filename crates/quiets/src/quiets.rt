@@ -15,7 +15,6 @@ ghost use Rattle.squares.specs.Sets.{members};
 ghost use Rattle.squares.specs.Directions.{direction_at};
 ghost use Rattle.quiets.specs.Tests.{forward_of, steps_open, has_quiet_of, men_jump, king_open, any_in, has_capture_of};
 ghost use Rattle.quiets.specs.Quiets.{
-  quiet_move,
   put_all,
   men_steps,
   flight_of,
@@ -92,30 +91,18 @@ pub fn has_capture(s: Sets) -> bool
     (0..4).any(|d| men_jump(s, d)) | kings_open(s)
 }
 
-// The quiet move between two squares, each given as a set of one bit.
-fn quiet_move(from: Bitboard, to: Bitboard) -> Move
-    ensures { result ≡ quiet_move from to }
-{
-    Move {
-        captured: 0,
-        from: bitboard::first(from),
-        to: bitboard::first(to),
-    }
-}
-
 // The men's steps in direction `d`, by the bit reached.
 #[inline(always)]
 fn put_steps(list: &mut MoveList, s: Sets, d: usize) -> Option<()>
     ensures { kept list.new result ≡ put_all list.old (men_steps s.men s.empty d) }
 {
     for at in Singles(bitboard::shift(s.men, d) & s.empty) {
-        list.put(quiet_move(bitboard::shift(at, opposite(d)), at))?;
+        list.put(Move::by_bits(bitboard::shift(at, opposite(d)), at, 0))?;
     }
     Some(())
 }
 
-// A king on the square `at`, and the empty squares over which it flies. Its moves are put and counted by functions of
-// their own. One iterator over its squares in all directions would count the directions by hand.
+// A king on the square `at`, and the empty squares over which it flies.
 #[derive(Clone, Copy)]
 struct Flyer {
     at: Bitboard,
@@ -131,40 +118,22 @@ impl Flyer {
         Ray::new(self.at, d, self.empty)
     }
 
-    // Its moves in direction `d`.
-    #[inline(always)]
-    fn put_flight(self, list: &mut MoveList, d: usize) -> Option<()>
-        ensures { kept list.new result ≡ put_all list.old (flight_of self.at self.empty d) }
-    {
-        for land in self.flight(d) {
-            list.put(quiet_move(self.at, land))?;
-        }
-        Some(())
-    }
-
     // Its moves, by direction.
     #[inline(always)]
     fn put_moves(self, list: &mut MoveList) -> Option<()>
         ensures { kept list.new result ≡ put_all list.old (up_to (flight_of self.at self.empty) 4) }
     {
-        for d in 0..4 {
-            self.put_flight(list, d)?;
+        for to in (0..4).flat_map(|d| self.flight(d)) {
+            list.put(Move::by_bits(self.at, to, 0))?;
         }
         Some(())
-    }
-
-    // The number of its moves in direction `d`.
-    fn flight_count(self, d: usize) -> u32
-        ensures { result ≡ length (flight_of self.at self.empty d) }
-    {
-        self.flight(d).count() as u32
     }
 
     // The number of its moves.
     fn count(self) -> u32
         ensures { result ≡ length (up_to (flight_of self.at self.empty) 4) }
     {
-        (0..4).map(|d| self.flight_count(d)).sum()
+        (0..4).flat_map(|d| self.flight(d)).count() as u32
     }
 }
 

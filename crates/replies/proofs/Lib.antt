@@ -1,2 +1,3 @@
 pub mod Told
+pub mod Founds
 pub mod Listing

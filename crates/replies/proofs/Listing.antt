@@ -1,11 +1,13 @@
--- One move more of a list.
-use Prim.Native.Nat.{ℕ, ◌+◌, ◌<◌}
-use mathlib.Core.Path.{◌≡◌, refl, ap, sym, ◌∙◌}
-use mathlib.Core.List.{List, [], ◌∷◌}
+-- One move more of a list, and all of them.
+use Prim.Native.Nat.{ℕ, ◌+◌, ◌≤◌, ◌<◌}
+use mathlib.Core.Path.{◌≡◌, ap, sym, ◌∙◌}
+use mathlib.Core.List.{List, [], ◌∷◌, ◌++◌, map}
 use native.Mathlib.Numerals.{add-one}
 use native.Mathlib.Omega.{arith}
-use lib.ListN.{length, take, get_or, length-take}
-use Rattle.std.proofs.lemmas.List.{get_or-take}
+use lib.ListN.{length, take, get_or}
+use lib.Seq.{take-suc, take_all}
+use denote.Ref.{Bor}
+use Rattle.std.proofs.lemmas.List.{flat_map_more, map-append}
 use Rattle.positions.specs.declared.moves.Move.{Move}
 use Rattle.captures.specs.Lists.{blank}
 use Rattle.texts.specs.Lent.{over}
@@ -14,32 +16,41 @@ use Rattle.wording.specs.Output.{decimal}
 use Rattle.texts.proofs.Overs.{over_none, over_then, over_as}
 use Rattle.replies.specs.Answers.{move_word, moves_text, counts_text}
 
-pub moves_none : (ms : List Move) (s : Space) → s ≡ over (moves_text ms 0) s
+pub moves_none : (s : Space) → s ≡ over (moves_text []) s
 unfolding moves_text
-moves_none ms s = sym (over_none s)
+moves_none s = sym (over_none s)
 
--- an entry among the first k of a list
-entry_of : (l ms : List Move) (k n : ℕ) (m : Move) → l ≡ take k ms → n < length l → m ≡ get_or l n blank → m ≡ get_or ms n blank
-entry_of l ms k n m i h e =
-    e ∙ ap (λ (x : List Move). get_or x n blank) i ∙ get_or-take k ms n blank (omega (arith, h, length-take k ms, ap (λ (x : List Move). length x) i))
-
-pub moves_next : (l ms : List Move) (k n : ℕ) (a b c d : Space) → l ≡ take k ms → n < length l → b ≡ over (moves_text ms n) a → c ≡ over (32 ∷ []) b
-    → d ≡ over (move_word (get_or l n blank)) c → d ≡ over (moves_text ms (n + 1)) a
+moves_more : (l : List Move) (m : Move) → moves_text l ++ (32 ∷ move_word m) ≡ moves_text (l ++ (m ∷ []))
 unfolding moves_text
-moves_next l ms k n a b c d i h x y z =
-    over_as _ _ a d (ap (moves_text ms) (sym (add-one n)))
-    (over_then _ _ a b d x (over_then _ _ b c d y (over_as _ _ c d (ap move_word (entry_of l ms k n _ i h refl)) z)))
+moves_more l m = flat_map_more (λ (x : Move). 32 ∷ move_word x) [] l m
 
-pub counts_none : (ms : List Move) (cs : List ℕ) (s : Space) → s ≡ over (counts_text ms cs 0) s
-unfolding counts_text
-counts_none ms cs s = sym (over_none s)
+-- one more of the first moves
+pub moves_next : (l k : List Move) (n : ℕ) (a b c d : Space) → k ≡ l → n < length k → b ≡ over (moves_text (take n l)) a → c ≡ over (32 ∷ []) b
+    → d ≡ over (move_word (get_or k n blank)) c → d ≡ over (moves_text (take (n + 1) l)) a
+moves_next l k n a b c d i h x y z =
+    let e : take n k ++ (get_or k n blank ∷ []) ≡ take (n + 1) l = sym (take-suc k n blank h) ∙ ap (λ (m : ℕ). take m k) (sym (add-one n)) ∙ ap (take (n + 1)) i in
+    over_as _ _ a d (moves_more (take n k) (get_or k n blank) ∙ ap moves_text e)
+    (over_then _ _ a b d (over_as _ _ a b (ap (λ (m : List Move). moves_text (take n m)) (sym i)) x) (over_then (32 ∷ []) _ b c d y z))
 
-pub counts_next : (l ms : List Move) (cs : List ℕ) (k n j : ℕ) (m : Move) (q : ℕ) (a b c d e f : Space) → l ≡ take k ms → n < length l → j ≡ n + 1
-    → m ≡ get_or l n blank → q ≡ get_or cs n 0 → b ≡ over (counts_text ms cs n) a → c ≡ over (32 ∷ []) b → d ≡ over (move_word m) c
-    → e ≡ over (61 ∷ []) d → f ≡ over (decimal q) e → f ≡ over (counts_text ms cs j) a
+pub moves_all : (l k : List Move) (n : ℕ) (a b : Space) → k ≡ l → length k ≤ n → b ≡ over (moves_text (take n l)) a → b ≡ over (moves_text l) a
+moves_all l k n a b i h x = over_as _ _ a b (ap moves_text (take_all n l (omega (arith, h, ap length i)))) x
+
+-- the moves and counts that pairs of references lead to
+abbrev pub paired : List (Bor Move × Bor ℕ) → List (Move × ℕ)
+paired y = map (λ (p : Bor Move × Bor ℕ). (p.0.now, p.1.now)) y
+
+pub counts_none : (s : Space) → s ≡ over (counts_text []) s
 unfolding counts_text
-counts_next l ms cs k n j m q a b c d e f i h r s t v w x y z =
-    over_as _ _ a f (ap (counts_text ms cs) (sym (add-one n) ∙ sym r))
-    (over_then _ _ a b f v
-    (over_then _ _ b c f w
-    (over_then _ _ c d f (over_as _ _ c d (ap move_word (entry_of l ms k n m i h s)) x) (over_then _ _ d e f y (over_as _ _ e f (ap decimal t) z)))))
+counts_none s = sym (over_none s)
+
+counts_more : (l : List (Move × ℕ)) (p : Move × ℕ) → counts_text l ++ (32 ∷ (move_word p.0 ++ (61 ∷ decimal p.1))) ≡ counts_text (l ++ (p ∷ []))
+unfolding counts_text
+counts_more l p = flat_map_more (λ (q : Move × ℕ). 32 ∷ (move_word q.0 ++ (61 ∷ decimal q.1))) [] l p
+
+-- one more of the pairs
+pub counts_next : (y : List (Bor Move × Bor ℕ)) (p : Bor Move × Bor ℕ) (a b c d e f : Space) → b ≡ over (counts_text (paired y)) a
+    → c ≡ over (32 ∷ []) b → d ≡ over (move_word p.0.now) c → e ≡ over (61 ∷ []) d → f ≡ over (decimal p.1.now) e
+    → f ≡ over (counts_text (paired (y ++ (p ∷ [])))) a
+counts_next y p a b c d e f v w x k z =
+    over_as _ _ a f (counts_more (paired y) (p.0.now, p.1.now) ∙ ap counts_text (sym (map-append (λ (p : Bor Move × Bor ℕ). (p.0.now, p.1.now)) y (p ∷ []))))
+    (over_then _ _ a b f v (over_then (32 ∷ []) _ b c f w (over_then _ _ c d f x (over_then (61 ∷ []) _ d e f k z))))

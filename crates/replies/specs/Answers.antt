@@ -1,12 +1,12 @@
 -- What is written of a position, a move, a list of moves or a count.
-use Rattle.std.specs.Prelude.{◌≡◌, ℕ, zero, suc, min, List, [], ◌∷◌, ◌++◌, Bool, true, false, cond, get_or, length, ◌≤◌, Err, Ok, Result, ℤ}
+use Rattle.std.specs.Prelude.{◌≡◌, ℕ, List, [], ◌∷◌, ◌++◌, flat_map, zip, Bool, true, false, cond, length, ◌≤◌, Err, Ok, Result, ℤ}
 use denote.Ref.{MutBor}
 use Prim.Native.Char.{code}
 use Rattle.squares.specs.Pieces.{color_char}
 use Rattle.squares.specs.Squares.{bit_of, row_of, of_square}
 use Rattle.positions.specs.Moves.{squares_of}
 use Rattle.positions.specs.declared.moves.Move.{Move}
-use Rattle.captures.specs.Lists.{blank}
+use Rattle.captures.specs.Lists.{entries}
 use Rattle.positions.specs.Boards.{board_of}
 use Rattle.positions.specs.Acceptance.{sound}
 use Rattle.positions.specs.declared.position.Position.{Position}
@@ -105,25 +105,23 @@ square_answer n = ok (square_word n)
 unfoldable pub move_word : Move → List ℕ
 move_word m = cond (squares_of m) (move_text m) []
 
--- the first n of some moves, a space before each
-unfoldable pub moves_text : List Move → ℕ → List ℕ
-moves_text l zero = []
-moves_text l (suc n) = moves_text l n ++ (code " " ∷ move_word (get_or l n blank))
+-- some moves, a space before each
+unfoldable pub moves_text : List Move → List ℕ
+moves_text l = flat_map (λ m. code " " ∷ move_word m) l
 
 -- the same, each with its count
-unfoldable pub counts_text : List Move → List ℕ → ℕ → List ℕ
-counts_text l c zero = []
-counts_text l c (suc n) = counts_text l c n ++ (code " " ∷ (move_word (get_or l n blank) ++ (code "=" ∷ decimal (get_or c n 0))))
+unfoldable pub counts_text : List (Move × ℕ) → List ℕ
+counts_text l = flat_map (λ p. code " " ∷ (move_word p.0 ++ (code "=" ∷ decimal p.1))) l
 
 -- how many there are, then each
 abbrev pub list_word : MoveList → List ℕ
-list_word l = decimal l.len ++ moves_text l.moves (min l.len 256)
+list_word l = decimal l.len ++ moves_text (entries l)
 
 abbrev pub list_answer : Result MoveList Refusal → List ℕ
 list_answer r = on_ok r (λ l. ok (list_word l))
 
 abbrev pub divided_word : Divided → List ℕ
-divided_word d = decimal d.list.len ++ counts_text d.list.moves d.counts (min d.list.len 256)
+divided_word d = decimal d.list.len ++ counts_text (zip (entries d.list) d.counts)
 
 abbrev pub divided_answer : Result Divided Refusal → List ℕ
 divided_answer r = on_ok r (λ d. ok (divided_word d))

@@ -1,8 +1,10 @@
 // What is written of a position, a move, a list of moves or a count: `ok` and the answer, or the refusal.
 #![tactic(auto, using(texts::proofs::Overs::over_append, texts::proofs::Overs::over_none), unfolding(texts::specs::Lent::over, crate::specs::Answers::fen_answer, crate::specs::Answers::hub_answer, crate::specs::Answers::hash_answer, crate::specs::Answers::set_word, crate::specs::Answers::bits_answer, crate::specs::Answers::list_answer, crate::specs::Answers::divided_answer, crate::specs::Answers::record_word, crate::specs::Answers::move_answer))]
 
-ghost use Rattle.std.specs.Prelude.{◌≡◌, ◌∷◌, [], min};
+ghost use Rattle.std.specs.Prelude.{◌≡◌, ◌∷◌, [], zip};
 ghost use Rattle.std.specs.Fn.{FnOnceReturnsAtMut};
+ghost use Rattle.std.specs.Result.{result_ok};
+ghost use Rattle.captures.specs.Lists.{entries};
 ghost use Rattle.texts.specs.Lent.{over};
 ghost use Rattle.texts.specs.Bytes.{bytes};
 ghost use Rattle.wording.specs.Output.{hash};
@@ -49,17 +51,29 @@ pub fn put_ok(out: &mut Space)
     out.put(b"ok ");
 }
 
+// What was found. If it was refused, the refusal is written. (A function that gets what follows as a closure would have
+// a `requires`, which no public function has.)
+pub fn found<T>(out: &mut Space, r: Result<T, Refusal>) -> Option<T>
+    ensures value { result ≡ result_ok r }
+    ensures out_after { out.new ≡ over (on_ok r (λ _. [])) out.old }
+{
+    match r {
+        Ok(x) => Some(x),
+        Err(e) => {
+            output::put_refusal(out, e);
+            None
+        }
+    }
+}
+
 // `ok` and what `put` writes of what was found, or the refusal.
 pub(crate) fn tell<T, F: FnOnce(&mut Space, T)>(out: &mut Space, r: Result<T, Refusal>, put: F)
     requires { F.IsAlwaysCallable put }
     ensures { Tells (F.post put) r out.old out.new }
 {
-    match r {
-        Ok(x) => {
-            put_ok(out);
-            put(out, x);
-        }
-        Err(e) => output::put_refusal(out, e),
+    if let Some(x) = found(out, r) {
+        put_ok(out);
+        put(out, x);
     }
 }
 
@@ -173,9 +187,9 @@ pub fn put_move(out: &mut Space, m: Move)
 }
 
 // The moves of a list, a space before each.
-#[tactic(auto, using(crate::proofs::Listing::moves_none))]
+#[tactic(auto, using(crate::proofs::Listing::moves_none, crate::proofs::Listing::moves_next, crate::proofs::Listing::moves_all))]
 fn put_moves(out: &mut Space, list: MoveList)
-    ensures { out.new ≡ over (moves_text list.moves (min list.len 256)) out.old }
+    ensures { out.new ≡ over (moves_text (entries list)) out.old }
 {
     for &m in list.entries() {
         out.put_byte(b' ');
@@ -200,7 +214,7 @@ pub fn tell_list(out: &mut Space, l: Result<MoveList, Refusal>)
 // The first moves, each with its count.
 #[tactic(auto, using(crate::proofs::Listing::counts_none))]
 fn put_counts(out: &mut Space, d: Divided)
-    ensures { out.new ≡ over (counts_text d.list.moves d.counts (min d.list.len 256)) out.old }
+    ensures { out.new ≡ over (counts_text (zip (entries d.list) d.counts)) out.old }
 {
     for (&m, &count) in d.list.entries().iter().zip(&d.counts) {
         out.put_byte(b' ');

@@ -1,5 +1,6 @@
 // What is written of a game: the outcome, both counts, how often the position has occurred; at the end also the
-// position and the number of its legal moves.
+// position and the number of its legal moves. Winner and outcome are no `Display`: no contract says when `write!` into
+// a space answers `Ok`.
 #![tactic(auto, using(texts::proofs::Overs::over_append, texts::proofs::Overs::over_none), unfolding(texts::specs::Lent::over, crate::specs::States::plies_text, crate::specs::States::state_text, crate::specs::States::moves_word, crate::specs::States::end_text))]
 
 ghost use Rattle.std.specs.Prelude.{◌≡◌};
@@ -83,6 +84,8 @@ pub fn put_state(out: &mut Space, g: Game, mark: u8)
     answers::put_count(out, g.repetitions());
 }
 
+// The position, or nothing where it is refused. (`answers::put_count` does so with a number. One function for both would
+// be longer than the two.)
 fn put_stand(out: &mut Space, p: Result<Position, Refusal>)
     ensures { out.new ≡ over (stand_word p) out.old }
 {

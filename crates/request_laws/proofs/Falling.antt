@@ -40,7 +40,7 @@ use Rattle.captures.specs.declared.moves.MoveList.{MoveList}
 use Rattle.games.specs.declared.game.Game.{Game}
 use Rattle.games.specs.declared.game.Termination.{Termination}
 use Rattle.games.specs.declared.game.Termination.TheVariants.{NoMoves, Repetition, TwentyFiveMoves, SixteenMoves, FiveMoves}
-use Rattle.games.proofs.Stands.{room}
+use Rattle.games.proofs.Stands.{room_left}
 use Rattle.games.proofs.Window.{blank_sound}
 use Rattle.games.proofs.Valid.{valid_says, material_fits, alone_last, alone_long, alone_valid, more_last, more_long, more_valid}
 use Rattle.gametexts.specs.Texts.{beside, play_found, play_said, play_heard, play_str_of, played_on}
@@ -130,7 +130,7 @@ module _ (g : Game) (r : Good g) (m : Move) where
       let y = legal_playable b fair m ((listed_legal b fair m).0 l) in
       let q = position_of (successor b m) in
       let s = says_sound q (position_sound (successor b m) (successor_accepted b m a y)) in
-      let v = moved g r (room g o) m q s in
+      let v = moved g r (room_left g o) m q s in
       record { good = v.good; fallen = ap (λ (p : Position). pieces_on (board_of p) + size m.captured) v.last ∙ pieces_after b m a y }
 
   play_case : Case g m

@@ -1,24 +1,25 @@
 -- How long the texts are that answers consist of.
-use Rattle.std.specs.Prelude.{Err, Ok, Result}
-use Prim.Native.Nat.{ℕ, zero, suc, ◌+◌, ◌*◌, ◌/◌, ◌%◌, ◌≤◌, ◌<◌, min}
+use Rattle.std.specs.Prelude.{Err, Ok, Result, zip}
+use Rattle.std.proofs.lemmas.Slice.Zip.{length-zip}
+use Prim.Native.Nat.{ℕ, zero, suc, ◌+◌, ◌-◌, ◌*◌, ◌/◌, ◌%◌, ◌≤◌, ◌<◌, min}
 use mathlib.Core.Path.{◌≡◌, refl, ◌∙◌}
 use mathlib.Core.List.{List, [], ◌∷◌, ◌++◌, map}
 use mathlib.Core.Bool.{Bool, true, false, cond}
 use native.Mathlib.Omega.{arith}
 use native.Mathlib.Nat.{div-lt_iff_lt-mul}
-use lib.Dec.{ltb}
+use lib.Dec.{ltb, leb}
 use lib.IntN.{ℤ, pos, negsuc}
-use lib.ListN.{length, get_or, length-append, length-map}
+use lib.ListN.{length, take, replicate, length-append, length-map, length-take, length-replicate}
 use borrow.Author.Tests.{lt-ltb}
 use Rattle.io.specs.Digits as io
-use Rattle.squares.specs.Refusals.{number_of, square_of}
+use Rattle.squares.specs.Refusals.{number_of, square_of, refusal}
 use Rattle.squares.specs.Sets.{members, size}
 use Rattle.squares.specs.Squares.{square_at_bit}
 use Rattle.squares.specs.declared.refusal.Refusal.{Refusal}
 use Rattle.squares.proofs.Lengths.{members_length}
-use Rattle.captures.specs.Lists.{blank}
+use Rattle.captures.specs.Lists.{blank, entries, list_of}
 use Rattle.positions.specs.Acceptance.{sound}
-use Rattle.positions.specs.Boards.{board_of}
+use Rattle.positions.specs.Boards.{Board, board_of}
 use Rattle.positions.specs.Moves.{squares_of}
 use Rattle.positions.specs.declared.moves.Move.{Move}
 use Rattle.positions.specs.declared.position.Position.{Position}
@@ -32,11 +33,14 @@ use Rattle.notation.specs.MoveText.{separator_of, named, move_text}
 use Rattle.texts.proofs.Writers.{joined_short}
 use Rattle.notation.proofs.MoveTexts.{move_short}
 use Rattle.captures.specs.declared.moves.MoveList.{MoveList}
+use Rattle.rules.specs.Ordered.{legal}
+use Rattle.movegen.specs.Lists.{listed_of, legal_moves_of}
+use Rattle.movegen.specs.Counts.{depth_count, counts_below, divided_by, divided_of, divide_of}
 use Rattle.movegen.specs.declared.perft.Divided.{Divided}
 use Rattle.wording.specs.Output.{places, decimal, hex, hash, signed, refusal_text, flaw_word, bad}
 use Rattle.wording.specs.declared.output.Flaw.{Flaw}
 use Rattle.wording.specs.declared.output.Flaw.TheVariants as flaw
-use Rattle.replies.specs.Answers.{fen_word, hub_word, move_word, moves_text, counts_text, list_answer, divided_answer}
+use Rattle.replies.specs.Answers.{fen_word, hub_word, move_word, moves_text, counts_text, ok, on_ok, list_word, list_answer, divided_word, divided_answer}
 
 -- ---- numbers
 digits_long : (b k n : ℕ) → length (io.last_digits b k n) ≡ k
@@ -144,34 +148,81 @@ move_by m = go (squares_of m)
     go false = omega arith
 
 -- ---- lists of moves
-moves_most : (l : List Move) (n : ℕ) → length (moves_text l n) ≤ 156 * n
+moves_most : (l : List Move) → length (moves_text l) ≤ 156 * length l
 unfolding moves_text
-moves_most l zero = omega arith
-moves_most l (suc n) = omega (arith, moves_most l n, length-append (moves_text l n) (32 ∷ move_word (get_or l n blank)), move_most (get_or l n blank))
+moves_most [] = omega arith
+moves_most (m ∷ l) = omega (arith, moves_most l, length-append (32 ∷ move_word m) (moves_text l), move_most m)
 
-counts_most : (l : List Move) (c : List ℕ) (n : ℕ) → length (counts_text l c n) ≤ 177 * n
+counts_most : (l : List (Move × ℕ)) → length (counts_text l) ≤ 177 * length l
 unfolding counts_text
-counts_most l c zero = omega arith
-counts_most l c (suc n) =
-    let m = move_word (get_or l n blank) in
-    let d = decimal (get_or c n 0) in
+counts_most [] = omega arith
+counts_most (p ∷ l) =
+    let m = move_word p.0 in
+    let d = decimal p.1 in
     omega (
       arith,
-      counts_most l c n,
-      length-append (counts_text l c n) (32 ∷ (m ++ (61 ∷ d))),
+      counts_most l,
+      length-append (32 ∷ (m ++ (61 ∷ d))) (counts_text l),
       length-append m (61 ∷ d),
-      move_most (get_or l n blank),
-      decimal_most (get_or c n 0),
+      move_most p.0,
+      decimal_most p.1,
     )
 
-pub list_most : (l : Result MoveList Refusal) → length (list_answer l) ≤ 45380
-list_most (Ok l) =
-    let t = moves_text l.moves (min l.len 256) in
-    omega (arith, length-append (decimal l.len) t, decimal_most l.len, moves_most l.moves (min l.len 256))
-list_most (Err e) = omega (arith, refusal_most e)
+-- ---- a list is an array of 256 entries, as its type says
+entries_most : (l : MoveList) → length l.moves ≡ 256 → length (entries l) ≤ 256
+entries_most l h = omega (arith, length-take l.len l.moves, h)
 
-pub divided_most : (d : Result Divided Refusal) → length (divided_answer d) ≤ 45380
-divided_most (Ok d) =
-    let t = counts_text d.list.moves d.counts (min d.list.len 256) in
-    omega (arith, length-append (decimal d.list.len) t, decimal_most d.list.len, counts_most d.list.moves d.counts (min d.list.len 256))
-divided_most (Err e) = omega (arith, refusal_most e)
+list_whole : (l : MoveList) → length l.moves ≡ 256 → length (list_answer (Ok l)) ≤ 45380
+list_whole l h = omega (arith, length-append (decimal l.len) (moves_text (entries l)), decimal_most l.len, moves_most (entries l), entries_most l h)
+
+divided_whole : (d : Divided) → length d.list.moves ≡ 256 → length (divided_answer (Ok d)) ≤ 45380
+divided_whole d h =
+    let z = zip (entries d.list) d.counts in
+    omega (
+      arith,
+      length-append (decimal d.list.len) (counts_text z),
+      decimal_most d.list.len,
+      counts_most z,
+      length-zip (entries d.list) d.counts,
+      entries_most d.list h,
+    )
+
+pub list_most : (r : Result MoveList Refusal) → ((l : MoveList) → r ≡ Ok l → length l.moves ≡ 256) → length (list_answer r) ≤ 45380
+list_most (Ok l) h = list_whole l (h l refl)
+list_most (Err e) h = omega (arith, refusal_most e)
+
+pub divided_most : (r : Result Divided Refusal) → ((d : Divided) → r ≡ Ok d → length d.list.moves ≡ 256) → length (divided_answer r) ≤ 45380
+divided_most (Ok d) h = divided_whole d (h d refl)
+divided_most (Err e) h = omega (arith, refusal_most e)
+
+-- ---- the legal moves are such a list
+of_array : (xs : List Move) → length (list_of xs).moves ≡ 256
+unfolding list_of
+of_array xs = omega (arith, length-take 256 (xs ++ replicate 256 blank), length-append xs (replicate 256 blank), length-replicate 256 blank)
+
+-- what is said of what is found where t, of the refusal e elsewhere
+refused : {A : Type 0} (t : Bool) (r : Result A Refusal) (e : Refusal) (say : A → List ℕ) → length (on_ok r say) ≤ 45380 → length (on_ok (cond t r (Err e)) say) ≤ 45380
+refused true r e say h = h
+refused false r e say h = omega (arith, refusal_most e)
+
+pub legal_most : (p : Position) (n : ℕ) → length (list_answer (legal_moves_of p n)) ≤ 45380
+unfolding legal_moves_of listed_of
+legal_most p n =
+    let xs = legal (board_of p) in
+    let say = λ (l : MoveList). ok (list_word l) in
+    refused (sound p) _ (refusal 12) say
+    (refused (leb n 256) _ (refusal 10) say (refused (leb (length xs) n) _ (refusal 17) say (list_whole (list_of xs) (of_array xs))))
+
+counted_most : (n : ℕ) (b : Board) → length (divided_answer (divided_of n b)) ≤ 45380
+unfolding divided_of
+counted_most n b = go (depth_count (suc n) b)
+  where
+    go : (r : Result ℕ Refusal) → length (divided_answer (divided_by r (record { list = list_of (legal b); counts = counts_below n b }))) ≤ 45380
+    go (Ok k) = divided_whole (record { list = list_of (legal b); counts = counts_below n b }) (of_array (legal b))
+    go (Err e) = omega (arith, refusal_most e)
+
+pub legal_divided_most : (p : Position) (depth : ℕ) → length (divided_answer (divide_of p depth)) ≤ 45380
+unfolding divide_of
+legal_divided_most p depth =
+    let say = λ (d : Divided). ok (divided_word d) in
+    refused (sound p) _ (refusal 12) say (refused (leb depth 7) _ (refusal 10) say (counted_most (depth - 1) (board_of p)))

@@ -39,7 +39,7 @@ use Rattle.requests.specs.Requests.{whole_position, first_position, request_of, 
 use Rattle.replies.specs.States.{judged_word}
 use Rattle.requests.specs.declared.requests.Request.{Request}
 use Rattle.requests.specs.declared.requests.Request.TheVariants as request
-use Rattle.request_laws.proofs.Lengths.{decimal_most, hex_most, hash_long, signed_most, refusal_most, bad_most, fen_most, hub_most, move_most, list_most, divided_most}
+use Rattle.request_laws.proofs.Lengths.{decimal_most, hex_most, hash_long, signed_most, refusal_most, bad_most, fen_most, hub_most, move_most, legal_most, legal_divided_most}
 use Rattle.request_laws.proofs.Falling.{Costs, new_good, judged_most, count_most, text_cost, record_cost, game_cost, pieces_most, words_most}
 use Rattle.std.specs.declared.option.Option.{Option}
 use Rattle.squares.specs.declared.refusal.Refusal.{Refusal}
@@ -132,7 +132,7 @@ cond_most false x f z g h = omega (arith, bad_most f)
 
 -- ---- the requests about a position, short ones
 moves_most : (x : Result Position Refusal) (n : ℕ) → length (moves_request x n) ≤ 45380
-moves_most x n = about x (λ q. list_answer (legal_moves_of q n)) (λ q. list_most (legal_moves_of q n))
+moves_most x n = about x (λ q. list_answer (legal_moves_of q n)) (λ q. legal_most q n)
 
 atmost_most : (arg : List ℕ) → length (atmost_request arg) ≤ 45380
 unfolding atmost_request
@@ -151,7 +151,7 @@ perft_most x t =
 
 divide_most : (x : Result Position Refusal) (t : List ℕ) → length (divide_request x t) ≤ 45380
 divide_most x t =
-    about x (λ q. on_parsed (unsigned_of t) (λ n. divided_answer (divide_of q n))) (λ q. on_parsed_lem (unsigned_of t) (λ n. divided_answer (divide_of q n)) (λ n. divided_most (divide_of q n)))
+    about x (λ q. on_parsed (unsigned_of t) (λ n. divided_answer (divide_of q n))) (λ q. on_parsed_lem (unsigned_of t) (λ n. divided_answer (divide_of q n)) (λ n. legal_divided_most q n))
 
 eval_most : (x : Result Position Refusal) (w : Classical) → length (eval_request x w) ≤ 45380
 eval_most x w = about x (λ q. scored_answer (evaluate_of w q)) (λ q. scored_most (evaluate_of w q))

@@ -18,12 +18,13 @@ use positions::position::Position;
 use replies::answers;
 use scores::eval::Classical;
 use squares::piece::Color;
-use squares::refusal::Refusal;
+use squares::refusal::{Guard, Refusal};
 use texts::space::Space;
 use wording::output::Flaw;
 use wording::{numbers, output, words};
 
-// What `put` writes of what was read of a line, or what of it cannot be read.
+// What `put` writes of what was read of a line, or what of it cannot be read. This is no `answers::found`, whose error
+// is a refusal: here it is a `Flaw`.
 pub(crate) fn answer_read<T, F: FnOnce(&mut Space, T)>(out: &mut Space, r: Result<T, Flaw>, put: F)
     requires { F.IsAlwaysCallable put }
     ensures { SaysRead (F.post put) r out.old out.new }
@@ -99,14 +100,13 @@ impl<'a> Question<'a> {
         );
     }
 
-    // A number of the rest cannot be read. The refusal of the position comes first. This is no `answers::tell`, which
-    // writes `ok`.
+    // A number of the rest cannot be read. The refusal of the position comes first.
+    #[tactic(auto, using(texts::proofs::Overs::over_none))]
     pub(crate) fn no_number(self, out: &mut Space)
         ensures { out.new ≡ over (on_ok self.entry.position (λ _. bad flaw.Number)) out.old }
     {
-        match self.position {
-            Ok(_) => output::put_bad(out, Flaw::Number),
-            Err(e) => output::put_refusal(out, e),
+        if answers::found(out, self.position).is_some() {
+            output::put_bad(out, Flaw::Number);
         }
     }
 
@@ -164,7 +164,7 @@ fn read_weights(arg: &[u8]) -> Option<Classical>
 fn read_evalw(arg: &[u8]) -> Result<Classical, Flaw>
     ensures { on_read result (λ w. eval_request (position_in (first_word arg.now)) w) ≡ evalw_request arg.now }
 {
-    (words::blanks(arg) == 5).then_some(()).ok_or(Flaw::Words)?;
+    Flaw::Words.unless(words::blanks(arg) == 5)?;
     read_weights(arg).ok_or(Flaw::Number)
 }
 
@@ -194,7 +194,8 @@ pub(crate) fn quiet(p: Result<Position, Refusal>, out: &mut Space)
     answers::tell_tested(out, p.and_then(movegen::movegen::has_quiet_moves));
 }
 
-// The side that a word means: W or B alone.
+// The side that a word means: W or B alone. (`side` of `texts::fen` takes small letters too. One function for both would
+// take the reader of the letter, and be no shorter.)
 #[tactic(auto, unfolding(crate::specs::Asked::side_of))]
 fn side(word: &[u8]) -> Result<Color, Refusal>
     ensures { result ≡ side_of word.now }
@@ -210,7 +211,7 @@ fn side(word: &[u8]) -> Result<Color, Refusal>
 fn read_parts(arg: &[u8]) -> Result<Result<Position, Refusal>, Flaw>
     ensures { on_read result placed_answer ≡ parts_request arg.now }
 {
-    (words::blanks(arg) == 3).then_some(()).ok_or(Flaw::Words)?;
+    Flaw::Words.unless(words::blanks(arg) == 3)?;
     let white = numbers::set(words::word(arg, 0)).ok_or(Flaw::Number)?;
     let black = numbers::set(words::word(arg, 1)).ok_or(Flaw::Number)?;
     let kings = numbers::set(words::word(arg, 2)).ok_or(Flaw::Number)?;

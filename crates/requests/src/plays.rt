@@ -152,12 +152,9 @@ impl<'a> Question<'a> {
     fn play_game<F: PlayForm>(self, out: &mut Space)
         ensures { out.new ≡ over (game_request F.played F.told self.entry.position self.entry.rest.now) out.old }
     {
-        match self.position {
-            Ok(q) => {
-                out.put(b"ok");
-                play_words::<F>(new_game(q), self.rest, out);
-            }
-            Err(e) => output::put_refusal(out, e),
+        if let Some(q) = answers::found(out, self.position) {
+            out.put(b"ok");
+            play_words::<F>(new_game(q), self.rest, out);
         }
     }
 

@@ -3,15 +3,14 @@ ghost use Rattle.std.specs.Prelude.{◌≡◌, min, length};
 ghost use Rattle.texts.specs.Lent.{over, written, Adds};
 ghost use Rattle.wording.specs.Words.{after_word};
 ghost use Rattle.requests.specs.Asked.{on_read};
-ghost use Rattle.requests.specs.Requests.{help_text, request_of, whole_position, request_answer, answer_of};
+ghost use Rattle.requests.specs.Requests.{help_text, request_of, request_answer, answer_of};
 
 use crate::asked::Question;
 use crate::{asked, plays, reading};
 use captures::moves::MAX_MOVES;
-use positions::position::Position;
 use replies::answers;
 use scores::eval::Classical;
-use squares::refusal::Refusal;
+use squares::refusal::Guard;
 use texts::space::Space;
 use wording::output::Flaw;
 use wording::{escapes, words};
@@ -87,14 +86,7 @@ fn request_of(name: &[u8]) -> Option<Request>
         .map(|(_, _, asks)| *asks)
 }
 
-// The position that the whole argument means.
 #[tactic(auto, unfolding(crate::specs::Requests::whole_position))]
-fn whole(arg: &[u8]) -> Result<Position, Refusal>
-    ensures { result ≡ whole_position arg.now }
-{
-    reading::position(arg)
-}
-
 fn answer_request(request: Request, arg: &[u8], out: &mut Space)
     ensures { out.new ≡ over (request_answer request arg.now) out.old }
 {
@@ -105,21 +97,21 @@ fn answer_request(request: Request, arg: &[u8], out: &mut Space)
         Request::Hub2fen => answers::tell_fen(out, reading::hub(arg)),
         Request::Square => answers::tell_square(out, reading::square(arg)),
         Request::Parts => asked::parts(arg, out),
-        Request::Bits => answers::tell_bits(out, whole(arg)),
-        Request::Moves => asked::moves(whole(arg), MAX_MOVES, out),
+        Request::Bits => answers::tell_bits(out, reading::position(arg)),
+        Request::Moves => asked::moves(reading::position(arg), MAX_MOVES, out),
         Request::Atmost => asked::atmost(arg, out),
         Request::Parse => Question::read(arg).parse(out),
         Request::After => Question::read(arg).after(out),
         Request::Perft => Question::read(arg).perft(out),
         Request::Divide => Question::read(arg).divide(out),
-        Request::Eval => asked::eval(whole(arg), Classical::default(), out),
+        Request::Eval => asked::eval(reading::position(arg), Classical::default(), out),
         Request::Evalw => asked::evalw(arg, out),
-        Request::Hash => answers::tell_hash(out, whole(arg)),
-        Request::Flip => asked::flip(whole(arg), out),
-        Request::Caps => asked::caps(whole(arg), out),
-        Request::Quiet => asked::quiet(whole(arg), out),
+        Request::Hash => answers::tell_hash(out, reading::position(arg)),
+        Request::Flip => asked::flip(reading::position(arg), out),
+        Request::Caps => asked::caps(reading::position(arg), out),
+        Request::Quiet => asked::quiet(reading::position(arg), out),
         Request::Play => Question::read(arg).play(out),
-        Request::Outcome => plays::outcome(whole(arg), out),
+        Request::Outcome => plays::outcome(reading::position(arg), out),
         Request::Record => Question::read(arg).record(out),
     }
 }
@@ -129,8 +121,8 @@ fn answer_request(request: Request, arg: &[u8], out: &mut Space)
 fn read_request(line: &[u8]) -> Result<Request, Flaw>
     ensures { on_read result (λ r. request_answer r (after_word line.now)) ≡ answer_of line.now }
 {
-    (line.len() <= LONGEST).then_some(()).ok_or(Flaw::Length)?;
-    escapes::is_plain(line).then_some(()).ok_or(Flaw::Escape)?;
+    Flaw::Length.unless(line.len() <= LONGEST)?;
+    Flaw::Escape.unless(escapes::is_plain(line))?;
     request_of(words::first(line)).ok_or(Flaw::Name)
 }
 
@@ -143,7 +135,8 @@ fn put_answer(line: &[u8], out: &mut Space)
 }
 
 // The answer to a request line (without its line feed), at the start of the lent bytes; what has no room is left out.
-// How many bytes it has there.
+// How many bytes it has there. (`help` begins and ends so too, as does `unescape` of `wording`, which says why that is no
+// function for all.)
 pub fn answer(line: &[u8], out: &mut [u8]) -> usize
     ensures value { result ≡ min (length (answer_of line.now)) (length out.old) }
     ensures out_after { out.new ≡ written (answer_of line.now) out.old }

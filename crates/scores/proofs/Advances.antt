@@ -1,21 +1,22 @@
 -- The rows that men have advanced: row by row with the code's table, and square by square as the rule says.
+use Rattle.std.specs.Prelude.{sum_by}
 use mathlib.Core.Path.{◌≡◌, refl, sym, ap, ap₂, ◌∙◌}
 use Prim.Native.Nat.{ℕ, zero, suc, ◌+◌, ◌*◌, ◌≤◌, ◌<◌}
-use native.Mathlib.Nat.{mul-le-mul, not-suc-le-zero, le_of_suc-le-suc}
+use native.Mathlib.Nat.{mul-le-mul}
 use native.Mathlib.Numerals.{add-one}
 use native.Mathlib.Omega.{arith}
-use mathlib.Core.Bool.{Bool, true, ◌&&◌, cond}
+use mathlib.Core.Bool.{Bool, true, cond}
 use mathlib.Core.List.{List, [], ◌∷◌}
 use lib.Dec.{eqb, leb}
 use lib.Bits.{bit_and}
-use lib.ListN.{get_or, length}
+use lib.ListN.{get_or}
 use borrow.Author.Tests.{eqb-true, leb-true}
 use Rattle.squares.specs.Sets.{has, size}
-use Rattle.squares.specs.Squares.{run, all}
+use Rattle.squares.specs.Squares.{bit_of, run, all}
 use Rattle.squares.specs.Folds.{fold_to, sum_over}
 use Rattle.squares.specs.declared.piece.Color.{Color}
 use Rattle.squares.specs.declared.piece.Color.TheVariants.{White, Black}
-use Rattle.squares.proofs.Bools.{and_left, and_right}
+use Rattle.squares.proofs.Bools.{and_right}
 use Rattle.squares.proofs.Below.{below, below_at}
 use Rattle.squares.proofs.Pointwise.{has_and}
 use Rattle.squares.proofs.Folds.{sum_same}
@@ -33,21 +34,6 @@ abbrev pub row_table : List ℕ
 row_table =
     0x1F ∷ 0x3E0 ∷ 0xF800 ∷ 0x1F_0000 ∷ 0x7C0_0000 ∷ 0xF800_0000 ∷ 0x3E_0000_0000 ∷ 0x7C0_0000_0000
     ∷ 0x1_F000_0000_0000 ∷ 0x3E_0000_0000_0000 ∷ []
-
--- a table and its rule, entry by entry
-unfoldable agrees : List ℕ → (ℕ → ℕ) → Bool
-agrees [] f = true
-agrees (x ∷ xs) f = eqb x (f 0) && agrees xs (λ i. f (suc i))
-
-agree_at : (l : List ℕ) (f : ℕ → ℕ) → agrees l f ≡ true → (r : ℕ) → r < length l → get_or l r 0 ≡ f r
-unfolding agrees
-agree_at [] f e r h = absurd (not-suc-le-zero h)
-agree_at (x ∷ xs) f e zero h = eqb-true x (f 0) (and_left (eqb x (f 0)) (agrees xs (λ i. f (suc i))) e)
-agree_at (x ∷ xs) f e (suc r) h = agree_at xs (λ i. f (suc i)) (and_right (eqb x (f 0)) (agrees xs (λ i. f (suc i))) e) r (le_of_suc-le-suc h)
-
-pub row_at : (r : ℕ) → r < 10 → get_or row_table r 0 ≡ row_set r
-unfolding row_set agrees computed
-row_at r h = agree_at row_table row_set refl r h
 
 -- what the code adds up, the first n rows
 unfoldable pub by_rows : Color → ℕ → ℕ → ℕ
@@ -69,6 +55,31 @@ ahead_le Black r h = omega arith
 
 pub row_le : (c : Color) (r s : ℕ) → r < 10 → ahead_of c r * size s ≤ 576
 row_le c r s h = mul-le-mul (ahead_le c r h) (size_most s)
+
+-- the same, where the two factors have other names
+pub row_few : (c : Color) (r s rows men : ℕ) → r < 10 → rows ≡ ahead_of c r → men ≡ size s → rows * men ≤ 576
+row_few c r s rows men h a n = rw (a, n) (row_le c r s h)
+
+-- so the first n rows come to n times that at most
+by_rows_le : (c : Color) (s n : ℕ) → n ≤ 10 → by_rows c s n ≤ 576 * n
+by_rows_le c s zero h = omega (arith, by_rows_none c s)
+by_rows_le c s (suc n) h = rw (← add-one n, by_rows_next c s n) (omega (arith, row_le c n (bit_and s (row_set n)) (omega arith), by_rows_le c s n (omega arith)))
+
+-- what the code adds for a row of its table
+abbrev pub in_row : Color → ℕ → ℕ → ℕ
+in_row c s r = ahead_of c r * size (bit_and s (get_or row_table r 0))
+
+-- its ten rows
+abbrev pub rows : List ℕ
+rows = 0 ∷ 1 ∷ 2 ∷ 3 ∷ 4 ∷ 5 ∷ 6 ∷ 7 ∷ 8 ∷ 9 ∷ []
+
+-- added up, they are the first ten rows
+pub rows_sum : (c : Color) (s : ℕ) → sum_by (in_row c s) rows ≡ by_rows c s 10
+unfolding by_rows fold_to row_set run bit_of
+rows_sum c s = refl
+
+pub rows_most : (c : Color) (s : ℕ) → sum_by (in_row c s) rows ≤ 5760
+rows_most c s = omega (arith, rows_sum c s, by_rows_le c s 10 (omega arith))
 
 -- what a man on bit i adds in the first n rows
 unfoldable row_weight : Color → ℕ → ℕ → ℕ

@@ -1,5 +1,5 @@
 -- Keys: an entry of the table is the key at its bit; the key of a set is that of its squares, and adds up over disjoint unions.
-use Rattle.std.proofs.Common.{◌≡◌, ℕ, ◌+◌, ◌*◌, ◌<◌, Bool, true, false, cond, get_or, sym, ap, ◌∙◌}
+use Rattle.std.proofs.Common.{◌≡◌, ℕ, ◌+◌, ◌*◌, ◌<◌, Bool, true, false, cond, get_or, sym, ap, ap₂, ◌∙◌}
 use lib.Bits.{bit_and, bit_xor}
 use Rattle.squares.specs.Sets.{has}
 use Rattle.squares.specs.Squares.{all, on_board}
@@ -10,7 +10,7 @@ use Rattle.squares.specs.declared.piece.PieceKind.{PieceKind}
 use Rattle.squares.proofs.Folds.{Parts, bit_if, xor_parts, xor_bit_if, xor_same, xor_mask}
 use Rattle.squares.proofs.Pointwise.{has_and}
 use Rattle.squares.proofs.Bools.{and_right}
-use Rattle.squares.proofs.Numbers.{has_all}
+use Rattle.squares.proofs.Numbers.{all_is, has_all}
 
 -- ---- an entry of the table is the key at its bit
 pub key_entry : (c : Color) (k : PieceKind) (i : ℕ) → on_board i ≡ true → get_or keys (64 * block c k + i) 0 ≡ key_at c k i
@@ -28,6 +28,10 @@ table_key c k s =
     xor_same (λ i. get_or keys (64 * block c k + i) 0) (key_at c k) (bit_and s all)
     (λ i l e. key_entry c k i (sym (has_all i) ∙ and_right (has s i) (has all i) (sym (has_and s all i) ∙ e)))
     ∙ xor_mask (key_at c k) s all (λ i l e. off_key c k i (sym (has_all i) ∙ e))
+
+-- the same, where n is the number of their block
+pub keyed : (c : Color) (k : PieceKind) (s : ℕ) {n : ℕ} → n ≡ block c k → xor_over (λ i. get_or keys (64 * n + i) 0) (bit_and s 0x003F_F7FE_FFDF_FBFF) ≡ set_key_of c k s
+keyed c k s e = ap₂ (λ (n m : ℕ). xor_over (λ i. get_or keys (64 * n + i) 0) (bit_and s m)) e (sym all_is) ∙ table_key c k s
 
 -- ---- the key of a set
 pub set_key_parts : (c : Color) (k : PieceKind) {a b d : ℕ} → Parts a b d → set_key_of c k a ≡ bit_xor (set_key_of c k b) (set_key_of c k d)

@@ -16,6 +16,7 @@ pub mod Shifts
 pub mod Steps
 pub mod OneBit
 pub mod Keys
+pub mod Yielded
 pub mod Characters
 pub mod Product
 pub mod Refusals

@@ -45,37 +45,37 @@ not_ok e h = let z : ◌≡◌ {A = ℕ} 0 1 = cc in absurd (omega arith)
 
 -- ---- guards: `e.unless(test)?`
 
-module _ (e : Refusal) (test : Bool) where
+module _ {E : Type 0} (e : E) (test : Bool) where
   -- where the guard lets pass, the test holds
-  pub holds : {u : Unit {0}} → ◌≡◌ {A = Result Unit Refusal} (Ok u) (unless_of e test) → test ≡ true
+  pub holds : {u : Unit {0}} → ◌≡◌ {A = Result Unit E} (Ok u) (unless_of e test) → test ≡ true
   holds q = go test q
     where
-      go : (t : Bool) {u : Unit {0}} → ◌≡◌ {A = Result Unit Refusal} (Ok u) (unless_of e t) → t ≡ true
+      go : (t : Bool) {u : Unit {0}} → ◌≡◌ {A = Result Unit E} (Ok u) (unless_of e t) → t ≡ true
       go true q = refl
       go false q = cc
 
   -- where it stops, the test does not hold
-  pub fails : {f : Refusal} → ◌≡◌ {A = Result Unit Refusal} (Err f) (unless_of e test) → test ≡ false
+  pub fails : {f : E} → ◌≡◌ {A = Result Unit E} (Err f) (unless_of e test) → test ≡ false
   fails q = go test q
     where
-      go : (t : Bool) {f : Refusal} → ◌≡◌ {A = Result Unit Refusal} (Err f) (unless_of e t) → t ≡ false
+      go : (t : Bool) {f : E} → ◌≡◌ {A = Result Unit E} (Err f) (unless_of e t) → t ≡ false
       go true q = cc
       go false q = refl
 
-module _ {A : Type 0} (e : Refusal) (test : Bool) where
+module _ {A E : Type 0} (e : E) (test : Bool) where
   -- what a function answers where the guard stops it
-  pub stopped : (x : Result A Refusal) {f : Refusal} → ◌≡◌ {A = Result Unit Refusal} (Err f) (unless_of e test) → Err f ≡ cond test x (Err e)
+  pub stopped : (x : Result A E) {f : E} → ◌≡◌ {A = Result Unit E} (Err f) (unless_of e test) → Err f ≡ cond test x (Err e)
   stopped x q = go test q
     where
-      go : (t : Bool) {f : Refusal} → ◌≡◌ {A = Result Unit Refusal} (Err f) (unless_of e t) → Err f ≡ cond t x (Err e)
+      go : (t : Bool) {f : E} → ◌≡◌ {A = Result Unit E} (Err f) (unless_of e t) → Err f ≡ cond t x (Err e)
       go true q = cc
       go false q = cc
 
   -- what it answers where the guard lets pass
-  pub passed : (x : Result A Refusal) {u : Unit {0}} → ◌≡◌ {A = Result Unit Refusal} (Ok u) (unless_of e test) → x ≡ cond test x (Err e)
+  pub passed : (x : Result A E) {u : Unit {0}} → ◌≡◌ {A = Result Unit E} (Ok u) (unless_of e test) → x ≡ cond test x (Err e)
   passed x q = go test q
     where
-      go : (t : Bool) {u : Unit {0}} → ◌≡◌ {A = Result Unit Refusal} (Ok u) (unless_of e t) → x ≡ cond t x (Err e)
+      go : (t : Bool) {u : Unit {0}} → ◌≡◌ {A = Result Unit E} (Ok u) (unless_of e t) → x ≡ cond t x (Err e)
       go true q = refl
       go false q = cc
 

@@ -57,8 +57,8 @@ answer_number_of (Err e) = number_of e
 abbrev pub refusal_output : Refusal → List ℕ
 refusal_output e = decimal (number_of e) ++ (code " " ∷ decimal (square_of e))
 
--- the refusal e, unless a test holds
-abbrev pub unless_of : Refusal → Bool → Result Unit Refusal
+-- the error e, unless a test holds
+abbrev pub unless_of : {E : Type 0} → E → Bool → Result Unit E
 unless_of e t = cond t (Ok tt) (Err e)
 
 -- the refusal with number n; only 7 and 8 keep the square

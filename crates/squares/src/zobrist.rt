@@ -25,7 +25,7 @@ pub struct Drawn {
     pub output: u64,
 }
 
-// The low 64 bits of a product: the library's, with the product in its contract.
+// The low 64 bits of a product: the library's, under the public name that it had.
 pub fn wrapping_mul(a: u64, b: u64) -> u64
     ensures { result ≡ a * b % 2 ^ 64 }
 {
@@ -46,8 +46,8 @@ pub fn splitmix64(state: u64) -> Drawn
     }
 }
 
-// The first 256 outputs: 64 keys each, by bit, for white men, black men, white kings and black kings. One flat table,
-// where the Rust has four: its law is one about the outputs in a row.
+// The first 256 outputs: 64 keys each, by bit, for white men, black men, white kings and black kings. One flat table:
+// the outputs come in one row, and one law names them. Of four tables, as in the Rust, it would be four laws.
 static PIECE_KEYS: [u64; 256] = [
     0x687B_1986_4A3F_7771,
     0x1E98_557B_34C6_91B9,
@@ -331,17 +331,12 @@ pub(crate) fn index(color: Color, kind: PieceKind) -> usize
 }
 
 // The exclusive or of the keys of such pieces on the squares of the set. Only this function reads PIECE_KEYS.
-#[tactic(auto, unfolding(crate::proofs::zobrist::set_key::Invariants::keyed, crate::specs::Keys::keys, crate::specs::Keys::outputs, crate::specs::Keys::output, crate::specs::Keys::advance, crate::specs::Keys::scramble))]
 pub fn set_key(color: Color, kind: PieceKind, set: Bitboard) -> u64
     ensures { result ≡ set_key_of color kind set }
 {
     let keys = &PIECE_KEYS;
     let from = 64 * index(color, kind);
-    let mut key: u64 = 0;
-    for bit in Members(set & ALL) {
-        key ^= keys[from + bit as usize];
-    }
-    key
+    Members(set & ALL).fold(0, |key, bit| key ^ keys[from + bit as usize])
 }
 
 // The key of one such piece on a square; 0 where there is no such square.

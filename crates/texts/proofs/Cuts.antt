@@ -1,18 +1,17 @@
 -- What the byte loops find, place by place: trimming, finding, splitting at a place, a square's digits.
 use Prim.Native.Nat.{ℕ, zero, suc, ◌+◌, ◌-◌, ◌≤◌, ◌<◌}
-use mathlib.Core.Path.{◌≡◌, refl, ap, ap₂, sym, subst, ◌∙◌}
-use mathlib.Core.List.{List, [], ◌∷◌, ◌++◌, reverse, reverse-append, reverse-reverse}
+use mathlib.Core.Path.{◌≡◌, refl, ap, sym, subst, ◌∙◌}
+use mathlib.Core.List.{List, [], ◌∷◌}
 use mathlib.Core.Bool.{Bool, true, false, cond, not, ◌||◌, ◌&&◌}
 use native.Mathlib.Omega.{arith}
 use native.Mathlib.Numerals.{add-one}
-use lib.ListN.{length, take, drop, get_or, length-drop, length-append, length-reverse}
-use lib.Seq.{drop-cons, take_all, take-append-le, take-length}
+use lib.ListN.{length, take, drop, get_or, length-drop}
+use lib.Seq.{drop-cons, take_all, take-length}
 use lib.Dec.{leb, ltb, eqb, leb-suc-suc}
-use borrow.Author.Tests.{le-leb, lt-leb, lt-ltb, ltb-true, ltb-false}
-use Rattle.texts.specs.Bytes.{ascii, is, holds, trim_start, keep_end, trim_end, up_to, after_or, after_first, strip, index_of, IsIndex}
+use borrow.Author.Tests.{le-leb, lt-leb, lt-ltb, le-ltb, ltb-true, ltb-false}
+use Rattle.texts.specs.Bytes.{ascii, is, holds, trim_start, keep_end, trim_end, up_to, after_or, after_first, strip, index_of, IsIndex, IsAfter}
 use lib.Pointwise.{pointwise}
-use Rattle.std.specs.List.{position_or_len, AllWithin, HoldsAt}
-use Rattle.std.proofs.lemmas.Iterator.{index_from_first}
+use Rattle.std.specs.List.{position_or_len}
 use Rattle.std.specs.Option.{unwrap_or}
 use Rattle.std.specs.Bool.{MatchBool}
 use Rattle.std.specs.Str.{IsAscii, IsNotAscii}
@@ -50,19 +49,6 @@ ascii_cases true s h = all_ascii s h
 ascii_cases false s h = some_other s h.0 h.1
 
 -- ---- trimming
--- how many bytes at the start of s pass the test p
-lead : (ℕ → Bool) → List ℕ → ℕ
-lead p [] = 0
-lead p (b ∷ s) = cond (p b) (suc (lead p s)) 0
-
--- r is the place of the first byte of s that fails the test
-abbrev pub FirstKept : (ℕ → Bool) → List ℕ → Option ℕ → Type 0
-FirstKept p s r = MatchOption r (AllWithin (λ b. p b ≡ true) s 0 (length s)) (λ i. (i < length s) × HoldsAt (λ b. p b ≡ false) s i × AllWithin (λ b. p b ≡ true) s 0 i)
-
-lead_is : (p : ℕ → Bool) (s : List ℕ) (r : Option ℕ) → FirstKept p s r → lead p s ≡ unwrap_or r (length s)
-unfolding lead
-lead_is p s r h = index_from_first (lead p) (λ b. p b ≡ false) (λ b. p b ≡ true) refl (λ b t e. rw e refl) (λ b t e. rw (e, add-one) refl) s r h
-
 pub start_cut : (p : ℕ → Bool) (s : List ℕ) → 0 < length s → p (get_or s 0 0) ≡ true → trim_start p s ≡ trim_start p (take (length s - 1) (drop 1 s))
 unfolding trim_start
 start_cut p [] h e = absurd (omega arith)
@@ -78,36 +64,24 @@ unfolding trim_start
 start_end p [] h = refl
 start_end p (b ∷ s) h = absurd (omega arith)
 
-keep_cond : (p : ℕ → Bool) (a : ℕ) (t : Bool) (x s : List ℕ) (b : ℕ) → keep_end p a (cond t x (s ++ b ∷ [])) ≡ cond t (keep_end p a x) (a ∷ (s ++ b ∷ []))
-unfolding keep_end
-keep_cond p a true x s b = refl
-keep_cond p a false x [] b = refl
-keep_cond p a false x (y ∷ s) b = refl
-
-end_snoc : (p : ℕ → Bool) (s : List ℕ) (b : ℕ) → trim_end p (s ++ b ∷ []) ≡ cond (p b) (trim_end p s) (s ++ b ∷ [])
+pub all_off : (p : ℕ → Bool) (s : List ℕ) → ((k : ℕ) → k < length s → p (get_or s k 0) ≡ true) → [] ≡ trim_end p s
 unfolding trim_end keep_end
-end_snoc p [] b = refl
-end_snoc p (a ∷ s) b = ap (keep_end p a) (end_snoc p s b) ∙ keep_cond p a (p b) (trim_end p s) s b
+all_off p [] f = refl
+all_off p (b ∷ s) f =
+    ap (λ (t : Bool). cond t [] (b ∷ [])) (sym (f 0 (omega arith))) ∙ ap (keep_end p b) (all_off p s (λ k h. f (suc k) (omega (arith, h))))
 
--- of a text that is read from its end
-end_off : (p : ℕ → Bool) (u : List ℕ) → take (length u - lead p u) (reverse u) ≡ trim_end p (reverse u)
-unfolding lead trim_end
-end_off p [] = refl
-end_off p (b ∷ u) = rw (reverse-append (b ∷ []) u, end_snoc p (reverse u) b) (go (p b) (end_off p u))
-  where
-    go : (t : Bool) → take (length u - lead p u) (reverse u) ≡ trim_end p (reverse u)
-        → take (suc (length u) - cond t (suc (lead p u)) 0) (reverse u ++ b ∷ []) ≡ cond t (trim_end p (reverse u)) (reverse u ++ b ∷ [])
-    go true h =
-        let k : suc (length u) - suc (lead p u) ≡ length u - lead p u = omega arith in
-        ap (λ (n : ℕ). take n (reverse u ++ b ∷ [])) k ∙ take-append-le (length u - lead p u) (reverse u) (b ∷ []) (omega (arith, length-reverse u)) ∙ h
-    go false h = take_all (suc (length u) - 0) (reverse u ++ b ∷ []) (omega (arith, length-append (reverse u) (b ∷ []), length-reverse u))
+kept_to : (p : ℕ → Bool) (s : List ℕ) (i : ℕ) → i < length s → p (get_or s i 0) ≡ false → ((k : ℕ) → i < k → k < length s → p (get_or s k 0) ≡ true) → take (suc i) s ≡ trim_end p s
+unfolding trim_end keep_end
+kept_to p [] i h e f = absurd (omega arith)
+kept_to p (b ∷ s) zero h e f =
+    ap (λ (t : Bool). cond t [] (b ∷ [])) (sym e) ∙ ap (keep_end p b) (all_off p s (λ k h. f (suc k) (omega arith) (omega (arith, h))))
+kept_to p (b ∷ []) (suc i) h e f = absurd (omega (arith, h))
+kept_to p (b ∷ (x ∷ s)) (suc i) h e f =
+    ap (keep_end p b) (kept_to p (x ∷ s) i (omega (arith, h)) e (λ k l m. f (suc k) (omega (arith, l)) (omega (arith, m))))
 
-pub end_at : (p : ℕ → Bool) (s : List ℕ) (r : Option ℕ) → FirstKept p (reverse s) r → {n : ℕ} → n ≡ unwrap_or r (length s) → take (length s - n) s ≡ trim_end p s
-end_at p s r h {n} e =
-    let u = reverse s in
-    let k : n ≡ lead p u = e ∙ ap (unwrap_or r) (sym (length-reverse s)) ∙ sym (lead_is p u r h) in
-    let v : reverse u ≡ s = reverse-reverse s in
-    ap₂ (λ (m : ℕ) (t : List ℕ). take m t) (ap₂ (λ (m k : ℕ). m - k) (sym (length-reverse s)) k) (sym v) ∙ end_off p u ∙ ap (trim_end p) v
+-- i is the place of the last byte that stays
+pub end_at : (p : ℕ → Bool) (s : List ℕ) (i : ℕ) → i < length s → p (get_or s i 0) ≡ false → ((k : ℕ) → i < k → k < length s → p (get_or s k 0) ≡ true) → take (i + 1) s ≡ trim_end p s
+end_at p s i h e f = ap (λ (n : ℕ). take n s) (add-one i) ∙ kept_to p s i h e f
 
 -- ---- finding
 position_is : (p : ℕ → Bool) (s : List ℕ) → position_or_len p s ≡ index_of p s
@@ -151,6 +125,12 @@ holds_found c (b ∷ s) = go (eqb b c) (holds_found c s)
     go false e = leb-suc-suc (suc (index_of (is c) s)) (length s) ∙ e
 
 -- ---- before and after a byte
+pub held : (c : ℕ) (s : List ℕ) → index_of (is c) s < length s → holds c s ≡ true
+held c s h = sym (holds_found c s) ∙ lt-ltb _ _ h
+
+pub not_held : (c : ℕ) (s : List ℕ) → index_of (is c) s ≡ length s → holds c s ≡ false
+not_held c s e = sym (holds_found c s) ∙ le-ltb _ _ (omega (arith, e))
+
 pub up_to_is : (c : ℕ) (s : List ℕ) → up_to c s ≡ take (index_of (is c) s) s
 unfolding up_to index_of is
 up_to_is c [] = refl
@@ -192,6 +172,14 @@ after_out t c (b ∷ s) h = go (eqb b c) (after_out t c s) h
 
 pub after_or_none : (t : List ℕ) (c : ℕ) (s : List ℕ) → index_of (is c) s ≡ length s → t ≡ after_or t c s
 after_or_none t c s e = sym (after_out t c s (omega (arith, e)))
+
+-- r, or t in its place, is what comes after the first c
+pub after_else : (c : ℕ) (s : List ℕ) (t : Bor (List ℕ)) (r : Option (Bor (List ℕ))) → IsAfter c s r → (unwrap_or r t).now ≡ after_or t.now c s
+unfolding after_first
+after_else c s t (Some x) h =
+    let l = ltb-true _ _ (holds_found c s ∙ h.0) in
+    h.1 ∙ after_in [] c s l ∙ sym (after_in t.now c s l)
+after_else c s t None h = after_or_none t.now c s (omega (arith, index_le (is c) s, ltb-false _ _ (holds_found c s ∙ h)))
 
 pub after_is : (c : ℕ) (s : List ℕ) → after_first c s ≡ drop (index_of (is c) s + 1) s
 unfolding after_first after_or index_of is

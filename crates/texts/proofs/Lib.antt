@@ -1,7 +1,9 @@
 pub mod Cuts
 pub mod Splits
 pub mod SquareTexts
+pub mod TryFolds
 pub mod Readers
+pub mod Runs
 pub mod FenLength
 pub mod Pieces
 pub mod Overs

@@ -1,16 +1,18 @@
 -- Writing into a space, text after text; what it makes of the bytes and of the place.
-use Prim.Native.Nat.{ℕ, ◌+◌, ◌≤◌, ◌<◌}
-use mathlib.Core.Path.{◌≡◌, refl, ap, sym, ◌∙◌, subst}
+use Prim.Native.Nat.{ℕ, ◌+◌, ◌-◌, ◌≤◌, ◌<◌, min}
+use mathlib.Core.Path.{◌≡◌, refl, ap, ap₂, sym, ◌∙◌, subst}
+use native.Mathlib.Omega.{arith}
+use borrow.Rule.Slice.Mut.{set_vals}
+use borrow.Rule.Slice.PartMut.{put_mid}
+use borrow.Author.Tests.{le-ltb}
 use mathlib.Core.List.{List, [], ◌∷◌, ◌++◌}
 use mathlib.Core.Bool.{Bool, true, false, cond}
-use native.Mathlib.Numerals.{add-one}
 use lib.Dec.{ltb}
-use lib.ListN.{length, take, get_or, set}
-use lib.Seq.{take-suc, take_all}
+use lib.ListN.{length, take, set}
 use borrow.Author.Tests.{ltb-true, ltb-false}
 use Rattle.texts.specs.declared.space.Space.{Space}
 use Rattle.texts.specs.Lent.{over, byte_over, text_of, Adds}
-use Rattle.texts.proofs.Pieces.{adds_none, adds_then, byte_fits, byte_out, starts}
+use Rattle.texts.proofs.Pieces.{adds_none, adds_then, byte_fits, byte_out, starts, part_added}
 
 -- ---- text after text
 pub over_append : (t u : List ℕ) (s : Space) → over (t ++ u) s ≡ over u (over t s)
@@ -27,13 +29,6 @@ over_then t u a b c e f = f ∙ ap (over u) e ∙ sym (over_append t u a)
 
 pub over_as : (t u : List ℕ) (a b : Space) → t ≡ u → b ≡ over t a → b ≡ over u a
 over_as t u a b e f = f ∙ ap (λ (x : List ℕ). over x a) e
-
--- one byte of t more
-pub over_next : (t : List ℕ) (n : ℕ) (a b c : Space) → n < length t → b ≡ over (take n t) a → c ≡ over (get_or t n 0 ∷ []) b → c ≡ over (take (n + 1) t) a
-over_next t n a b c h x y = over_as _ _ a c (sym (take-suc t n 0 h) ∙ ap (λ (m : ℕ). take m t) (sym (add-one n))) (over_then _ _ a b c x y)
-
-pub over_all : (t : List ℕ) (n : ℕ) (a b : Space) → length t ≤ n → b ≡ over (take n t) a → b ≡ over t a
-over_all t n a b h x = over_as _ _ a b (take_all n t h) x
 
 -- ---- the bytes and the place
 byte_adds : (b : ℕ) (s : Space) → Adds (b ∷ []) s.bytes.now s.at (byte_over b s).bytes.now (byte_over b s).at
@@ -71,6 +66,36 @@ over_name (b ∷ t) s = over_name t (byte_over b s) ∙ byte_name b s
 
 pub same_name : (t : List ℕ) (a b : Space) → b ≡ over t a → b.bytes.ghost_name ≡ a.bytes.ghost_name
 same_name t a b e = ap (λ (x : Space). x.bytes.ghost_name) e ∙ over_name t a
+
+-- ---- a text that is copied whole, as far as there is room
+-- nothing else of the space changes
+byte_rest : (b : ℕ) (s : Space) → byte_over b s ≡ record { bytes = set_vals (byte_over b s).bytes.now s.bytes; at = (byte_over b s).at }
+unfolding byte_over
+byte_rest b s = go (ltb s.at (length s.bytes.now))
+  where
+    go : (q : Bool) → (let r = cond q (record s { bytes = record s.bytes { now = set s.bytes.now s.at b }; at = s.at + 1 }) s in r ≡ record { bytes = set_vals r.bytes.now s.bytes; at = r.at })
+    go true = refl
+    go false = refl
+
+over_rest : (t : List ℕ) (s : Space) → over t s ≡ record { bytes = set_vals (over t s).bytes.now s.bytes; at = (over t s).at }
+unfolding over
+over_rest [] s = refl
+over_rest (b ∷ t) s =
+    over_rest t (byte_over b s)
+    ∙ ap (λ (x : Space). record { bytes = set_vals (over t (byte_over b s)).bytes.now x.bytes; at = (over t (byte_over b s)).at }) (byte_rest b s)
+
+-- where there is room for a byte
+pub over_part : (t : List ℕ) (s : Space) (n : ℕ) → s.at < length s.bytes.now → n ≡ min (length t) (length s.bytes.now - s.at)
+    → record { bytes = set_vals (put_mid s.at (s.at + n - s.at) s.bytes.now (take n t)) s.bytes; at = s.at + n } ≡ over t s
+over_part t s n h e =
+    let w = part_added (over_adds t s) (omega arith) e in
+    ap₂ (λ (x : List ℕ) (i : ℕ). record { bytes = set_vals x s.bytes; at = i }) w.0 w.1 ∙ sym (over_rest t s)
+
+-- where there is none
+pub over_out : (t : List ℕ) (s : Space) → length s.bytes.now ≤ s.at → s ≡ over t s
+unfolding over byte_over
+over_out [] s h = refl
+over_out (b ∷ t) s h = over_out t s h ∙ ap (λ (q : Bool). over t (cond q (record s { bytes = record s.bytes { now = set s.bytes.now s.at b }; at = s.at + 1 }) s)) (sym (le-ltb s.at (length s.bytes.now) h))
 
 -- ---- a text at the start of lent bytes
 pub over_lent : (t old : List ℕ) (s new : Space) → s.bytes.now ≡ old → s.at ≡ 0 → new ≡ over t s → Adds t old 0 new.bytes.now new.at

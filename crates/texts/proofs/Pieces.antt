@@ -1,11 +1,17 @@
 -- Pieces of an answer: one byte more, one piece after another, whatever room there is.
-use Prim.Native.Nat.{ℕ, suc, ◌+◌, ◌≤◌, ◌<◌, min}
-use mathlib.Core.Path.{◌≡◌, refl, ap, sym, ◌∙◌, subst}
+use Prim.Native.Nat.{ℕ, suc, ◌+◌, ◌≤◌, ◌<◌, ◌-◌, min}
+use mathlib.Core.Path.{◌≡◌, refl, ap, ap₂, sym, ◌∙◌, subst}
+use mathlib.Core.Bool.{Bool, true, false}
 use mathlib.Core.List.{List, [], ◌∷◌, ◌++◌, append_assoc, append-nil}
 use native.Mathlib.Omega.{arith}
 use native.Mathlib.Numerals.{add-one}
-use lib.ListN.{length, take, drop, get_or, set, length-append, length-take, length-drop, drop_of_length-le}
+use lib.ListN.{length, take, drop, get_or, set, length-append, length-take, length-drop, drop_of_length-le, take-append-drop}
 use lib.Seq.{take_all, drop-cons, set-append_seam, append_snoc, take-append-le, take_at, take-nil}
+use lib.Seq.{drop-drop, take-append-add}
+use lib.Dec.{leb}
+use borrow.Author.Tests.{leb-true, leb-false}
+use borrow.Rule.Slice.PartMut.{put_mid}
+use Rattle.std.proofs.lemmas.List.{take_min}
 use Rattle.texts.specs.Lent.{written, Holds, Adds}
 
 pub written_length : (t o : List ℕ) → length (written t o) ≡ length o
@@ -90,3 +96,41 @@ adds_then {s} {u} {a} {b} {c} {i} {j} {k} x y =
         let p = x.beyond h in
         let q = y.beyond (omega (arith, ap length p.0, p.1)) in
         (q.0 ∙ p.0, q.1 ∙ p.1)
+
+-- ---- from a place in the lent bytes on
+begun : (o : List ℕ) (i : ℕ) → i ≤ length o → Holds o (take i o) o i
+unfolding written
+begun o i h =
+    let l : length (take i o) ≡ i = length-take i o ∙ omega arith in
+    record {
+      bytes = sym (ap₂ (λ (x y : List ℕ). x ++ y) (take_all (length o) (take i o) (omega (arith, l))) (ap (λ (k : ℕ). drop k o) l) ∙ take-append-drop i o);
+      place = omega (arith, l);
+    }
+
+drop_cut : (i k : ℕ) (o : List ℕ) → i ≡ min k (length o) → drop i o ≡ drop k o
+drop_cut i k o e = go (leb k (length o)) refl
+  where
+    go : (t : Bool) → leb k (length o) ≡ t → drop i o ≡ drop k o
+    go true h = let q : i ≡ k = omega (arith, e, leb-true k (length o) h) in ap (λ (n : ℕ). drop n o) q
+    go false h =
+        let l = leb-false k (length o) h in
+        drop_of_length-le o (omega (arith, e, l)) ∙ sym (drop_of_length-le o (omega (arith, l)))
+
+part_written : (t o : List ℕ) (i n : ℕ) → i ≤ length o → n ≡ min (length t) (length o - i) → put_mid i (i + n - i) o (take n t) ≡ written (take i o ++ t) o
+unfolding written
+part_written t o i n h e =
+    let l : length (take i o) ≡ i = length-take i o ∙ omega arith in
+    let k : i + n - i ≡ n = omega arith in
+    let m : n ≡ min (length o - i) (length t) = omega (arith, e) in
+    let q : length o ≡ length (take i o) + (length o - i) = omega (arith, l) in
+    ap (λ (j : ℕ). take i o ++ (take n t ++ drop j (drop i o))) k
+    ∙ ap (λ (y : List ℕ). take i o ++ (take n t ++ y)) (drop-drop n i o ∙ drop_cut (i + n) (length (take i o ++ t)) o (omega (arith, e, l, length-append (take i o) t)))
+    ∙ ap (λ (y : List ℕ). take i o ++ (y ++ drop (length (take i o ++ t)) o)) (ap (λ (j : ℕ). take j t) m ∙ take_min (length o - i) t)
+    ∙ sym (append_assoc (take i o) (take (length o - i) t) (drop (length (take i o ++ t)) o))
+    ∙ ap (λ (y : List ℕ). y ++ drop (length (take i o ++ t)) o) (sym (ap (λ (j : ℕ). take j (take i o ++ t)) q ∙ take-append-add (take i o) t (length o - i)))
+
+-- the text t over the bytes from place i on, as far as there is room
+pub part_added : {t o new : List ℕ} {i n end : ℕ} → Adds t o i new end → i ≤ length o → n ≡ min (length t) (length o - i) → (put_mid i (i + n - i) o (take n t) ≡ new) × (i + n ≡ end)
+part_added {t} {o} {new} {i} {n} a h e =
+    let g = a.held o (take i o) (begun o i h) in
+    (part_written t o i n h e ∙ sym g.bytes, omega (arith, h, e, g.place, length-append (take i o) t, length-take i o))

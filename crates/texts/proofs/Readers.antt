@@ -1,13 +1,12 @@
 -- What the reading loops do in one turn: the definition at the whole is the definition at what is left.
 use Rattle.std.specs.Prelude.{Err, Ok, Result}
-use Prim.Native.Nat.{ℕ, zero, suc, ◌+◌, ◌-◌, ◌≤◌, ◌<◌}
+use Prim.Native.Nat.{ℕ, zero, suc, ◌+◌, ◌-◌, ◌≤◌}
 use mathlib.Core.Path.{◌≡◌, refl, ap, ap₂, sym, ◌∙◌}
-use mathlib.Core.List.{List, [], ◌∷◌}
+use mathlib.Core.List.{List, [], ◌∷◌, map}
 use mathlib.Core.Bool.{Bool, true, false, cond, ◌&&◌, ◌||◌}
 use native.Mathlib.Omega.{arith}
-use native.Mathlib.Numerals.{add-one}
-use lib.ListN.{length, drop, get_or, drop_of_length-le}
-use lib.Seq.{drop-cons}
+use lib.ListN.{length, take, drop, get_or}
+use lib.Seq.{take_all}
 use Rattle.std.proofs.iter.Yields.{fronts, nat_range_steps}
 use Rattle.std.proofs.lemmas.Iterator.{zips, YieldsList, YieldsList-from_zip, YieldsList-from_range, YieldsList-from_slice}
 use Rattle.std.specs.Iterator.Adapters.{zip_first, zip_second}
@@ -21,7 +20,7 @@ use lib.Bits.{bit_or}
 use borrow.Author.Tests.{eqb-true, le-leb}
 use Rattle.squares.specs.Squares.{is_square, bit_of, run, single}
 use Rattle.squares.specs.declared.refusal.Refusal.{Refusal}
-use Rattle.squares.specs.declared.refusal.Refusal.TheVariants.{NoSide, NotFifty}
+use Rattle.squares.specs.declared.refusal.Refusal.TheVariants.{NoSide, NoColor, NotFifty}
 use Rattle.squares.specs.declared.piece.Color.{Color}
 use Rattle.squares.specs.declared.piece.Color.TheVariants.{White, Black}
 use Rattle.squares.specs.declared.piece.PieceKind.{PieceKind}
@@ -29,12 +28,13 @@ use Rattle.positions.specs.Boards.{kind_if}
 use Rattle.squares.proofs.Bools.{imp, imp_elim, and_both}
 use Rattle.squares.proofs.Below.{below, below_at}
 use Rattle.squares.proofs.Numbers.{range_square}
-use Rattle.texts.specs.Parts.{and_then, OnSquare}
-use Rattle.texts.specs.Bytes.{blank, trim, starts_with, strip}
+use Rattle.texts.specs.Parts.{and_then, begun, OnSquare}
+use Rattle.texts.specs.Bytes.{blank, trim, split_on, starts_with, strip}
 use Prim.Native.Char.{code}
-use Rattle.texts.specs.Fen.{fen_color_of, end_of, range_of, item_of, read_each, side_of}
+use Rattle.texts.specs.Fen.{at_comma, at_colon, body, end_of, fen_color_of, fen_fields, fen_parts, field_of, item_of, items_of, on_color, range_of, read_each, side_of}
 use Rattle.texts.specs.Hub.{hub_byte_of, hub_from}
 use Rattle.texts.specs.declared.parts.Parts.{Parts}
+use Rattle.texts.proofs.TryFolds.{read_all}
 use Rattle.texts.proofs.SquareTexts.{read_on_square}
 
 -- ---- a run of squares, one more at its end
@@ -51,21 +51,6 @@ run_next lo k p h =
     eqb-true _ _ (imp_elim (is_square lo && leb (lo + k) 50) _
     (below_at 51 (next_test lo) (below_at 51 (λ (lo : ℕ). below 51 (next_test lo)) next_tested lo (omega arith)) k (omega arith))
     (and_both (is_square lo) _ (range_square lo p (omega arith)) (le-leb (lo + k) 50 h)))
-
--- the set of the squares lo to n - 1, and n
-pub run_turn : (lo n s t : ℕ) → 1 ≤ lo → lo ≤ n → n ≤ 50 → s ≡ run lo (n - lo) → t ≡ single n → bit_or s t ≡ run lo (n + 1 - lo)
-run_turn lo n s t p l h e f =
-    let q : lo + (n - lo) ≡ n = omega arith in
-    let r : suc (n - lo) ≡ n + 1 - lo = omega arith in
-    ap (λ (x : ℕ). bit_or x t) e ∙ ap (bit_or (run lo (n - lo))) (f ∙ ap single (sym q)) ∙ run_next lo (n - lo) p (omega arith) ∙ ap (run lo) r
-
-pub run_none : (lo n : ℕ) → 0 ≡ run lo (n - n)
-unfolding run
-run_none lo n = let q : n - n ≡ 0 = omega arith in rw q refl
-
--- n was the last square
-pub run_last : (lo n hi s t : ℕ) → 1 ≤ lo → lo ≤ n → n ≤ 50 → s ≡ run lo (n - lo) → t ≡ single n → n ≡ hi → bit_or s t ≡ run lo (hi + 1 - lo)
-run_last lo n hi s t p l h e f q = run_turn lo n s t p l h e f ∙ ap (λ (x : ℕ). run lo (x + 1 - lo)) q
 
 -- ---- FEN
 pub end_on_square : (p : Result ℕ Refusal) (s : List ℕ) → p ≡ end_of s → OnSquare p
@@ -89,34 +74,43 @@ side_refused (b ∷ []) e = color_refused b e
 side_refused (b ∷ (c ∷ s)) e = cc
 
 -- ---- parts of a text, one after another
-module _ (read : Parts → List ℕ → Result Parts Refusal) (p : Parts) (left : List (List ℕ)) where
-  pub read_end : left ≡ [] → Ok p ≡ read_each read p left
-  unfolding read_each
-  read_end w = rw w refl
+pub read_trimmed : (read : Parts → List ℕ → Result Parts Refusal) (p : Parts) (texts : List (List ℕ)) → read_all read p (map (trim blank) texts) ≡ read_each read p texts
+unfolding read_all read_each
+read_trimmed read p [] = refl
+read_trimmed read p (t ∷ texts) = go (read p (trim blank t)) (λ q. read_trimmed read q texts)
+  where
+    go : (r : Result Parts Refusal) → ((q : Parts) → read_all read q (map (trim blank) texts) ≡ read_each read q texts)
+        → and_then r (λ q. read_all read q (map (trim blank) texts)) ≡ and_then r (λ q. read_each read q texts)
+    go (Ok q) h = h q
+    go (Err e) h = refl
 
-  module _ {t : List ℕ} {rest : List (List ℕ)} (w : left ≡ t ∷ rest) {a : Result Parts Refusal} (e : a ≡ read p (trim blank t)) where
-    read_one : and_then a (λ q. read_each read q rest) ≡ read_each read p left
-    unfolding read_each
-    read_one = rw (w, e) refl
+-- a field's items were read, and the fields after the side
+pub items_read : (p : Parts) (s : List ℕ) (c : Color) {a : Result Parts Refusal} → 1 ≤ length s → fen_color_of (get_or s 0 0) ≡ Ok c
+    → a ≡ read_each (item_of c) p (split_on at_comma (take (length s - 1) (drop 1 s))) → a ≡ field_of p s
+unfolding field_of
+items_read p [] c l e r = absurd (omega arith)
+items_read p (b ∷ s) c l e r = r ∙ ap (λ (t : List ℕ). read_each (item_of c) p (split_on at_comma t)) (take_all (suc (length s) - 1) s (omega arith)) ∙ ap (λ (x : Result Color Refusal). on_color NoColor x (λ c. items_of c p (split_on at_comma s))) (sym e)
 
-    pub read_next : {q : Parts} → a ≡ Ok q → read_each read q rest ≡ read_each read p left
-    read_next z = ap (λ (a : Result Parts Refusal). and_then a (λ q. read_each read q rest)) (sym z) ∙ read_one
+module _ (s : List ℕ) {f : List ℕ} {fs : List (List ℕ)} (w : split_on at_colon (body s) ≡ f ∷ fs) where
+  pub fields_read : {c : Color} {a : Result Parts Refusal} → side_of (trim blank f) ≡ Ok c → a ≡ read_each field_of (begun c) fs → a ≡ fen_parts s
+  unfolding fen_parts fen_fields
+  fields_read {c} e r = rw (w, e) r
 
-    pub read_stop : {f : Refusal} → a ≡ Err f → Err f ≡ read_each read p left
-    read_stop z = ap (λ (a : Result Parts Refusal). and_then a (λ q. read_each read q rest)) (sym z) ∙ read_one
+  pub no_side : {x : Refusal} → side_of (trim blank f) ≡ Err x → Err NoSide ≡ fen_parts s
+  unfolding fen_parts fen_fields
+  no_side e = rw (w, e) refl
 
 -- ---- Hub
 -- these bytes are read for the squares beside them, one after another
-unfoldable pub read_squares : Parts → List (ℕ × ℕ) → Result Parts Refusal
-read_squares p [] = Ok p
-read_squares p (x ∷ xs) = and_then (hub_byte_of x.0 x.1 p) (λ q. read_squares q xs)
+abbrev pub read_squares : Parts → List (ℕ × ℕ) → Result Parts Refusal
+read_squares = read_all (λ p x. hub_byte_of x.0 x.1 p)
 
 -- the squares are there, and nothing comes after them
 abbrev pub all_there : ℕ → List ℕ → Parts → Result Parts Refusal
 all_there k s p = cond (eqb (length s) k) (Ok p) (Err NotFifty)
 
 pub hub_read : (k n : ℕ) (p : Parts) (s : List ℕ) → and_then (read_squares p (zip (range_with_len n k) s)) (all_there k s) ≡ hub_from k n p s
-unfolding hub_from read_squares
+unfolding hub_from read_all
 hub_read zero n p [] = refl
 hub_read zero n p (x ∷ s) = rw eqb-suc-zero refl
 hub_read (suc k) n p [] = rw eqb-zero-suc refl
@@ -131,37 +125,16 @@ hub_read (suc k) n p (x ∷ s) = go (λ q. hub_read k (n + 1) q s) (hub_byte_of 
 unfoldable pub numbered : List ℕ → List (ℕ × ℕ)
 numbered s = zip (range_with_len 1 50) s
 
-pub hub_numbered : (s : List ℕ) (p : Parts) {r : Result Parts Refusal} → r ≡ read_squares p (numbered s) → and_then r (all_there 50 s) ≡ hub_from 50 1 p s
+-- r is what was read of all of them
+pub hub_numbered : (s : List ℕ) (p : Parts) {r w : Result Parts Refusal} → r ≡ read_squares p (numbered s) → r ≡ w → and_then w (all_there 50 s) ≡ hub_from 50 1 p s
 unfolding numbered
-hub_numbered s p e = ap (λ (r : Result Parts Refusal). and_then r (all_there 50 s)) e ∙ hub_read 50 1 p s
+hub_numbered s p e q = ap (λ (r : Result Parts Refusal). and_then r (all_there 50 s)) (sym q ∙ e) ∙ hub_read 50 1 p s
 
 -- the code goes over them
 pub goes_over : {i : Zip (Range ℕ) (Iter ℕ)} (s : List ℕ) → zip_first i ≡ record { start = 1; end = 51 } → iter_rest (zip_second i) ≡ s
     → YieldsList {B = ℕ × ℕ} (zips nat_range_steps fronts) (λ x. (x.0, x.1.now)) i (numbered s)
 unfolding numbered
 goes_over s a b = YieldsList-from_zip (YieldsList-from_range 1 51 50 a refl) (YieldsList-from_slice s b)
-
--- w is what is read of all, after k bytes
-module _ (all : List (ℕ × ℕ)) (p : Parts) (k : ℕ) (w : Result Parts Refusal) (g : read_squares p (drop k all) ≡ w) where
-  pub hub_end : k ≡ length all → Ok p ≡ w
-  unfolding read_squares
-  hub_end e = ap (read_squares p) (sym (drop_of_length-le all (omega (arith, e)))) ∙ g
-
-  -- a is what the next byte answers
-  module _ (x : ℕ × ℕ) (h : k < length all) (e : x ≡ get_or all k x) {a : Result Parts Refusal} (q : a ≡ hub_byte_of x.0 x.1 p) where
-    step : and_then a (λ q. read_squares q (drop (k + 1) all)) ≡ w
-    unfolding read_squares
-    step =
-        ap (λ (a : Result Parts Refusal). and_then a (λ q. read_squares q (drop (k + 1) all))) q
-        ∙ ap (λ (n : ℕ). read_squares p (x ∷ drop n all)) (add-one k)
-        ∙ ap (λ (y : ℕ × ℕ). read_squares p (y ∷ drop (suc k) all)) e
-        ∙ ap (read_squares p) (sym (drop-cons all k x h)) ∙ g
-
-    pub hub_next : {r : Parts} → a ≡ Ok r → read_squares r (drop (k + 1) all) ≡ w
-    hub_next z = sym (ap (λ (a : Result Parts Refusal). and_then a (λ q. read_squares q (drop (k + 1) all))) z) ∙ step
-
-    pub hub_stop : {f : Refusal} → a ≡ Err f → Err f ≡ w
-    hub_stop z = sym (ap (λ (a : Result Parts Refusal). and_then a (λ q. read_squares q (drop (k + 1) all))) z) ∙ step
 
 -- an item that is not empty: what comes after its leading K, read as the pieces that the K says
 pub item_read : (c : Color) (p : Parts) (s t : List ℕ) (k : PieceKind) (r : Result Parts Refusal) → 1 ≤ length s → k ≡ kind_if (eqb (get_or s 0 0) (code "K")) → t ≡ strip (code "K") s

@@ -1,58 +1,51 @@
--- The parts of a text one after another: the first, and those of what comes after it.
+-- What the library's `split` gives: the parts of a text, one after another.
 use denote.Ref.{Bor}
 use Rattle.std.specs.Prelude.{Some}
 use Rattle.std.specs.declared.option.Option.{Option}
-use Prim.Native.Nat.{ℕ, suc, ◌+◌, ◌-◌, ◌≤◌, ◌<◌}
-use mathlib.Core.Path.{◌≡◌, refl, ap, sym, ◌∙◌}
+use Prim.Native.Nat.{ℕ, suc, ◌+◌, ◌≤◌}
+use Rattle.std.specs.Fn.{CalledAt}
+use Rattle.std.specs.Iterator.{AlwaysYields}
+use Rattle.std.specs.List.{slice_split, onto_first}
+use Rattle.std.specs.Slice.Iter.{split_rest, split_done, split_callee, split_steps}
+use Rattle.std.proofs.lemmas.Iterator.{YieldsList}
+use Rattle.std.proofs.lemmas.Iterator.Splits.{YieldsList-from_slice_split}
+use denote.Param.Members.{Mut}
+use lib.Dec.{eqb}
+use mathlib.Core.Path.{◌≡◌, refl, ap, sym, subst, ◌∙◌}
 use mathlib.Core.List.{List, [], ◌∷◌}
 use mathlib.Core.Bool.{Bool, true, false, cond}
 use native.Mathlib.Omega.{arith}
-use lib.ListN.{length, take, drop}
-use Rattle.texts.specs.Bytes.{is, cons_head, split_on, index_of}
-use Rattle.texts.specs.Split.{parts_of}
-use Rattle.texts.proofs.Cuts.{rest}
+use lib.ListN.{length}
+use Rattle.texts.specs.Bytes.{is, cons_head, split_on}
 
-first_part : (p : ℕ → Bool) (s : List ℕ) → index_of p s < length s → split_on p s ≡ take (index_of p s) s ∷ split_on p (drop (index_of p s + 1) s)
-unfolding split_on cons_head index_of
-first_part p [] h = absurd (omega arith)
-first_part p (b ∷ s) h = go (p b) (first_part p s) h
+-- its parts are those of `split_on`
+pub slice_parts : (p : ℕ → Bool) (s : List ℕ) → slice_split p s ≡ split_on p s
+unfolding split_on cons_head
+slice_parts p [] = refl
+slice_parts p (b ∷ s) = ap (λ (l : List (List ℕ)). cond (p b) ([] ∷ l) (onto_first b l)) (slice_parts p s) ∙ ap (cond (p b) ([] ∷ split_on p s)) (go (split_on p s))
   where
-    go : (t : Bool) → (index_of p s < length s → split_on p s ≡ take (index_of p s) s ∷ split_on p (drop (index_of p s + 1) s)) → cond t 0 (suc (index_of p s)) < suc (length s)
-        → cond t ([] ∷ split_on p s) (cons_head b (split_on p s)) ≡ take (cond t 0 (suc (index_of p s))) (b ∷ s) ∷ split_on p (drop (cond t 0 (suc (index_of p s)) + 1) (b ∷ s))
-    go true e l = refl
-    go false e l =
-        let q : suc (index_of p s + 1) ≡ suc (index_of p s) + 1 = omega arith in
-        ap (cons_head b) (e (omega arith)) ∙ ap (λ (n : ℕ). (b ∷ take (index_of p s) s) ∷ split_on p (drop n (b ∷ s))) q
+    go : (l : List (List ℕ)) → onto_first b l ≡ cons_head b l
+    go [] = refl
+    go (f ∷ fs) = refl
 
-only_part : (p : ℕ → Bool) (s : List ℕ) → index_of p s ≡ length s → split_on p s ≡ s ∷ []
-unfolding split_on cons_head index_of
-only_part p [] e = refl
-only_part p (b ∷ s) e = go (p b) (only_part p s) e
+-- a text that is cut at the byte c gives them one after another
+pub parts_come : {F : Type 0} {s : _} (g : Mut F (Bor ℕ × Unit {0}) Bool) (c : ℕ) {f : F} (t : List ℕ) → split_rest s ≡ t → split_done s ≡ false → split_callee s ≡ f
+    → ((x : ℕ) (b : Bool) (q : F) → CalledAt g f x b q → (q ≡ f) × (b ≡ eqb x c)) → YieldsList (split_steps g) (λ x. x.now) s (split_on (is c) t)
+unfolding is
+parts_come {s = s} g c t whole done closure tests =
+    subst (YieldsList (split_steps g) (λ x. x.now) s) (slice_parts (is c) t) (YieldsList-from_slice_split g (is c) t whole done closure tests)
+
+-- the first part came, and the others come after it
+pub others_come : {F : Type 0} {g : Mut F (Bor ℕ × Unit {0}) Bool} {s u : _} {r : Option (Bor (List ℕ))} → split_steps g s r u → (x : Bor (List ℕ)) → r ≡ Some x → (l : List (List ℕ)) → YieldsList (split_steps g) (λ x. x.now) s l
+    → (more : List (List ℕ)) × (l ≡ x.now ∷ more) × YieldsList (split_steps g) (λ x. x.now) u more
+others_come {g = g} {s} {u} k x e l y = go l y.runs
   where
-    go : (t : Bool) → (index_of p s ≡ length s → split_on p s ≡ s ∷ []) → cond t 0 (suc (index_of p s)) ≡ suc (length s)
-        → cond t ([] ∷ split_on p s) (cons_head b (split_on p s)) ≡ (b ∷ s) ∷ []
-    go true f e = absurd (omega (arith, e))
-    go false f e = ap (cons_head b) (f (omega (arith, e)))
+    step : split_steps g s (Some x) u
+    step = subst (λ (o : Option (Bor (List ℕ))). split_steps g s o u) e k
 
--- the text t is left, and n is the place of its first c
-module _ (c : ℕ) (left : Option (Bor (List ℕ))) (t : Bor (List ℕ)) (w : left ≡ Some t) where
-  module _ (n : ℕ) (i : n ≡ index_of (is c) t.now) (h : index_of (is c) t.now < length t.now) where
-    pub part_first : parts_of (is c) left ≡ take n t.now ∷ split_on (is c) (take (length t.now - (n + 1)) (drop (n + 1) t.now))
-    part_first =
-        ap (parts_of (is c)) w ∙ first_part (is c) t.now h
-        ∙ ap (λ (m : ℕ). take m t.now ∷ split_on (is c) (drop (m + 1) t.now)) (sym i)
-        ∙ ap (λ (l : List ℕ). take n t.now ∷ split_on (is c) l) (sym (rest t.now (n + 1)))
-
-    pub part_fewer : length (split_on (is c) (take (length t.now - (n + 1)) (drop (n + 1) t.now))) < length (parts_of (is c) left)
-    part_fewer = omega (arith, ap length part_first)
-
-  -- there is no c
-  module _ (i : index_of (is c) t.now ≡ length t.now) where
-    pub part_last : parts_of (is c) left ≡ t.now ∷ []
-    part_last = ap (parts_of (is c)) w ∙ only_part (is c) t.now i
-
-    pub part_ends : 0 < length (parts_of (is c) left)
-    part_ends = omega (arith, ap length part_last)
+    go : (l : List (List ℕ)) → AlwaysYields (split_steps g) (λ x. x.now) s l → (more : List (List ℕ)) × (l ≡ x.now ∷ more) × YieldsList (split_steps g) (λ x. x.now) u more
+    go [] a = absurd (a x u step)
+    go (f ∷ fs) a = (fs, ap (λ (t : List ℕ). t ∷ fs) (sym (a.1 x u step).0), record { runs = (a.1 x u step).1 })
 
 -- no more parts than bytes and one
 pub parts_short : (p : ℕ → Bool) (s : List ℕ) → length (split_on p s) ≤ length s + 1

@@ -1,4 +1,5 @@
 -- Texts as lists of bytes: trimming, splitting, joining, and the text of a square (docs/RULES.md, "Square texts").
+use denote.Ref.{Bor}
 use Rattle.std.specs.Prelude.{◌≡◌, ◌<◌, None, Some, ℕ, suc, ◌+◌, ◌-◌, ◌*◌, ◌/◌, ◌%◌, List, [], ◌∷◌, ◌++◌, Bool, true, false, cond, ◌&&◌, ◌||◌, length, ltb, leb, eqb, Err, Ok, Result}
 use Prim.Native.Char.{code}
 use Prim.Native.String.{String, [] as []ˢ, ◌∷◌ as ◌∷ˢ◌}
@@ -146,3 +147,8 @@ index_of p (b ∷ s) = cond (p b) 0 (suc (index_of p s))
 abbrev pub IsIndex : ℕ → ℕ → Option ℕ → Type 0
 IsIndex i n (Some k) = (k ≡ i) × (i < n)
 IsIndex i n None = i ≡ n
+
+-- r is what comes after the first c of s, where s contains c
+abbrev pub IsAfter : ℕ → List ℕ → Option (Bor (List ℕ)) → Type 0
+IsAfter c s (Some t) = (holds c s ≡ true) × (t.now ≡ after_first c s)
+IsAfter c s None = holds c s ≡ false

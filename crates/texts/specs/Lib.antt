@@ -1,5 +1,4 @@
 pub mod Bytes
-pub mod Split
 pub mod Parts
 pub mod Lent
 pub mod Fen

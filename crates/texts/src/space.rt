@@ -35,17 +35,20 @@ impl<'a> Space<'a> {
         }
     }
 
-    // Writes these bytes.
-    #[tactic(auto, using(crate::proofs::Overs::over_none, crate::proofs::Overs::over_next, crate::proofs::Overs::over_all))]
+    // Writes these bytes, as many as have room.
+    #[tactic(auto, using(crate::proofs::Overs::over_part, crate::proofs::Overs::over_out))]
     pub fn put(&mut self, s: &[u8])
         ensures { self.new ≡ over s.now self.old }
     {
-        for &b in s {
-            self.put_byte(b);
+        if self.at < self.bytes.len() {
+            let n = s.len().min(self.bytes.len() - self.at);
+            self.bytes[self.at..self.at + n].copy_from_slice(&s[..n]);
+            self.at += n;
         }
     }
 
-    // Writes a number below 100 in decimal.
+    // Writes a number below 100 in decimal. From 100 on callers are promised two bytes by the same formula, so this is no
+    // `put_decimal` of `wording`.
     #[tactic(auto, unfolding(crate::specs::Bytes::digits, crate::specs::Lent::over))]
     #[inline(always)]
     pub fn put_digits(&mut self, n: u8)

@@ -9,14 +9,14 @@ use lib.Dec.{eqb, leb}
 use denote.Ref.{Bor}
 use borrow.Author.Tests.{le-leb, lt-leb, eq-eqb, ne_eqb}
 use Rattle.texts.proofs.Cuts.{rest}
-use Rattle.texts.proofs.Overs.{over_none, over_append, over_lent}
+use Rattle.texts.proofs.Overs.{over_none, over_lent}
 use Rattle.texts.proofs.Pieces.{whole}
 use Rattle.texts.specs.Lent.{over}
 use Rattle.texts.specs.declared.space.Space.{Space}
 use Rattle.wording.specs.Numbers.{digit_of}
 use Rattle.wording.specs.Escapes.{Plain, text, broken, high_of, hex_escape, escape_of, Escaped, before, on_escape, undo, plain, is_plain, text_of, undone, Undid}
 use Rattle.std.specs.declared.option.Option.{Option}
-use Rattle.std.specs.Prelude.{None, Some, is_some}
+use Rattle.std.specs.Prelude.{None, Some, is_some, flat_map, option_to_list}
 use Rattle.std.specs.List.{list_all}
 use Rattle.wording.specs.Steps.{escaped_first, undo_each}
 
@@ -203,38 +203,19 @@ pub over_undone_none : (s : List ℕ) (o : Space) → is_plain (plain s) ≡ fal
 over_undone_none s o q = sym (over_none o) ∙ sym (ap (λ (t : List ℕ). over t o) (undone_none s q))
 
 -- the bytes that they are
-unfoldable pub some_bytes : List (Option ℕ) → List ℕ
-some_bytes [] = []
-some_bytes (None ∷ l) = some_bytes l
-some_bytes (Some b ∷ l) = b ∷ some_bytes l
-
-gathered_bytes : (l : List (Option ℕ)) → is_plain (gathered l) ≡ true → text_of (gathered l) ≡ some_bytes l
-unfolding gathered some_bytes
+gathered_bytes : (l : List (Option ℕ)) → is_plain (gathered l) ≡ true → text_of (gathered l) ≡ flat_map option_to_list l
+unfolding gathered
 gathered_bytes [] e = refl
 gathered_bytes (None ∷ l) e = absurd (false≢true e)
 gathered_bytes (Some b ∷ l) e = go (gathered l) (gathered_bytes l) e
   where
-    go : (p : Plain) → (is_plain p ≡ true → text_of p ≡ some_bytes l) → is_plain (before b p) ≡ true → text_of (before b p) ≡ b ∷ some_bytes l
+    go : (p : Plain) → (is_plain p ≡ true → text_of p ≡ flat_map option_to_list l) → is_plain (before b p) ≡ true → text_of (before b p) ≡ b ∷ flat_map option_to_list l
     go (text t) h e = ap (λ (u : List ℕ). b ∷ u) (h e)
     go broken h e = absurd (false≢true e)
 
-pub undone_each : (s : List ℕ) → is_plain (plain s) ≡ true → undone s ≡ some_bytes (undo_each 0 s)
+pub undone_each : (s : List ℕ) → is_plain (plain s) ≡ true → undone s ≡ flat_map option_to_list (undo_each 0 s)
 unfolding undone plain
 undone_each s e = ap text_of (undo_is 0 s) ∙ gathered_bytes (undo_each 0 s) (sym (ap is_plain (undo_is 0 s)) ∙ e)
-
--- one byte was written, or none
-module _ (left rest : List (Option ℕ)) (out : Space) where
-  pub wrote_byte : (b : ℕ) (new : Space) → left ≡ Some b ∷ rest → new ≡ over (b ∷ []) out → over (some_bytes rest) new ≡ over (some_bytes left) out
-  unfolding some_bytes
-  wrote_byte b new e w = ap (over (some_bytes rest)) w ∙ sym (over_append (b ∷ []) (some_bytes rest) out) ∙ ap (λ (l : List (Option ℕ)). over (some_bytes l) out) (sym e)
-
-  pub wrote_none : left ≡ None ∷ rest → over (some_bytes rest) out ≡ over (some_bytes left) out
-  unfolding some_bytes
-  wrote_none e = ap (λ (l : List (Option ℕ)). over (some_bytes l) out) (sym e)
-
-pub wrote_all : (left : List (Option ℕ)) (out : Space) → left ≡ [] → out ≡ over (some_bytes left) out
-unfolding some_bytes
-wrote_all left out e = sym (over_none out) ∙ ap (λ (l : List (Option ℕ)). over (some_bytes l) out) (sym e)
 
 -- from the start of lent bytes on
 pub undid : (s old : List ℕ) (o out : Space) → o.bytes.now ≡ old → o.at ≡ 0 → out ≡ over (undone s) o → Undid s old out.bytes.now out.at

@@ -17,7 +17,8 @@ use Rattle.std.specs.Result.{result_ok}
 use Rattle.std.specs.Str.{IsAscii, IsUtf8}
 use Rattle.std.specs.Str.Parse.{AllDigits, IsNumeral, digits_value_after, digits_value, without_leading_plus, ParsesUnsigned, ParsesSigned}
 use Rattle.std.proofs.lemmas.Str.{IsUtf8-from_ascii}
-use Rattle.wording.specs.Numbers.{AtMost, digit_of, value_from, number_in, unsigned_of, set_of, without_prefix, needless, given_of, positive_of, negative_of, signed_of}
+use mathlib.Core.Logic.{inl, inr}
+use Rattle.wording.specs.Numbers.{Reads, AtMost, digit_of, value_from, number_in, unsigned_of, set_of, without_prefix, needless, given_of, positive_of, negative_of, signed_of}
 use Rattle.std.specs.Str.Pattern.{FindsTextPrefix, IsTrimStartMatches}
 use Rattle.wording.proofs.Prefixes.{prefix, trimmed, ascii_before}
 use Rattle.wording.proofs.Values.{digit_found, past_letters}
@@ -26,6 +27,15 @@ use Rattle.std.specs.declared.option.Option.{Option}
 use Rattle.std.specs.declared.result.Result.{Result}
 
 -- ---- what is read, in words of the library
+module _ {T E : Type 0} (gives : List ℕ → Result T E → Type 0) (s : List ℕ) (n : Option T) where
+  pub text_read : (t : List ℕ) (r : Result T E) → t ≡ s → gives t r → n ≡ result_ok r → Reads gives s n
+  unfolding Reads
+  text_read t r e h q = inl (r, subst (λ (l : List ℕ). gives l r) e h, q)
+
+  pub no_text_read : (IsUtf8 s → ⊥) → n ≡ None → Reads gives s n
+  unfolding Reads
+  no_text_read h q = inr (h, q)
+
 same_if : {T : Type 0} {P Q : Type 0} {v w : T} (o : Option T) → (P → Q) → (Q → P) → v ≡ w → SomeIff o P v → SomeIff o Q w
 same_if (Some x) f g e h = (f h.0, h.1 ∙ e)
 same_if None f g e h = λ q. h (g q)
@@ -149,6 +159,12 @@ pub unsigned_no_text : (s : List ℕ) → (IsUtf8 s → ⊥) → unsigned_of s �
 unfolding unsigned_of
 unsigned_no_text s n = no_plus_text 10 (omega arith) (omega arith) 4294967295 s (λ a. n (IsUtf8-from_ascii s a))
 
+pub unsigned_number : {E : Type 0} (gives : List ℕ → Result ℕ E → Type 0) (s : List ℕ) (n : Option ℕ)
+    → ((r : Result ℕ E) → gives s r → ParsesUnsigned 32 10 s r) → Reads gives s n → n ≡ unsigned_of s
+unfolding Reads
+unsigned_number gives s n f (inl (r, h, q)) = q ∙ unsigned_read s r (f r h)
+unsigned_number gives s n f (inr (h, q)) = q ∙ sym (unsigned_no_text s h)
+
 pub set_read : {E : Type 0} (s t : List ℕ) (r : Result ℕ E) → ParsesUnsigned 64 16 t r → IsTrimStartMatches (FindsTextPrefix prefix) s t → result_ok r ≡ set_of s
 unfolding set_of
 set_read s t r h e = read 16 18446744073709551615 64 (omega arith) (omega arith) refl t r h ∙ ap (λ l. number_in 16 18446744073709551615 (strip 43 l)) (trimmed s t e)
@@ -211,6 +227,12 @@ signed_no_text (b ∷ s) n = go (eqb b 45) refl
     go true e = ap negative_of (no_signed_text 10 (omega arith) (omega arith) 4294967295 b s (omega (arith, eqb-true b 45 e)) (λ a. n (IsUtf8-from_ascii (b ∷ s) a)))
     go false e = ap positive_of (no_plus_text 10 (omega arith) (omega arith) 4294967295 (b ∷ s) (λ a. n (IsUtf8-from_ascii (b ∷ s) a)))
 
+pub signed_number : {E : Type 0} (gives : List ℕ → Result ℤ E → Type 0) (s : List ℕ) (n : Option ℤ)
+    → ((r : Result ℤ E) → gives s r → ParsesSigned w32 10 s r) → Reads gives s n → n ≡ signed_of s
+unfolding Reads
+signed_number gives s n f (inl (r, h, q)) = q ∙ signed_read s r (f r h)
+signed_number gives s n f (inr (h, q)) = q ∙ sym (signed_no_text s h)
+
 -- ---- digits alone
 the_same : {T : Type 0} (P : Type 0) (v : T) (o q : Option T) → SomeIff o P v → SomeIff q P v → o ≡ q
 the_same P v (Some x) (Some y) h k = ap Some (h.1 ∙ sym k.1)
@@ -256,27 +278,30 @@ none_given limit s e = go (needless s)
 pub given_plus : (limit : ℕ) (s : List ℕ) → get_or s 0 0 ≡ 43 → given_of limit s ≡ None
 given_plus limit s e = none_given limit s (plus_none limit s e)
 
-pub given_no_text : (limit : ℕ) (s : List ℕ) → (IsUtf8 s → ⊥) → given_of limit s ≡ None
-given_no_text limit s n = none_given limit s (no_text 10 (omega arith) (omega arith) limit s (λ a. n (IsUtf8-from_ascii s a)))
-
 no_plus_empty : (s : List ℕ) → length s < 1 → get_or s 0 0 ≡ 43 → ⊥
 no_plus_empty [] l e = omega (arith, e)
 no_plus_empty (b ∷ s) l e = omega arith
 
-module _ {E : Type 0} (limit : ℕ) (s : List ℕ) (r : Result ℕ E) (small : limit < 2 ^ 64) (h : ParsesUnsigned 64 10 s r) (o : Option ℕ) (e : o ≡ result_ok r) where
+module _ {E : Type 0} (gives : List ℕ → Result ℕ E → Type 0) (limit : ℕ) (s : List ℕ) (small : limit < 2 ^ 64) (o : Option ℕ)
+    (f : (r : Result ℕ E) → gives s r → ParsesUnsigned 64 10 s r) (h : Reads gives s o) where
   whole : (get_or s 0 0 ≡ 43 → ⊥) → o ≡ number_in 10 18446744073709551615 s
-  whole n = e ∙ read 10 18446744073709551615 64 (omega arith) (omega arith) refl s r h ∙ ap (number_in 10 18446744073709551615) (no_strip s n)
+  unfolding Reads
+  whole n = go h
+    where
+      go : Reads gives s o → o ≡ number_in 10 18446744073709551615 s
+      go (inl (r, k, q)) = q ∙ read 10 18446744073709551615 64 (omega arith) (omega arith) refl s r (f r k) ∙ ap (number_in 10 18446744073709551615) (no_strip s n)
+      go (inr (k, q)) = q ∙ sym (no_text 10 (omega arith) (omega arith) 18446744073709551615 s (λ a. k (IsUtf8-from_ascii s a)))
 
   pub given_none : o ≡ None → given_of limit s ≡ None
-  given_none f = none_given limit s (go (eqb (get_or s 0 0) 43) refl)
+  given_none e = none_given limit s (go (eqb (get_or s 0 0) 43) refl)
     where
       go : (t : Bool) → eqb (get_or s 0 0) 43 ≡ t → number_in 10 limit s ≡ None
       go true g = plus_none limit s (eqb-true (get_or s 0 0) 43 g)
-      go false g = small_none limit s small (sym (whole (eqb-false (get_or s 0 0) 43 g)) ∙ f)
+      go false g = small_none limit s small (sym (whole (eqb-false (get_or s 0 0) 43 g)) ∙ e)
 
-  module _ (v : ℕ) (f : o ≡ Some v) where
+  module _ (v : ℕ) (e : o ≡ Some v) where
     number_some : (get_or s 0 0 ≡ 43 → ⊥) → number_in 10 limit s ≡ then_some (leb v limit) v
-    number_some n = small_some limit s small v (sym (whole n) ∙ f)
+    number_some n = small_some limit s small v (sym (whole n) ∙ e)
 
     pub given_empty : length s < 1 → given_of limit s ≡ then_some (leb v limit) v
     given_empty l = given_short limit s (omega (arith, l)) ∙ number_some (no_plus_empty s l)

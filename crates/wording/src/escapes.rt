@@ -98,22 +98,22 @@ pub fn is_plain(s: &[u8]) -> bool
 }
 
 // Writes the text of a word; nothing where an escape in it is invalid.
-#[tactic(auto, using(crate::proofs::Escaped::over_undone_none))]
+#[tactic(auto, using(texts::proofs::Overs::over_none, texts::proofs::Overs::over_append, crate::proofs::Escaped::over_undone_none))]
 fn put_plain(out: &mut Space, s: &[u8])
     ensures { out.new ≡ over (undone s.now) out.old }
 {
     if !is_plain(s) {
         return;
     }
-    for b in Undone(s) {
-        if let Some(x) = b {
-            out.put_byte(x);
-        }
+    for b in Undone(s).flatten() {
+        out.put_byte(b);
     }
 }
 
 // Writes the text of a word into lent bytes, as much of it as fits, and returns how many bytes were written. Where an
-// escape is invalid nothing is written: a caller that must know asks `is_plain`.
+// escape is invalid nothing is written, and callers are promised 0: one that must know asks `is_plain`. (`answer` and
+// `help` of the crate `requests` begin and end so too. A function for that would take the writing as a closure, and be
+// no shorter.)
 pub fn unescape(s: &[u8], out: &mut [u8]) -> usize
     ensures { Undid s.now out.old out.new result }
 {

@@ -6,29 +6,38 @@
 // * `set`: 64 bits in hexadecimal, with or without `0x`;
 // * `given`: decimal digits alone, exactly as `output::put_decimal` writes them.
 ghost use Rattle.std.specs.Prelude.{◌≡◌};
-ghost use Rattle.wording.specs.Numbers.{AtMost, unsigned_of, given_of, set_of, signed_of};
+ghost use Rattle.wording.specs.Numbers.{Reads, AtMost, unsigned_of, given_of, set_of, signed_of};
+
+use std::str::FromStr;
+
+// The number that the library reads from these bytes, where they are a text.
+#[tactic(auto, using(crate::proofs::Parses::text_read, crate::proofs::Parses::no_text_read))]
+fn number<T: FromStr>(s: &[u8]) -> Option<T>
+where
+    T::Err: Drop,
+    ensures { Reads T.from_str_gives s.now result }
+{
+    str::from_utf8(s).ok()?.parse::<T>().ok()
+}
 
 // An unsigned number of 32 bits.
-#[tactic(auto, using(crate::proofs::Parses::unsigned_read, crate::proofs::Parses::unsigned_no_text))]
+#[tactic(auto, using(crate::proofs::Parses::unsigned_number))]
 pub fn unsigned(s: &[u8]) -> Option<u32>
     ensures { result ≡ unsigned_of s.now }
 {
-    str::from_utf8(s).ok()?.parse::<u32>().ok()
+    number(s)
 }
 
 // A decimal number: digits alone, no sign, no needless zero at the start, at most the limit. Each number has one text.
-#[tactic(auto, using(crate::proofs::Given::given_zero, crate::proofs::Parses::given_plus, crate::proofs::Parses::given_no_text, crate::proofs::Parses::given_none, crate::proofs::Parses::given_empty, crate::proofs::Parses::given_one, crate::proofs::Parses::given_more, crate::proofs::Parses::given_limited))]
+#[tactic(auto, using(crate::proofs::Given::given_zero, crate::proofs::Parses::given_plus, crate::proofs::Parses::given_none, crate::proofs::Parses::given_empty, crate::proofs::Parses::given_one, crate::proofs::Parses::given_more, crate::proofs::Parses::given_limited))]
 pub fn given(s: &[u8], limit: u64) -> Option<u64>
     ensures { (result ≡ given_of limit s.now) × AtMost limit result }
 {
-    if let [b'0', _, ..] = s {
+    // The library would read a number after needless zeros or a plus.
+    if let [b'0', _, ..] | [b'+', ..] = s {
         return None;
     }
-    // The library would read a number after a plus.
-    if let [b'+', ..] = s {
-        return None;
-    }
-    let n = str::from_utf8(s).ok()?.parse::<u64>().ok()?;
+    let n = number::<u64>(s)?;
     (n <= limit).then_some(n)
 }
 
@@ -42,9 +51,9 @@ pub fn set(s: &[u8]) -> Option<u64>
 }
 
 // A signed number of 32 bits.
-#[tactic(auto, using(crate::proofs::Parses::signed_read, crate::proofs::Parses::signed_no_text))]
+#[tactic(auto, using(crate::proofs::Parses::signed_number))]
 pub fn read_signed(s: &[u8]) -> Option<i32>
     ensures { result ≡ signed_of s.now }
 {
-    str::from_utf8(s).ok()?.parse::<i32>().ok()
+    number(s)
 }

@@ -1,9 +1,10 @@
-// Writers of answers. An answer is written piece by piece into a space; what has no room is left out.
+// Writers of answers. An answer is written piece by piece into a space; what has no room is left out. The texts of a
+// flaw and of a refusal are no `Display`: no contract says when `write!` into a space answers `Ok`.
 ghost use Rattle.std.specs.Prelude.{◌≡◌, ◌≤◌};
 ghost use Rattle.texts.specs.Lent.{over};
 ghost use Rattle.wording.specs.Output.{decimal, hex, hash, signed, refusal_text, number_word, flaw_word, bad, Wide};
 
-use squares::refusal::Refusal;
+use squares::refusal::{Guard, Refusal};
 use texts::space::Space;
 
 // What is wrong with a bad request.
@@ -22,6 +23,8 @@ pub enum Flaw {
     // The side is neither W nor B.
     Side,
 }
+
+impl Guard for Flaw {}
 
 // Writes a number in decimal, without needless zeros.
 #[tactic(auto, using(texts::proofs::Overs::over_as, crate::proofs::Numerals::decimal_is))]
@@ -43,7 +46,8 @@ pub fn put_signed(out: &mut Space, z: i32)
     put_decimal(out, z.unsigned_abs() as u64);
 }
 
-// Writes a number in hexadecimal, with at least so many digits, and no more than it needs.
+// Writes a number in hexadecimal, with at least so many digits, and no more than it needs. `put_decimal` has room for
+// more digits and asks for no least number of them, so one function for both would take all that is here.
 #[tactic(auto)]
 fn put_wide(out: &mut Space, n: u64, least: usize)
     requires { (1 ≤ least) × (least ≤ 16) }

@@ -1,14 +1,13 @@
--- One square a turn.
+-- One square a turn: what is left is heard as all is.
 use mathlib.Core.Path.{◌≡◌}
-use Prim.Native.Nat.{◌≤◌, ◌+◌}
 use mathlib.Core.Bool.{cond}
-use lib.ListN.{length}
+use Prim.Native.Nat.{ℕ}
+use lib.ListN.{length, drop}
 use Rattle.texts.specs.Bytes.{is, split_on}
-use Rattle.texts.specs.Split.{parts_left}
-use Rattle.notation.specs.Notation.{heard_squares}
+use Rattle.notation.specs.Notation.{heard_squares, unsaid}
 use Rattle.notation.proofs.notation.heard_squares.Given as goal
 
 abbrev pub invariant-loop-part : goal.invariant-loop-part
 invariant-loop-part l =
-    (l.h.count + length (parts_left l.part-iterator) ≤ length l.s + 1)
-    × (heard_squares l.initial.h (split_on (is (cond l.capture 120 45)) l.s) ≡ heard_squares l.h (parts_left l.part-iterator))
+    let all = split_on (is (cond l.capture 120 45)) l.s in
+    (◌≡◌ {A = ℕ} l.h.count (length l.yielded)) × (heard_squares l.h (drop (length l.yielded) all) ≡ heard_squares (unsaid l.capture) all)

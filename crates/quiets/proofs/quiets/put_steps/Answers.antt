@@ -31,7 +31,7 @@ loop-at-preserved c =
     let l = c.loop-at in
     rw s.2
     (adding_turn _ _ l.list l.at-iterator.0 l.invariant c.put.new.self s.0
-    (put_step _ _ _ _ _ _ l.list _ s.1 c.opposite.ensures c.shift-in-loop-at.ensures c.quiet_move.ensures c.in_ok-put.ensures))
+    (put_step _ _ _ _ _ _ l.list _ s.1 c.opposite.ensures c.shift-in-loop-at.ensures c.by_bits.ensures c.in_ok-put.ensures))
 
 pub returns-in_err-put : goal.returns-in_err-put
 returns-in_err-put c =
@@ -40,7 +40,7 @@ returns-in_err-put c =
     let l = c.loop-at in
     ap (kept c.put.new.self) q
     ∙ adding_stop _ _ l.list l.at-iterator.0 (rw c.into_iter-at-iterator.ensures.into_iter_gives at l.invariant) _ s.0
-    (put_step _ _ _ _ _ _ l.list _ s.1 c.opposite.ensures c.shift-in-loop-at.ensures c.quiet_move.ensures c.in_err-put.ensures)
+    (put_step _ _ _ _ _ _ l.list _ s.1 c.opposite.ensures c.shift-in-loop-at.ensures c.by_bits.ensures c.in_err-put.ensures)
     ∙ steps_are _ _ _ _ _ c.shift.ensures
 
 pub returns : goal.returns

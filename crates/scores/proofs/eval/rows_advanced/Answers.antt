@@ -1,49 +1,39 @@
--- After n turns the sum is that of the first n rows; after ten, each square has been counted in its row.
-use mathlib.Core.Path.{◌≡◌, sym, ap, ap₂, ◌∙◌}
-use Prim.Native.Nat.{ℕ, ◌+◌, ◌*◌, ◌≤◌, ◌<◌}
-use native.Mathlib.Omega.{arith}
-use lib.Bits.{bit_and}
-use lib.ListN.{get_or}
-use Rattle.squares.specs.declared.piece.Color.{Color}
-use Rattle.squares.specs.Sets.{size}
-use Rattle.scores.specs.Score.{ahead_of}
-use Rattle.scores.proofs.Advances.{row_table, row_set, row_at, by_rows, by_rows_none, by_rows_next, by_rows_is, row_le}
+-- The chain adds up the ten rows; each square is counted in its row.
+use Rattle.std.proofs.Common.{◌≡◌, ◌<◌, ap, ◌∙◌, arith, rules, tests, ℕ, ◌^◌}
+use Rattle.std.specs.declared.ops.Range.{Range}
+use Rattle.std.proofs.lemmas.Iterator.{YieldsList-from_range, YieldsList-from_map, serves_from_Range}
+use Rattle.std.proofs.lemmas.Iterator.Consumers.{sum_by_from_yields_List, fits_by_from_yields_list}
+use Rattle.scores.proofs.Advances.{rows, in_row, rows_sum, rows_most, by_rows_is, row_few}
 use Rattle.scores.proofs.eval.rows_advanced.Goals as goal
 
--- what one turn adds
-added : (color : Color) (men row rows count : ℕ)
-    → row < 10
-    → rows ≡ ahead_of color row
-    → count ≡ size (bit_and men (get_or row_table row 0))
-    → rows * count ≡ ahead_of color row * size (bit_and men (row_set row))
-added color men row rows count lt a n =
-    ap₂ ◌*◌ a (n ∙ ap (λ (x : ℕ). size (bit_and men x)) (row_at row lt))
+-- the range ends at ten
+ten : (s : Range ℕ) → s ≡ record { start = 0; end = 10 } → s.end ≡ 10
+ten s e = ap (λ (t : Range ℕ). t.end) e
 
-few : (color : Color) (men row rows count : ℕ)
-    → row < 10
-    → rows ≡ ahead_of color row
-    → count ≡ size (bit_and men (get_or row_table row 0))
-    → rows * count ≤ 576
-few color men row rows count lt a n =
-    rw (added color men row rows count lt a n) (row_le color row (bit_and men (row_set row)) lt)
+pub sum-requires-clause-can : goal.sum-requires-clause-can
+sum-requires-clause-can c = (
+  tt,
+  serves_from_Range (λ x q k. search (rules, tests))
+      (λ x a b.
+      let lt : x < 10 = omega (arith, b, ten _ c.map.ensures.source) in (
+        search (rules, lt),
+        search (arith, rules, lt),
+        search (rules, lt),
+        λ κs p g m r t ahead f i u w count. omega (arith, row_few _ x _ _ _ lt ahead.ensures count.ensures),
+      )),
+)
 
-pub loop-row-init : goal.loop-row-init
-loop-row-init c = (sym (by_rows_none _ _), omega arith, omega arith)
-
-pub overflow_mul-sum : goal.overflow_mul-sum
-overflow_mul-sum c = omega (arith, few c.args.color c.args.men c.loop-row.row _ _ (omega arith) c.ahead.ensures c.count.ensures)
-
-pub overflow_add-sum : goal.overflow_add-sum
-overflow_add-sum c = omega (arith, few c.args.color c.args.men c.loop-row.row _ _ (omega arith) c.ahead.ensures c.count.ensures)
-
-pub loop-row-preserved : goal.loop-row-preserved
-loop-row-preserved c =
-    (ap₂ ◌+◌ c.loop-row.invariant.0 (added c.args.color c.args.men c.loop-row.row _ _ (omega arith) c.ahead.ensures c.count.ensures) ∙ sym (by_rows_next c.args.color c.args.men c.loop-row.row), omega (arith, few c.args.color c.args.men c.loop-row.row _ _ (omega arith) c.ahead.ensures c.count.ensures), omega arith)
+pub sum-requires-clause-fits : goal.sum-requires-clause-fits
+sum-requires-clause-fits c =
+    fits_by_from_yields_list (in_row c.args.color c.args.men) rows _ (2 ^ 32)
+    (YieldsList-from_map _ (in_row c.args.color c.args.men) (YieldsList-from_range 0 10 10 (cc) (omega arith)) c.map.ensures.closure (λ x r q k. search (rules, tests)))
+    (omega (arith, rows_most c.args.color c.args.men))
 
 pub returns : goal.returns
 returns c =
-    let ten : c.loop-row.row ≡ 10 = omega arith in
+    let sum = sum_by_from_yields_List (in_row c.args.color c.args.men) rows _ c.sum.result c.sum.ensures.ran
+    (YieldsList-from_map _ (in_row c.args.color c.args.men) (YieldsList-from_range 0 10 10 (cc) (omega arith)) c.map.ensures.closure (λ x r q k. search (rules, tests))) in
     record {
-      value = c.loop-row.invariant.0 ∙ ap (by_rows c.args.color c.args.men) ten ∙ by_rows_is c.args.color c.args.men;
-      upper_bound = omega arith;
+      value = sum ∙ rows_sum c.args.color c.args.men ∙ by_rows_is c.args.color c.args.men;
+      upper_bound = omega (arith, sum, rows_most c.args.color c.args.men);
     }

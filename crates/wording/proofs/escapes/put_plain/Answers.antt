@@ -1,24 +1,25 @@
 -- No escape is invalid; at the end all was written.
-use mathlib.Core.Path.{sym, ap, ◌∙◌}
-use mathlib.Core.List.{List, ◌∷◌}
+use mathlib.Core.Path.{ap, sym, ◌∙◌}
+use mathlib.Core.List.{List}
 use Prim.Native.Nat.{ℕ}
-use Rattle.std.specs.declared.option.Option.{Option}
+use Rattle.std.proofs.Common.{map-id}
+use Rattle.std.specs.Prelude.{option_to_list}
+use Rattle.std.proofs.lemmas.Iterator.Adapters.{YieldsList-from_flatten, YieldsList-from_once}
+use Rattle.std.proofs.lemmas.Iterator.Consumers.{YieldsList-from_first, YieldsList-end}
 use Rattle.texts.specs.Lent.{over}
-use Rattle.wording.specs.Steps.{undone_left}
-use Rattle.wording.proofs.Escaped as laws
+use Rattle.wording.specs.Steps.{undone_left, undo_each}
+use Rattle.wording.proofs.Escaped.{undone_each}
 use Rattle.wording.proofs.escapes.put_plain.Goals as goal
-
-pub loop-b-preserved-in-Some-b : goal.loop-b-preserved-in-Some-b
-loop-b-preserved-in-Some-b c =
-    let rest = undone_left c.next.new.self in
-    laws.wrote_byte _ rest c.loop-b.out c.in-Some-b.x _ (c.in-Some.ensures.steps ∙ ap (λ (b : Option ℕ). b ∷ rest) c.in-Some-b.is) c.put_byte.ensures ∙ c.loop-b.invariant
-
-pub loop-b-preserved : goal.loop-b-preserved
-loop-b-preserved c =
-    let rest = undone_left c.next.new.self in
-    laws.wrote_none _ rest c.loop-b.out (c.in-Some.ensures.steps ∙ ap (λ (b : Option ℕ). b ∷ rest) c.in_default.is) ∙ c.loop-b.invariant
 
 pub returns : goal.returns
 returns c =
+    let from = c.flatten-b-items.ensures in
+    let same = c.into_iter-b-iterator.ensures.into_iter_gives in
+    let each = YieldsList-from_first (λ x. x) undone_left (undo_each 0 c.args.s.now) (ap (λ i. undone_left i.iter) same ∙ ap undone_left from.source) in
+    let bytes =
+    YieldsList-from_flatten _ _ (λ x. x) option_to_list (λ x j h. YieldsList-from_once x h.0) each (ap (λ i. i.front) same ∙ from.front)
+    (ap (λ i. i.back) same ∙ from.back) (ap (λ i. i.done) same ∙ from.done)
+    in
+    let end = YieldsList-end bytes c.loop-b.yielded _ c.loop-b.yielded_by _ _ c.in-None.is c.next.ensures.steps in
     let plain = sym c.is_plain.ensures ∙ c.if-not-is_plain.false in
-    laws.wrote_all _ _ c.in-None.ensures.steps.0 ∙ c.loop-b.invariant ∙ ap (λ (t : List ℕ). over t c.args.out.now) (sym (laws.undone_each c.args.s.now plain))
+    c.loop-b.invariant ∙ ap (λ (t : List ℕ). over t c.args.out.now) (sym (map-id c.loop-b.yielded) ∙ end.0 ∙ sym (undone_each c.args.s.now plain))

@@ -2,7 +2,6 @@
 use Rattle.std.proofs.Common.{arith, ◌≡◌, sym, ap₂, refl, true, false, ◌∙◌, eqb, ltb}
 use mathlib.Core.Bool.{◌||◌, or-true}
 use borrow.Author.Tests.{eq-eqb, ne_eqb, lt-ltb, le-ltb}
-use Rattle.positions.specs.Moves.{move}
 use Rattle.captures.specs.Lists.{listed}
 use Rattle.captures.specs.Record.{moves_in, move_of, more_by}
 use Rattle.captures.proofs.Listed.{listed_any}
@@ -25,9 +24,8 @@ returns-then-contains g c =
     let a = c.args in
     let n = c.count-count.result in
     let enough : (eqb n 0 || ltb n a.self.now.best) ≡ false = rw (ne_eqb n 0 c.if-count-eq0.false, le-ltb n a.self.now.best (omega (arith, c.if-count-self.false))) refl in
-    let made : move c.first.result c.first-2.result a.captured ≡ move_of a.self.now a.to a.captured = cc in
     let there : listed (moves_in a.self.now) (move_of a.self.now a.to a.captured) ≡ true =
-    ap₂ listed (sym c.entries.ensures) (sym made) ∙ sym (listed_any c.entries.result.now _) ∙ sym c.contains.ensures.value ∙ c.if-contains.true in
+    ap₂ listed (sym c.entries.ensures) (sym c.by_bits-mv.ensures) ∙ sym (listed_any c.entries.result.now _) ∙ sym c.contains.ensures.value ∙ c.if-contains.true in
     record_there a.self.now a.to a.captured n c.count-count.ensures enough c.if-self-count.false there
 
 pub returns : goal.returns
@@ -35,14 +33,13 @@ returns g c =
     let a = c.args in
     let n = c.count-count.result in
     let enough : (eqb n 0 || ltb n a.self.now.best) ≡ false = rw (ne_eqb n 0 c.if-count-eq0.false, le-ltb n a.self.now.best (omega (arith, c.if-count-self.false))) refl in
-    let made : move c.first.result c.first-2.result a.captured ≡ move_of a.self.now a.to a.captured = cc in
     elim c.if-self-count.branch [
       | then-self-count w ↦
-          c.push.ensures ∙ ap₂ more_by (w.self-is ∙ w.clear.ensures) made
+          c.push.ensures ∙ ap₂ more_by (w.self-is ∙ w.clear.ensures) c.by_bits-mv.ensures
           ∙ record_anew a.self.now a.to a.captured n c.count-count.ensures enough w.if-self-count.true
       | else-self-count+else-contains w ↦
           let new : listed (moves_in a.self.now) (move_of a.self.now a.to a.captured) ≡ false =
-          ap₂ listed (sym w.entries.ensures) (sym made) ∙ sym (listed_any w.entries.result.now _) ∙ sym w.contains.ensures.value ∙ w.if-contains.false in
-          c.push.ensures ∙ ap₂ more_by w.self-is made
+          ap₂ listed (sym w.entries.ensures) (sym c.by_bits-mv.ensures) ∙ sym (listed_any w.entries.result.now _) ∙ sym w.contains.ensures.value ∙ w.if-contains.false in
+          c.push.ensures ∙ ap₂ more_by w.self-is c.by_bits-mv.ensures
           ∙ record_more a.self.now a.to a.captured n c.count-count.ensures enough w.if-self-count.false new
     ]

@@ -14,4 +14,4 @@ returns c =
     let g = c.args.self.now in
     let k : length g.kept ≡ 51 = search (rules, length_of_map) in
     let copied : c.copy_from_slice.new.self ≡ window_of g = search rules in
-    rw (c.blank-kept.ensures, copied, appended_blank blank_position c.args.p g.len g.kept k c.requires.len_bound)
+    rw (copied, appended_blank blank_position c.args.p g.len g.kept k c.requires.len_bound)

@@ -1,11 +1,9 @@
 -- One line more.
-use native.Mathlib.Omega.{arith}
 use Rattle.lines.proofs.Contents.{lines_next, next_left}
 use Rattle.lines.proofs.buffers.Answers.answer_lines.Goals as goal
 
-pub loop-n-preserved : goal.loop-n-preserved
-loop-n-preserved c =
-    let i = c.loop-n.invariant in
-    let at = c.in-Some.ensures.0 in
-    let h = c.in-Some.ensures.1 in
-    (next_left _ _ i.0 _ (omega (arith, at, h)), lines_next _ _ _ _ _ i.0 i.1 at (omega (arith, at, h)) (omega (arith, at, h)) c.answer.ensures)
+pub loop-rest-preserved : goal.loop-rest-preserved
+loop-rest-preserved c =
+    let i = c.loop-rest.invariant in
+    let a = rw c.in_default-Some.is-1 at c.cut_at.ensures.after in
+    rw c.in_default-Some.is-1 (next_left _ _ a.0 a.1 _ i.0, lines_next _ _ a.0 a.1 _ i.0 _ _ _ i.1 c.cut_at.ensures.before c.answer.ensures)

@@ -1,28 +1,44 @@
--- The sum of the four flights; a king has at most 256 moves.
-use Rattle.std.proofs.Common.{◌^◌, ◌∙◌, arith, rules, tests, ℕ, List, [], ◌∷◌, length}
-use Rattle.std.proofs.lemmas.Iterator.{YieldsList-from_range, YieldsList-from_map}
-use Rattle.std.proofs.lemmas.Iterator.Consumers.{sum_by_from_yields_List, fits_by_from_yields_list}
-use Rattle.quiets.specs.Quiets.{flight_of}
-use Rattle.quiets.proofs.Counts.{four_sum, king_most}
+-- The chain counts the squares in all directions, at most 256.
+use Rattle.std.proofs.Common.{◌∙◌, arith, rules, tests, ℕ, inr}
+use Rattle.std.proofs.lemmas.Iterator.Consumers.{count_from_yields_List}
+use Rattle.quiets.proofs.Counts.{king_most}
+use Rattle.quiets.proofs.Flights.{reached_count, rays_end, all_reached, count_fits}
 use Rattle.quiets.proofs.quiets.Flyer.count.Goals as goal
 
--- the directions that the chain goes over, and how many they are
-abbrev directions : List ℕ
-directions = 0 ∷ 1 ∷ 2 ∷ 3 ∷ []
-
+-- how many directions the chain goes over
 abbrev number : ℕ
 number = 4
 
-pub sum-requires-clause-fits : goal.sum-requires-clause-fits
-sum-requires-clause-fits c =
-    let h = λ (d : ℕ). length (flight_of c.args.self.at c.args.self.empty d) in
-    fits_by_from_yields_list h directions _ (2 ^ 32)
-    (YieldsList-from_map _ h (YieldsList-from_range 0 number number (cc) (omega arith)) c.map.ensures.closure (λ x r q k. search (rules, tests)))
-    (omega (arith, four_sum c.args.self.at c.args.self.empty, king_most c.args.self.at c.args.self.empty))
+pub count-requires-clause-can : goal.count-requires-clause-can
+count-requires-clause-can c =
+    let k = c.args.self in
+    let e = c.flat_map.ensures in
+    (((λ _. ((tt, record { at = λ xs t q x u y r s. tt }), rays_end _ _ k.at k.empty number (λ x r q s. search (rules, tests)) e.source e.closure)), tt, (λ ray _. (tt, tt))), (λ ray _. (tt, tt)))
+
+pub count-requires-clause-fits : goal.count-requires-clause-fits
+count-requires-clause-fits c =
+    let k = c.args.self in
+    let e = c.flat_map.ensures in
+    inr (count_fits (all_reached _ _ k.at k.empty number (λ x r q s. search (rules, tests)) e.source e.closure e.front e.back e.done)
+    (omega (arith, reached_count k.at k.empty, king_most k.at k.empty)))
 
 pub returns : goal.returns
 returns c =
-    let h = λ (d : ℕ). length (flight_of c.args.self.at c.args.self.empty d) in
-    sum_by_from_yields_List h directions _ c.sum.result c.sum.ensures.ran
-    (YieldsList-from_map _ h (YieldsList-from_range 0 number number (cc) (omega arith)) c.map.ensures.closure (λ x r q k. search (rules, tests)))
-    ∙ four_sum c.args.self.at c.args.self.empty
+    let k = c.args.self in
+    let e = c.flat_map.ensures in
+    count_from_yields_List c.flat_map.result c.count.result c.count.ensures.ran
+    (all_reached _ _ k.at k.empty number (λ x r q s. search (rules, tests)) e.source e.closure e.front e.back e.done)
+    ∙ reached_count k.at k.empty
+
+-- the same number, which fits
+pub overflow_cast-result : goal.overflow_cast-result
+overflow_cast-result c =
+    let k = c.args.self in
+    let e = c.flat_map.ensures in
+    omega (
+      arith,
+      count_from_yields_List c.flat_map.result c.count.result c.count.ensures.ran
+          (all_reached _ _ k.at k.empty number (λ x r q s. search (rules, tests)) e.source e.closure e.front e.back e.done),
+      reached_count k.at k.empty,
+      king_most k.at k.empty,
+    )
