@@ -31,7 +31,8 @@ impl From<Position> for View {
     }
 }
 
-// A `Position` has such sets by colour. A board by the two sides has no colours to ask it with, so these are its own.
+// A `Position` has `men`, `kings` and `empty` too, made of its own fields. One function for both types would take their
+// sets one by one, and be no shorter.
 impl View {
     // The men of its side.
     pub fn men(self) -> Bitboard

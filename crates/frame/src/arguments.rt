@@ -44,8 +44,8 @@ pub fn arguments<E: Env>(rt: &E, buf: &mut [u8]) -> Result<Option<usize>, TooLon
         space.put_byte(b' ');
         space.put(&word[..n]);
     }
-    // No `unless`: its trait is in the crate `squares`, which this crate does not need. By `then_some` and `ok_or` this
-    // would read no plainer.
+    // No `unless`: its trait is in the crate `squares`, which this crate does not need. As
+    // `(..).then_some(Some(space.at)).ok_or(TooLong)` this would read no plainer.
     if space.at == space.bytes.len() {
         return Err(TooLong);
     }

@@ -13,8 +13,8 @@ ghost use Rattle.frame.specs.Input.{CameIn, CameFrom, SingleFrom, TakenIn, Taken
 use crate::output::Failure;
 use std::io::Read;
 
-// Reads once, into the start of the space. Returns how many bytes that is: 0, as the library's `read` answers it, is the
-// end of the input, or the space has no byte.
+// Reads once, into the start of the space. Returns how many bytes that is. As in the library's `read`, 0 is the end of
+// the input, or the space has no byte.
 pub fn read_once<R: Read>(from: &mut R, space: &mut [u8]) -> Result<usize, Failure>
     ensures came_in { CameIn (length space.new) result }
     ensures came_from { CameFrom (R.remaining from.old) (R.remaining from.new) space.new result }

@@ -96,7 +96,7 @@ lines_none s new e =
 pub all_left : (s : List ℕ) → s ≡ drop (length s - length s) s
 all_left s = let z : length s - length s ≡ 0 = omega arith in sym (ap (λ (k : ℕ). drop k s) z)
 
--- left has a line feed, and after it comes what is left then
+-- left contains a line feed, and after is what comes after it
 module _ (left after : List ℕ) (h : holds 10 left ≡ true) (r : after ≡ after_first 10 left) where
   feed_inside : index_of (is 10) left < length left
   feed_inside = ltb-true _ _ (holds_found 10 left ∙ h)

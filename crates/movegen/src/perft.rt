@@ -106,7 +106,7 @@ fn split(v: View, plies: u32) -> Result<Divided, Refusal>
 {
     let list = movegen::generate(v).ok_or(Refusal::TooManyMoves)?;
     let mut counts = [0u64; 256];
-    // Over `zip(&mut counts)` this was tried: the proof does not close, since it cannot name the counts that are stored.
+    // A loop over `zip(&mut counts)` was tried: the proof does not close, since it cannot name what is stored.
     for (i, &mv) in list.entries().iter().enumerate() {
         counts[i] = count(playing::next(v, mv), plies)?;
     }

@@ -51,8 +51,8 @@ pub fn put_ok(out: &mut Space)
     out.put(b"ok ");
 }
 
-// What was found. If it was refused, the refusal is written. (A function that gets what follows as a closure would have
-// a `requires`, which no public function has.)
+// What was found, or nothing where it was refused; the refusal is written then. (A function that gets what follows as a
+// closure would have a `requires`, which no public function has.)
 pub fn found<T>(out: &mut Space, r: Result<T, Refusal>) -> Option<T>
     ensures value { result ≡ result_ok r }
     ensures out_after { out.new ≡ over (on_ok r (λ _. [])) out.old }

@@ -84,8 +84,8 @@ pub fn put_state(out: &mut Space, g: Game, mark: u8)
     answers::put_count(out, g.repetitions());
 }
 
-// The position, or nothing where it is refused. (`answers::put_count` does so with a number. One function for both would
-// be longer than the two.)
+// The position, or nothing where it is refused. (`answers::put_count` does so with a number. One function for both
+// would be longer than the two.)
 fn put_stand(out: &mut Space, p: Result<Position, Refusal>)
     ensures { out.new ≡ over (stand_word p) out.old }
 {

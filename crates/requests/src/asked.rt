@@ -194,8 +194,8 @@ pub(crate) fn quiet(p: Result<Position, Refusal>, out: &mut Space)
     answers::tell_tested(out, p.and_then(movegen::movegen::has_quiet_moves));
 }
 
-// The side that a word means: W or B alone. (`side` of `texts::fen` takes small letters too. One function for both would
-// take the reader of the letter, and be no shorter.)
+// The side that a word means: W or B alone. (`side` of `texts::fen` takes small letters too. One function for both
+// would take the reader of the letter, and be no shorter.)
 #[tactic(auto, unfolding(crate::specs::Asked::side_of))]
 fn side(word: &[u8]) -> Result<Color, Refusal>
     ensures { result ≡ side_of word.now }

@@ -135,8 +135,8 @@ fn put_answer(line: &[u8], out: &mut Space)
 }
 
 // The answer to a request line (without its line feed), at the start of the lent bytes; what has no room is left out.
-// How many bytes it has there. (`help` begins and ends so too, as does `unescape` of `wording`, which says why that is no
-// function for all.)
+// How many bytes it has there. (`help` begins and ends so too, as does `unescape` of `wording`, which says why there is
+// no one function for them.)
 pub fn answer(line: &[u8], out: &mut [u8]) -> usize
     ensures value { result ≡ min (length (answer_of line.now)) (length out.old) }
     ensures out_after { out.new ≡ written (answer_of line.now) out.old }

@@ -29,7 +29,7 @@ table_key c k s =
     (λ i l e. key_entry c k i (sym (has_all i) ∙ and_right (has s i) (has all i) (sym (has_and s all i) ∙ e)))
     ∙ xor_mask (key_at c k) s all (λ i l e. off_key c k i (sym (has_all i) ∙ e))
 
--- the same, where n is the number of their block
+-- the same, where n is the number of the block of these keys
 pub keyed : (c : Color) (k : PieceKind) (s : ℕ) {n : ℕ} → n ≡ block c k → xor_over (λ i. get_or keys (64 * n + i) 0) (bit_and s 0x003F_F7FE_FFDF_FBFF) ≡ set_key_of c k s
 keyed c k s e = ap₂ (λ (n m : ℕ). xor_over (λ i. get_or keys (64 * n + i) 0) (bit_and s m)) e (sym all_is) ∙ table_key c k s
 

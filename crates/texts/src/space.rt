@@ -47,8 +47,8 @@ impl<'a> Space<'a> {
         }
     }
 
-    // Writes a number below 100 in decimal. From 100 on callers are promised two bytes by the same formula, so this is no
-    // `put_decimal` of `wording`.
+    // Writes a number below 100 in decimal. From 100 on callers are promised two bytes by the same formula, so this is
+    // no `put_decimal` of `wording`.
     #[tactic(auto, unfolding(crate::specs::Bytes::digits, crate::specs::Lent::over))]
     #[inline(always)]
     pub fn put_digits(&mut self, n: u8)
