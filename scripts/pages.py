@@ -15,8 +15,9 @@ import re
 import shlex
 import subprocess
 
-PAGES = ["README.md", "docs/PROTOCOL.md", "docs/REFUSALS.md", "docs/RULES.md"]
 ROOT = os.path.join(os.path.dirname(os.path.abspath(__file__)), "..")
+PAGES = ["README.md", "docs/PROTOCOL.md", "docs/REFUSALS.md", "docs/RULES.md"]
+PAGES += [f"docs/requests/{name}" for name in sorted(os.listdir(os.path.join(ROOT, "docs/requests")))]
 PROGRAM = ("dame", "crates/dame/out/dame")
 
 

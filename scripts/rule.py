@@ -11,6 +11,8 @@ fits.
   side       the side of `parts` is not W or B
 A depth and records are read after the FEN, so a refusal of the FEN comes before their `number`; all else comes before
 any refusal. To other lines the two answer the same, byte for byte, except by these rules:
+  printed    a FEN, square or move text contains a number from 1 to 50 with a sign or more than two digits, `+8` or
+             `008`, which the Rust reads as a square: the answer is the Rust's to the text with `0` in its place
   limits     a depth above 7 and a weight outside -10,000 to 10,000 are refused with 10, after the FEN's refusals
   atmost     the Rust has no such request: its list of any length, then 10 above 256 and 17 above the limit
   record     the Rust has no such request: the FEN's refusals, else the game by scripts/gamerule.py
@@ -93,6 +95,15 @@ def drawn(draw, count):
     return Board("WB"[draw.below(2)], white, black, kings)
 
 
+def respelt(draw, text):
+    """The text with a 0 before every number of one digit, or with a sign or zeros before one of its numbers."""
+    numbers = list(re.finditer(rb"[0-9]+", text))
+    if not numbers or draw.below(2):
+        return re.sub(rb"(?<![0-9])[0-9](?![0-9])", rb"0\g<0>", text)
+    at = draw.one(numbers).start()
+    return text[:at] + draw.one([b"0", b"0", b"00", b"+", b"+0"]) + text[at:]
+
+
 def digits(word, base, limit):
     """The number that the word is, or None: digits of this base, leading zeros allowed, at most the limit."""
     if not re.fullmatch(rb"[0-9]+" if base == 10 else rb"[0-9A-Fa-f]+", word):
@@ -142,6 +153,51 @@ def undone(word):
 
 def bad(word):
     return b"bad request: " + word.encode()
+
+
+def escaped(text):
+    """The text as a word: no space, no line feed."""
+    for byte, letter in ((b"\\", b"\\"), (b" ", b"s"), (b"\t", b"t"), (b"\r", b"r"), (b"\n", b"n")):
+        text = text.replace(byte, b"\\" + letter)
+    return text
+
+
+def unprinted(digits):
+    """Whether this is a square to the Rust, which reads a u8, and is not one or two digits."""
+    return re.fullmatch(rb"\+?[0-9]+", digits) and 1 <= int(digits) <= 50 and not re.fullmatch(rb"[0-9]{1,2}", digits)
+
+
+def printed_text(word):
+    """The word of a square or move text with `0` for every such square."""
+    text = undone(word)
+    if len(text) > 4096 or not text.isascii():
+        return word
+    plain = re.sub(rb"[+0-9]+", lambda m: b"0" if unprinted(m[0]) else m[0], text)
+    return word if plain == text else escaped(plain)
+
+
+def printed_fen(word):
+    """The same of a FEN. A text without a colon names no square, and may be Hub."""
+    return printed_text(word) if b":" in undone(word) else word
+
+
+def printed(line):
+    """The line with `0` for every such square. Its other numbers stay: they are no square texts."""
+    name, space, arg = line.partition(b" ")
+    if name in (b"hub", b"hub2fen", b"parts"):
+        return line
+    if name == b"square":
+        return name + space + printed_text(arg)
+    if name in b"fen fen2hub bits moves eval hash flip caps quiet outcome".split():
+        return name + space + printed_fen(arg)
+    first, gap, rest = arg.partition(b" ")
+    if name == b"atmost":
+        return name + space + first + gap + printed_fen(rest)
+    if name in (b"parse", b"after"):
+        rest = printed_text(rest)
+    if name == b"play":
+        rest = b" ".join(map(printed_text, rest.split(b" ")))
+    return name + space + printed_fen(first) + gap + rest
 
 
 def played_words(line):
@@ -210,10 +266,7 @@ class Oracle:
 
 
 def asked(line):
-    """What the oracle is asked for a line, and the rule that makes its answer `dame`'s; None: the answer is known."""
-    word = flaw(line)
-    if word is not None:
-        return None, word, bad(word)
+    """What the oracle is asked for a line of `printed`, and the rule that makes its answer `dame`'s."""
     name, _, arg = line.partition(b" ")
     fen, _, rest = arg.partition(b" ")
     word = late_flaw(line)
@@ -232,8 +285,6 @@ def asked(line):
 
 def answer(oracle, line, rule, extra, told):
     """`dame`'s answer and the rule that made it."""
-    if told is None:
-        return extra, rule
     assert not told.startswith(b"bad "), (line[:300], told)
     if told.startswith(b"err "):
         return told, "same"
@@ -254,10 +305,18 @@ def answer(oracle, line, rule, extra, told):
 
 def answers(oracle, lines):
     """`dame`'s answer to each line and the rule that made it."""
-    plans = [asked(line) for line in lines]
-    told = iter(oracle.ask([ask for ask, _, _ in plans if ask is not None]))
-    return [answer(oracle, line, rule, extra, None if ask is None else next(told))
-            for line, (ask, rule, extra) in zip(lines, plans)]
+    flaws = [flaw(line) for line in lines]
+    plain = [printed(line) if word is None else line for line, word in zip(lines, flaws)]
+    plans = [asked(line) if word is None else None for line, word in zip(plain, flaws)]
+    told = iter(oracle.ask([plan[0] for plan in plans if plan is not None]))
+    made = []
+    for line, word, read, plan in zip(lines, flaws, plain, plans):
+        if plan is None:
+            made.append((bad(word), word))
+            continue
+        said, why = answer(oracle, read, plan[1], plan[2], next(told))
+        made.append((said, why if read == line else "printed"))
+    return made
 
 
 def panicked(oracle, line):

@@ -1,4 +1,4 @@
--- What the byte loops find, place by place: trimming, finding, splitting at a place, a square's digits.
+-- What the byte loops find, place by place: trimming, finding, splitting at a place.
 use Prim.Native.Nat.{ℕ, zero, suc, ◌+◌, ◌-◌, ◌≤◌, ◌<◌}
 use mathlib.Core.Path.{◌≡◌, refl, ap, sym, subst, ◌∙◌}
 use mathlib.Core.List.{List, [], ◌∷◌}
@@ -6,7 +6,7 @@ use mathlib.Core.Bool.{Bool, true, false, cond, not, ◌||◌, ◌&&◌}
 use native.Mathlib.Omega.{arith}
 use native.Mathlib.Numerals.{add-one}
 use lib.ListN.{length, take, drop, get_or, length-drop}
-use lib.Seq.{drop-cons, take_all, take-length}
+use lib.Seq.{take_all, take-length}
 use lib.Dec.{leb, ltb, eqb, leb-suc-suc}
 use borrow.Author.Tests.{le-leb, lt-leb, lt-ltb, le-ltb, ltb-true, ltb-false}
 use Rattle.texts.specs.Bytes.{ascii, is, holds, trim_start, keep_end, trim_end, up_to, after_or, after_first, strip, index_of, IsIndex, IsAfter}
@@ -18,10 +18,6 @@ use Rattle.std.specs.Str.{IsAscii, IsNotAscii}
 use Rattle.std.proofs.Common.{Bor}
 use Rattle.std.specs.Prelude.{None, Some, MatchOption}
 use Rattle.std.specs.declared.option.Option.{Option}
-
--- one more element at i + 1
-pub drop_next : (s : List ℕ) (i : ℕ) → i < length s → drop i s ≡ get_or s i 0 ∷ drop (i + 1) s
-drop_next s i h = rw (add-one, drop-cons s i 0)
 
 -- the part from i on
 pub rest : (s : List ℕ) (i : ℕ) → take (length s - i) (drop i s) ≡ drop i s

@@ -19,7 +19,7 @@ use Rattle.squares.proofs.Bools.{and_left, and_right, and_both}
 use Rattle.squares.proofs.Numbers.{bit_square, bit_back}
 use Rattle.positions.specs.Boards.{Board, kind_if}
 use Rattle.positions.specs.Acceptance.{Accepted}
-use Rattle.texts.specs.Bytes.{blank, is, trim_start, keep_end, trim_end, trim, split_on, joined, up_to, after_or_all, starts_with, strip, number, read_square, digits}
+use Rattle.texts.specs.Bytes.{blank, is, trim_start, keep_end, trim_end, trim, split_on, joined, up_to, after_or_all, starts_with, strip, read_square, digits}
 use Rattle.texts.specs.Parts.{added, with_squares, begun}
 use Rattle.texts.specs.Fen.{item_text, list_text, fen_text, fen_color_of, end_of, range_of, item_of, read_each, items_of, field_of, fields_of, side_of, fen_fields, body, fen_parts}
 use Rattle.texts.specs.declared.parts.Parts.{Parts}
@@ -39,7 +39,7 @@ no_strip c (b ∷ s) h = rw h
 
 item_some : (c : Color) (p : Parts) (s : List ℕ) (n : ℕ) → starts_with 75 s ≡ false → end_of (up_to 45 s) ≡ Ok n → end_of (after_or_all 45 s) ≡ Ok n
     → item_of c p s ≡ Ok (with_squares c Man (run n (n + 1 - n)) p)
-unfolding item_of range_of end_of up_to trim trim_start trim_end read_square strip number
+unfolding item_of range_of end_of up_to trim trim_start trim_end read_square
 item_some c p [] n h e q = let z : Err BadSquare ≡ Ok n = e in let y : ◌≡◌ {A = ℕ} 0 1 = cc in absurd (omega arith)
 item_some c p (x ∷ s) n h e q = rw (h, no_strip 75 (x ∷ s) h, e, q)
 

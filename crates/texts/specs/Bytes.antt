@@ -105,24 +105,25 @@ unfoldable pub strip : ℕ → List ℕ → List ℕ
 strip c [] = []
 strip c (b ∷ s) = cond (eqb b c) s (b ∷ s)
 
--- ---- the number of a square
+-- ---- the text of a square
+unfoldable pub is_digit : ℕ → Bool
+is_digit b = leb (code "0") b && leb b (code "9")
+
+-- the square with this number; refusal: 4
 unfoldable pub in_range : ℕ → Result ℕ Refusal
-in_range v = cond (is_square v) (Ok v) (Err (refusal 4))
+in_range n = cond (is_square n) (Ok n) (Err (refusal 4))
 
--- the number v followed by digits
-unfoldable pub digits_from : ℕ → List ℕ → Result ℕ Refusal
-digits_from v [] = in_range v
-digits_from v (b ∷ s) =
-    cond (leb (code "0") b && leb b (code "9")) (digits_from (v * 10 + (b - code "0")) s) (Err (refusal 4))
+-- the square whose number has these two digits; refusal: 4
+unfoldable pub number : ℕ → ℕ → Result ℕ Refusal
+number tens ones =
+    cond (is_digit tens && is_digit ones) (in_range ((tens - code "0") * 10 + (ones - code "0"))) (Err (refusal 4))
 
--- one digit or more; leading zeros are allowed
-unfoldable pub number : List ℕ → Result ℕ Refusal
-number [] = Err (refusal 4)
-number (b ∷ s) = digits_from 0 (b ∷ s)
-
--- a square's text: an optional +, then digits; the value is 1 to 50
+-- one or two digits, no sign, value 1 to 50; one digit is read as if a 0 came before it
 unfoldable pub read_square : List ℕ → Result ℕ Refusal
-read_square s = number (strip (code "+") s)
+read_square [] = Err (refusal 4)
+read_square (b ∷ []) = number (code "0") b
+read_square (a ∷ (b ∷ [])) = number a b
+read_square (a ∷ (b ∷ (c ∷ s))) = Err (refusal 4)
 
 -- the same as an entry; refusals: 1, 4
 unfoldable pub from_str_of : List ℕ → Result ℕ Refusal
