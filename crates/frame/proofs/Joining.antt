@@ -10,7 +10,7 @@ use Rattle.texts.specs.Lent.{over, written}
 use Rattle.texts.specs.declared.space.Space.{Space}
 use Rattle.texts.proofs.Overs.{over_then, over_as, over_lent, same_name}
 use Rattle.texts.proofs.Pieces.{start, holds_length}
-use Rattle.frame.specs.Arguments.{Joined}
+use Rattle.frame.specs.Arguments.{next_word, Joined}
 
 -- one or more words were joined over the lent bytes old; first is the space after the first of them
 pub record Joining (old : List ℕ) (first new : Space) : Type 0 where
@@ -40,13 +40,17 @@ unfolding joined
 joined_more p [] w = refl
 joined_more p (q ∷ ws) w = ap (λ (x : List ℕ). p ++ (32 ∷ x)) (joined_more q ws w) ∙ sym (append_assoc p (32 ∷ joined 32 (q ∷ ws)) (32 ∷ w))
 
-joined_next : (ws : List (List ℕ)) (w : List ℕ) → 0 < length ws → joined 32 (ws ++ (w ∷ [])) ≡ joined 32 ws ++ (32 ∷ w)
+joined_next : (ws : List (List ℕ)) (w : List ℕ) → 0 < length ws → joined 32 (ws ++ (w ∷ [])) ≡ joined 32 ws ++ next_word w
 joined_next [] w h = absurd (omega arith)
 joined_next (p ∷ ws) w h = joined_more p ws w
 
--- a space and the word w
-pub one_more : {old : List ℕ} {first new : Space} (w : List ℕ) (mid last : Space) → Joining old first new → mid ≡ over (32 ∷ []) new → last ≡ over w mid → Joining old first last
-one_more {old} {first} {new} w mid last j m e =
+-- the space after join is the one before, with the next word
+pub by_join : (w : List ℕ) (new mid last : Space) → mid ≡ over (32 ∷ []) new → last ≡ over w mid → last ≡ over (next_word w) new
+by_join w new mid last m e = over_then (32 ∷ []) w new mid last m e
+
+-- one word more
+pub one_more : {old : List ℕ} {first new : Space} (w : List ℕ) (last : Space) → Joining old first new → last ≡ over (next_word w) new → Joining old first last
+one_more {old} {first} {new} w last j e =
     let ws = j.words in
     record {
       start = j.start;
@@ -55,7 +59,7 @@ one_more {old} {first} {new} w mid last j m e =
       named = j.named;
       words = ws ++ (w ∷ []);
       some = omega (arith, j.some, length-append ws (w ∷ []));
-      held = over_as _ _ j.start last (sym (joined_next ws w j.some)) (over_then _ _ j.start new last j.held (over_then _ _ new mid last m e));
+      held = over_as _ _ j.start last (sym (joined_next ws w j.some)) (over_then _ _ j.start new last j.held e);
     }
 
 -- ---- the last word was joined

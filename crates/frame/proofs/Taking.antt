@@ -16,16 +16,12 @@ use borrow.Author.Tests.{ne_eqb}
 use borrow.Rule.Slice.PartMut.{put_mid, post_of, same_len_mid}
 use Rattle.texts.specs.Bytes.{holds}
 use Rattle.texts.proofs.Cuts.{rest}
-use Rattle.frame.specs.Input.{LineIn, CameIn}
+use Rattle.frame.specs.Input.{LineIn, CameIn, came_of}
 use Rattle.frame.specs.declared.output.Failure.{Failure}
 use Rattle.frame.specs.declared.output.Failure.TheVariants as failure
 use Rattle.std.specs.Prelude.{Result, Ok, Err}
 
 -- ---- one read
-abbrev pub came_of : {E : Type 0} → Result ℕ E → Result ℕ Failure
-came_of (Ok n) = Ok n
-came_of (Err e) = Err failure.Read
-
 fits : {E : Type 0} (got : Result ℕ E) (space : List ℕ) → ReadsAtMost got space → CameIn (length space) (came_of got)
 fits (Ok n) space h = h.0
 fits (Err e) space h = tt

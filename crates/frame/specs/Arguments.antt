@@ -1,8 +1,12 @@
 -- Arguments joined by single spaces.
-use Rattle.std.specs.Prelude.{ℕ, ◌≤◌, ◌<◌, ◌≡◌, List, ◌++◌, length, drop, Option, Some, None, Result, Ok, Err}
+use Rattle.std.specs.Prelude.{ℕ, ◌≤◌, ◌<◌, ◌≡◌, List, ◌∷◌, ◌++◌, length, drop, Option, Some, None, Result, Ok, Err}
 use Prim.Native.Char.{code}
 use Rattle.texts.specs.Bytes.{joined}
 use Rattle.frame.specs.declared.arguments.TooLong.{TooLong}
+
+-- what a word that is not the first adds to the line: a space and its bytes
+abbrev pub next_word : List ℕ → List ℕ
+next_word w = code " " ∷ w
 
 -- the bytes have room
 abbrev pub WordIn : List ℕ → Result (Option ℕ) TooLong → Type 0

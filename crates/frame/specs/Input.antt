@@ -1,9 +1,14 @@
--- What the buffer contains after reads.
+-- What the answer of a read means, and what the buffer contains after reads.
 use Rattle.std.specs.Prelude.{ℕ, ◌≤◌, ◌<◌, ◌≡◌, List, [], ◌∷◌, ◌++◌, false, length, take, drop, Option, Some, None, Result, Ok, Err}
 use Rattle.std.specs.Io.KnownBytes.{Consumes, Keeps, IsAtEnd}
 use Rattle.texts.specs.Bytes.{holds}
 use Rattle.frame.specs.declared.output.Failure.{Failure}
 use Rattle.frame.specs.declared.output.Failure.TheVariants as failure
+
+-- what a read brought, by its answer: an error is a failed read, and nothing else is
+abbrev pub came_of : {E : Type 0} → Result ℕ E → Result ℕ Failure
+came_of (Ok n) = Ok n
+came_of (Err e) = Err failure.Read
 
 -- the bytes have room in the space; where a read fails, no write failed
 abbrev pub CameIn : ℕ → Result ℕ Failure → Type 0

@@ -1,9 +1,11 @@
 // The program's arguments, without its name, as one line: joined by single spaces.
 //
-// No contract says which arguments there are, since that of the library's `arg` does not. The contract of `arguments`
-// says that the bytes are words joined by single spaces. Only the code shows that these are the arguments, in order.
+// No contract says which arguments there are, since that of the library's `arg` does not. `join` only fills a buffer,
+// and its contract says which bytes it adds. Only the code shows that the words joined are the arguments, in order.
 // An argument need not be UTF-8: its bytes are passed on as they are.
-ghost use Rattle.frame.specs.Arguments.{WordIn, GivenIn};
+ghost use Rattle.std.specs.Prelude.{◌≡◌};
+ghost use Rattle.texts.specs.Lent.{over};
+ghost use Rattle.frame.specs.Arguments.{next_word, WordIn, GivenIn};
 
 use std::env::{Env, FillError};
 use texts::space::Space;
@@ -11,6 +13,15 @@ use texts::space::Space;
 // The joined arguments leave no byte of the buffer free, or one argument is too long to be read.
 #[derive(Clone, Copy, Debug, PartialEq, Eq)]
 pub struct TooLong;
+
+// Puts a word that is not the first: a space, then the word. What has no room is left out.
+#[tactic(auto, using(crate::proofs::Joining::by_join))]
+fn join(space: &mut Space, word: &[u8])
+    ensures { space.new ≡ over (next_word word.now) space.old }
+{
+    space.put_byte(b' ');
+    space.put(word);
+}
 
 // Puts the argument of this number at the start of the word. Returns how many bytes it has, or nothing where there is
 // no argument of this number.
@@ -41,8 +52,7 @@ pub fn arguments<E: Env>(rt: &E, buf: &mut [u8]) -> Result<Option<usize>, TooLon
         let Some(n) = read_word(rt, i, &mut word)? else {
             break;
         };
-        space.put_byte(b' ');
-        space.put(&word[..n]);
+        join(&mut space, &word[..n]);
     }
     // No `unless`: its trait is in the crate `squares`, which this crate does not need. As
     // `(..).then_some(Some(space.at)).ok_or(TooLong)` this would read no plainer.

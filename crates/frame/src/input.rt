@@ -7,11 +7,19 @@
 //
 // A read fails where the reader answers an error. The reason is not asked: a call that a signal interrupts, or that
 // would have to wait on a descriptor that must not wait, counts as one that failed.
-ghost use Rattle.std.specs.Prelude.{length};
-ghost use Rattle.frame.specs.Input.{CameIn, CameFrom, SingleFrom, TakenIn, TakenFrom, TakenLine, LineFrom};
+ghost use Rattle.std.specs.Prelude.{◌≡◌, length};
+ghost use Rattle.frame.specs.Input.{came_of, CameIn, CameFrom, SingleFrom, TakenIn, TakenFrom, TakenLine, LineFrom};
 
 use crate::output::Failure;
+use std::io;
 use std::io::Read;
+
+// What the answer of a read means. Only an error is a failed read; the end of the input is none.
+fn what_came(got: io::Result<usize>) -> Result<usize, Failure>
+    ensures { result ≡ came_of got }
+{
+    got.map_err(|_| Failure::Read)
+}
 
 // Reads once, into the start of the space. Returns how many bytes that is. As in the library's `read`, 0 is the end of
 // the input, or the space has no byte.
@@ -19,7 +27,7 @@ pub fn read_once<R: Read>(from: &mut R, space: &mut [u8]) -> Result<usize, Failu
     ensures came_in { CameIn (length space.new) result }
     ensures came_from { CameFrom (R.remaining from.old) (R.remaining from.new) space.new result }
 {
-    from.read(space).map_err(|_| Failure::Read)
+    what_came(from.read(space))
 }
 
 // Reads one byte. Returns nothing at the end of the input.

@@ -6,19 +6,14 @@ use mathlib.Core.Bool.{Bool, true, false, cond}
 use mathlib.Core.List.{List, [], ◌∷◌}
 use Prim.Native.Nat.{ℕ, ◌≤◌}
 use native.Mathlib.Omega.{arith}
-use lib.Dec.{ltb}
-use lib.ListN.{length}
 use Rattle.squares.specs.Refusals.{answer_number_of, number_of, square_of, refusal_at, refusal}
 use Rattle.squares.proofs.Refusals.{refusal_of}
 use Rattle.positions.specs.Acceptance.{sound}
-use Rattle.positions.specs.Boards.{board_of}
-use Rattle.positions.specs.Hash.{position_of}
 use Rattle.positions.specs.Moves.{squares_of}
-use Rattle.positions.specs.Successor.{successor}
 use Rattle.positions.specs.declared.moves.Move.{Move}
 use Rattle.positions.specs.declared.position.Position.{Position}
-use Rattle.rules.specs.Ordered.{legal, listed}
-use Rattle.movegen.specs.Lists.{after_of, played_of}
+use Rattle.movegen.specs.Lists.{after_of}
+use Rattle.movegen.proofs.Answers.{after_either}
 use Rattle.games.specs.Demand3.{answers_to, game_after, game_of, heard_of, heard, Demand3}
 use Rattle.games.specs.Games.{last_of, valid, judged_of, ended}
 use Rattle.games.specs.Play.{empty_game, fresh_of, new_of, reached_of, play_of, after_play, outcome_of}
@@ -83,22 +78,10 @@ new_parts p r a k l v m = told_new p r a (game_parts _ _ k l v m)
 
 module _ (g : Game) (m : Move) where
   told_after : Told g (reached_of g m (after_of (last_of g) m))
-  unfolding after_of played_of
   told_after =
-      let moves = legal (board_of (last_of g)) in
-      let next = position_of (successor (board_of (last_of g)) m) in
-      go (sound (last_of g)) (squares_of m) (ltb 256 (length moves)) (listed moves m) next
-    where
-      go : (s q t u : Bool) (p : Position)
-          → Told g (reached_of g m
-          (cond s
-          (cond q (cond t (Err (refusal 17)) (cond u (Ok p) (Err (refusal 15)))) (Err (refusal 11)))
-          (Err (refusal 12))))
-      go false q t u p = told_err g 12 (omega arith) refl (λ n. refl)
-      go true false t u p = told_err g 11 (omega arith) refl (λ n. refl)
-      go true true true u p = told_err g 17 (omega arith) refl (λ n. refl)
-      go true true false true p = told_ok g _
-      go true true false false p = told_err g 15 (omega arith) refl (λ n. refl)
+      after_either (λ (r : Result Position Refusal). Told g (reached_of g m r)) (last_of g) m
+      (told_err g 12 (omega arith) refl (λ n. refl)) (told_err g 11 (omega arith) refl (λ n. refl))
+      (told_err g 17 (omega arith) refl (λ n. refl)) (told_err g 15 (omega arith) refl (λ n. refl)) (λ q. told_ok g _)
 
   told_play : Told g (play_of g m)
   unfolding play_of

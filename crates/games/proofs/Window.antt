@@ -10,8 +10,8 @@ use Rattle.std.proofs.lemmas.List.{drop-replicate}
 use lib.Seq.{set_at, length-take-le}
 use Rattle.squares.proofs.Bools.{and_left, and_right}
 use Rattle.positions.specs.Acceptance.{sound}
-use Rattle.positions.specs.Computed as positions
 use Rattle.positions.specs.declared.position.Position.{Position}
+use Rattle.positions.proofs.Accepts.{blank_sound}
 use Rattle.games.specs.Games.{blank_position, window_of, last_of, all_sound, valid}
 use Rattle.games.specs.declared.game.Game.{Game}
 use Rattle.games.proofs.Valid.{valid_says}
@@ -31,12 +31,7 @@ all_at d s (p ∷ l) zero i h e = absurd (omega arith)
 all_at d s (p ∷ l) (suc n) zero h e = and_left (sound p) (all_sound (take n l)) e
 all_at d s (p ∷ l) (suc n) (suc i) h e = all_at d s l n i (omega arith) (and_right (sound p) (all_sound (take n l)) e)
 
--- an unused entry is sound too
-pub blank_sound : sound blank_position ≡ true
-unfolding positions.computed
-blank_sound = refl
-
--- the current position is one of those kept
+-- the current position is one of those kept; an unused entry is sound too
 pub last_sound : (g : Game) → valid g ≡ true → sound (last_of g) ≡ true
 unfolding last_of window_of
 last_sound g e =

@@ -1,9 +1,11 @@
 -- What the entries answer to a sound position, past refusal 12: what crates above cite instead of opening the definitions.
-use Rattle.std.specs.Prelude.{Err, Ok}
+use Rattle.std.specs.Prelude.{Err, Ok, Result}
 use mathlib.Core.Path.{◌≡◌, sym, ap, ap₂, ◌∙◌}
 use mathlib.Core.Bool.{Bool, true, false, cond}
 use lib.Dec.{ltb}
 use lib.ListN.{length}
+use Rattle.squares.specs.Refusals.{refusal}
+use Rattle.squares.specs.declared.refusal.Refusal.{Refusal}
 use Rattle.squares.specs.declared.refusal.Refusal.TheVariants.{BadPosition, NoMoveFits, TooManyMoves}
 use Rattle.positions.specs.Acceptance.{sound}
 use Rattle.positions.specs.Boards.{board_of}
@@ -41,3 +43,18 @@ module _ (p : Position) (s : sound p ≡ true) where
       after_one e =
           sym (after_at p m s q)
           ∙ ap₂ (λ (t u : Bool). cond t (Err TooManyMoves) (cond u (Ok (position_of (successor (board_of p) m))) (Err NoMoveFits))) few e
+
+-- of any position and record: one of four refusals, or a position
+pub after_either : (P : Result Position Refusal → Type 0) (p : Position) (m : Move) → P (Err (refusal 12)) → P (Err (refusal 11)) → P (Err (refusal 17))
+    → P (Err (refusal 15)) → ((q : Position) → P (Ok q)) → P (after_of p m)
+unfolding after_of played_of
+after_either P p m a b c d e =
+    go (sound p) (squares_of m) (ltb 256 (length (legal (board_of p)))) (listed (legal (board_of p)) m) (position_of (successor (board_of p) m))
+  where
+    go : (s q t u : Bool) (r : Position)
+        → P (cond s (cond q (cond t (Err (refusal 17)) (cond u (Ok r) (Err (refusal 15)))) (Err (refusal 11))) (Err (refusal 12)))
+    go false q t u r = a
+    go true false t u r = b
+    go true true true u r = c
+    go true true false true r = e r
+    go true true false false r = d

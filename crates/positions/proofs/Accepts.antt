@@ -137,6 +137,11 @@ pub initial_sound : Sound initial_of
 unfolding computed
 initial_sound = position_sound start (accepted_says start refl)
 
+-- the empty board with White to move; its hash is 0
+pub blank_sound : sound (record { white = 0; black = 0; kings = 0; side = White; hash = 0 }) ≡ true
+unfolding computed
+blank_sound = refl
+
 pub of_position : {p q : Position} → ◌≡◌ {A = Result Position Refusal} (Ok p) (Ok q) → p ≡ q
 of_position e = cc
 

@@ -2,7 +2,13 @@
 use Rattle.std.specs.Prelude.{Result, Ok, Err}
 use mathlib.Core.Path.{◌≡◌, refl, sym, ap, ap₂, ◌∙◌}
 use mathlib.Core.List.{List, [], ◌∷◌, ◌++◌, map, flat_map}
-use Prim.Native.Nat.{ℕ, ◌-◌, ◌^◌, ◌<◌}
+use Prim.Native.Nat.{ℕ, zero, suc, ◌+◌, ◌-◌, ◌^◌, ◌<◌}
+use native.Mathlib.Numerals.{add-one}
+use native.Mathlib.Omega.{arith}
+use mathlib.Core.Bool.{Bool, true, false, true≢false}
+use lib.Dec.{eqb}
+use borrow.Author.Tests.{eqb-true, eq-eqb}
+use Rattle.captures.specs.Walks.{up_to}
 use lib.Bits.{bit_and}
 use Rattle.squares.specs.Sets.{lowest, members}
 use Rattle.squares.specs.Directions.{direction_at, shifted}
@@ -40,6 +46,24 @@ module _ (l : MoveList) (xs ys : List Move) where
   -- they had none
   pub put_off : (k : MoveList) → Err k ≡ put_all l xs → put_all l (xs ++ ys) ≡ Err k
   put_off k e = put_append xs ys l ∙ ap (then_put (λ k. put_all k ys)) (sym e)
+
+-- ---- the lists g 0, g 1 and so on, one after the other
+-- the first n had room, and left k
+module _ (g : ℕ → List Move) (l : MoveList) (n : ℕ) (k : MoveList) (w : Ok k ≡ put_all l (up_to g n)) where
+  -- so has the next
+  pub some_in : (r : MoveList) → Ok r ≡ put_all k (g n) → Ok r ≡ put_all l (up_to g (n + 1))
+  unfolding up_to
+  some_in r e = e ∙ sym (put_on l (up_to g n) (g n) k w) ∙ ap (λ (m : ℕ). put_all l (up_to g m)) (sym (add-one n))
+
+  -- the next has not, nor have more
+  pub some_out : (r : MoveList) (m : ℕ) → n < m → Err r ≡ put_all k (g n) → Err r ≡ put_all l (up_to g m)
+  unfolding up_to
+  some_out r zero h e = absurd (omega (arith, h))
+  some_out r (suc m) h e = go (eqb n m) refl (λ i. some_out r m i e)
+    where
+      go : (b : Bool) → eqb n m ≡ b → (n < m → Err r ≡ put_all l (up_to g m)) → Err r ≡ put_all l (up_to g m ++ g m)
+      go true q out = e ∙ sym (put_on l (up_to g n) (g n) k w) ∙ ap (λ (i : ℕ). put_all l (up_to g i ++ g i)) (eqb-true n m q)
+      go false q out = sym (put_off l (up_to g m) (g m) r (out (omega (arith, h, λ (i : n ≡ m). true≢false (sym (eq-eqb n m i) ∙ q)))))
 
 -- ---- bit by bit
 -- what is still to be put in for the members of m comes to x

@@ -27,14 +27,13 @@ flight_length at empty d = sym (length-map (ray_of (direction_at d) empty at) (q
 pub flight_most : (at empty d : ℕ) → length (flight_of at empty d) ≤ 64
 flight_most at empty d = omega (arith, flight_length at empty d, ray_most (direction_at d) empty at)
 
+pub few : (n at empty d : ℕ) → n ≡ length (flight_of at empty d) → n ≤ 64
+few n at empty d e = omega (arith, flight_most at empty d)
+
 -- ---- of one king
 pub four_flights : (at empty : ℕ) → length (up_to (flight_of at empty) 4) ≡ length (flight_of at empty 0) + length (flight_of at empty 1) + length (flight_of at empty 2) + length (flight_of at empty 3)
 unfolding up_to
 four_flights at empty = rw (length-append, length-append, length-append) refl
-
--- its four flights add up to its moves
-pub four_sum : (at empty : ℕ) → sum_by (λ d. length (flight_of at empty d)) (0 ∷ 1 ∷ 2 ∷ 3 ∷ []) ≡ length (up_to (flight_of at empty) 4)
-four_sum at empty = omega (arith, four_flights at empty)
 
 pub king_most : (at empty : ℕ) → length (up_to (flight_of at empty) 4) ≤ 256
 king_most at empty = omega (arith, four_flights at empty, flight_most at empty 0, flight_most at empty 1, flight_most at empty 2, flight_most at empty 3)

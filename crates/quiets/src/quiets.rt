@@ -56,7 +56,10 @@ pub fn has_quiet(s: Sets) -> bool
 {
     let (left, right) = forward(s.side);
     let men = steps(s.men, s.empty, left) | steps(s.men, s.empty, right);
-    men | (0..4).any(|d| steps(s.kings, s.empty, d))
+    // An `any` over the four directions takes half as much again.
+    let up = steps(s.kings, s.empty, 0) | steps(s.kings, s.empty, 1);
+    let kings = up | steps(s.kings, s.empty, 2) | steps(s.kings, s.empty, 3);
+    men | kings
 }
 
 // The direction opposite to `d`; up-left for a number above 3.
@@ -118,22 +121,43 @@ impl Flyer {
         Ray::new(self.at, d, self.empty)
     }
 
-    // Its moves, by direction.
+    // Its moves in direction `d`.
     #[inline(always)]
-    fn put_moves(self, list: &mut MoveList) -> Option<()>
-        ensures { kept list.new result ≡ put_all list.old (up_to (flight_of self.at self.empty) 4) }
+    fn put_flight(self, list: &mut MoveList, d: usize) -> Option<()>
+        ensures { kept list.new result ≡ put_all list.old (flight_of self.at self.empty d) }
     {
-        for to in (0..4).flat_map(|d| self.flight(d)) {
+        for to in self.flight(d) {
             list.put(Move::by_bits(self.at, to, 0))?;
         }
         Some(())
     }
 
-    // The number of its moves.
+    // Its moves, by direction. (A chain over the four rays takes a third more time.)
+    #[inline(always)]
+    fn put_moves(self, list: &mut MoveList) -> Option<()>
+        ensures { kept list.new result ≡ put_all list.old (up_to (flight_of self.at self.empty) 4) }
+    {
+        for d in 0..4 {
+            self.put_flight(list, d)?;
+        }
+        Some(())
+    }
+
+    // The number of squares that it reaches in direction `d`.
+    #[inline(always)]
+    fn reach(self, d: usize) -> u32
+        ensures { result ≡ length (flight_of self.at self.empty d) }
+    {
+        self.flight(d).count() as u32
+    }
+
+    // The number of its moves. (A chain over the four rays takes a third more time.)
     fn count(self) -> u32
         ensures { result ≡ length (up_to (flight_of self.at self.empty) 4) }
     {
-        (0..4).flat_map(|d| self.flight(d)).count() as u32
+        let up = self.reach(0) + self.reach(1);
+        let down = self.reach(2) + self.reach(3);
+        up + down
     }
 }
 

@@ -41,7 +41,7 @@ use Rattle.games.specs.declared.game.Game.{Game}
 use Rattle.games.specs.declared.game.Termination.{Termination}
 use Rattle.games.specs.declared.game.Termination.TheVariants.{NoMoves, Repetition, TwentyFiveMoves, SixteenMoves, FiveMoves}
 use Rattle.games.proofs.Stands.{room_left}
-use Rattle.games.proofs.Window.{blank_sound}
+use Rattle.positions.proofs.Accepts.{blank_sound}
 use Rattle.games.proofs.Valid.{valid_says, material_fits, alone_last, alone_long, alone_valid, more_last, more_long, more_valid}
 use Rattle.gametexts.specs.Texts.{beside, play_found, play_said, play_heard, play_str_of, played_on}
 use Rattle.gametexts.specs.declared.game.PlayedText.{PlayedText}

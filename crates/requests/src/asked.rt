@@ -4,10 +4,8 @@
 // The position that a request is about comes as what was read of its text. If that is a refusal, it is the answer.
 ghost use Rattle.std.specs.Prelude.{◌≡◌};
 ghost use Rattle.texts.specs.Lent.{over};
-ghost use Rattle.wording.specs.Output.{bad};
 ghost use Rattle.wording.specs.Words.{first_word, after_word};
-ghost use Rattle.wording.specs.declared.output.Flaw.TheVariants as flaw;
-ghost use Rattle.replies.specs.Answers.{on_ok, placed_answer};
+ghost use Rattle.replies.specs.Answers.{placed_answer};
 ghost use Rattle.requests.specs.Reading.{position_in};
 ghost use Rattle.requests.specs.Requests.{first_position};
 ghost use Rattle.requests.specs.Asked.{on_read, SaysRead, side_of, parts_request, moves_request, atmost_request, parse_request, after_request, perft_request, divide_request, eval_request, weights_of, evalw_request, flip_request, caps_request, quiet_request};
@@ -100,37 +98,32 @@ impl<'a> Question<'a> {
         );
     }
 
-    // A number of the rest cannot be read. The refusal of the position comes first.
+    // The rest is a depth. A refused position is answered before the depth is read. (One function for this and `divide`
+    // would take what is counted as a closure, and be longer than the two.)
     #[tactic(auto, using(texts::proofs::Overs::over_none))]
-    pub(crate) fn no_number(self, out: &mut Space)
-        ensures { out.new ≡ over (on_ok self.entry.position (λ _. bad flaw.Number)) out.old }
-    {
-        if answers::found(out, self.position).is_some() {
-            output::put_bad(out, Flaw::Number);
-        }
-    }
-
-    // The rest is a depth. The guard is all that `perft` and `divide` share. A function for it would take what follows
-    // as a closure, and be longer than the two guards.
     pub(crate) fn perft(self, out: &mut Space)
         ensures { out.new ≡ over (perft_request self.entry.position self.entry.rest.now) out.old }
     {
-        let Some(n) = numbers::unsigned(self.rest) else {
-            return self.no_number(out);
+        let Some(q) = answers::found(out, self.position) else {
+            return;
         };
-        answers::tell_counted(out, self.position.and_then(|q| movegen::perft::perft(q, n)));
+        match numbers::unsigned(self.rest) {
+            Some(n) => answers::tell_counted(out, movegen::perft::perft(q, n)),
+            None => output::put_bad(out, Flaw::Number),
+        }
     }
 
+    #[tactic(auto, using(texts::proofs::Overs::over_none))]
     pub(crate) fn divide(self, out: &mut Space)
         ensures { out.new ≡ over (divide_request self.entry.position self.entry.rest.now) out.old }
     {
-        let Some(n) = numbers::unsigned(self.rest) else {
-            return self.no_number(out);
+        let Some(q) = answers::found(out, self.position) else {
+            return;
         };
-        answers::tell_divided(
-            out,
-            self.position.and_then(|q| movegen::perft::divide(q, n)),
-        );
+        match numbers::unsigned(self.rest) {
+            Some(n) => answers::tell_divided(out, movegen::perft::divide(q, n)),
+            None => output::put_bad(out, Flaw::Number),
+        }
     }
 }
 

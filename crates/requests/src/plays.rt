@@ -25,6 +25,7 @@ use squares::refusal;
 use squares::refusal::Refusal;
 use texts::bytes;
 use texts::space::Space;
+use wording::output::Flaw;
 use wording::words::Words;
 use wording::{numbers, output};
 
@@ -164,14 +165,14 @@ impl<'a> Question<'a> {
         self.play_game::<Texts>(out);
     }
 
-    // Every record must be readable before one is played.
+    // Every record must be readable before one is played. A refused position is answered before any record is read.
     pub(crate) fn record(self, out: &mut Space)
         ensures { out.new ≡ over (record_request self.entry.position self.entry.rest.now) out.old }
     {
-        if all_records(self.rest) {
-            self.play_game::<Records>(out);
+        if self.position.is_ok() && !all_records(self.rest) {
+            output::put_bad(out, Flaw::Number);
         } else {
-            self.no_number(out);
+            self.play_game::<Records>(out);
         }
     }
 }

@@ -2,7 +2,7 @@
 use Prim.Native.Nat.{ℕ, zero, suc, ◌+◌, ◌-◌, ◌*◌, ◌≤◌, ◌<◌}
 use mathlib.Core.Path.{◌≡◌, refl, ap, sym, ◌∙◌, subst}
 use mathlib.Core.List.{List, [], ◌∷◌}
-use mathlib.Core.Bool.{Bool, true, false, cond, ◌&&◌, true≢false, false≢true}
+use mathlib.Core.Bool.{Bool, true, false, cond, ◌&&◌, ◌||◌, true≢false, false≢true}
 use native.Mathlib.Omega.{arith}
 use lib.ListN.{length, take, drop, get_or}
 use lib.Dec.{eqb, leb}
@@ -17,7 +17,7 @@ use Rattle.wording.specs.Numbers.{digit_of}
 use Rattle.wording.specs.Escapes.{Plain, text, broken, high_of, hex_escape, escape_of, Escaped, before, on_escape, undo, plain, is_plain, text_of, undone, Undid}
 use Rattle.std.specs.declared.option.Option.{Option}
 use Rattle.std.specs.Prelude.{None, Some, is_some, flat_map, option_to_list}
-use Rattle.std.specs.List.{list_all}
+use Rattle.std.specs.List.{list_all, list_any}
 use Rattle.wording.specs.Steps.{escaped_first, undo_each}
 
 -- ---- \xHH
@@ -198,6 +198,25 @@ undone_none s q = go (plain s) q
     go : (p : Plain) → is_plain p ≡ false → text_of p ≡ []
     go (text t) e = absurd (true≢false e)
     go broken e = refl
+
+-- a word without a backslash is its own text
+bare : (s : List ℕ) → list_any (λ (y : ℕ). eqb y 92) s ≡ false → undo 0 s ≡ text s
+unfolding undo
+bare [] e = refl
+bare (b ∷ s) e = go (bare s) (eqb b 92) e
+  where
+    go : (list_any (λ (y : ℕ). eqb y 92) s ≡ false → undo 0 s ≡ text s) → (q : Bool) → (q || list_any (λ (y : ℕ). eqb y 92) s) ≡ false
+        → elim q [ true ↦ on_escape (escape_of s) (λ x n. before x (undo n s)) | false ↦ before b (undo 0 s) ] ≡ text (b ∷ s)
+    go h true e = absurd (true≢false e)
+    go h false e = ap (before b) (h e)
+
+pub bare_plain : (s : List ℕ) → list_any (λ (y : ℕ). eqb y 92) s ≡ false → is_plain (plain s) ≡ true
+unfolding plain
+bare_plain s e = ap is_plain (bare s e)
+
+pub bare_text : (s : List ℕ) → list_any (λ (y : ℕ). eqb y 92) s ≡ false → undone s ≡ s
+unfolding undone plain
+bare_text s e = ap text_of (bare s e)
 
 pub over_undone_none : (s : List ℕ) (o : Space) → is_plain (plain s) ≡ false → o ≡ over (undone s) o
 over_undone_none s o q = sym (over_none o) ∙ sym (ap (λ (t : List ℕ). over t o) (undone_none s q))

@@ -34,6 +34,13 @@ given_short limit [] h = refl
 given_short limit (b ∷ []) h = refl
 given_short limit (b ∷ (c ∷ s)) h = absurd (omega arith)
 
+-- a plus is no digit
+pub given_plus : (limit : ℕ) (s : List ℕ) → get_or s 0 0 ≡ 43 → given_of limit s ≡ None
+unfolding given_of needless number_in value_from digit_of
+given_plus limit [] e = refl
+given_plus limit (b ∷ []) e = rw e
+given_plus limit (b ∷ (c ∷ s)) e = rw e
+
 -- ---- a digit is its byte less that of zero
 pub digit_is : (b : ℕ) → digit_of b < 10 → b ≡ 48 + digit_of b
 digit_is b h = go (ltb b 48) refl (leb b 57) refl (ltb b 65) refl (leb b 70) refl (ltb b 97) refl (leb b 102) refl

@@ -6,6 +6,4 @@ pub mod GivenTexts
 pub mod Escaped
 pub mod PlainWords
 pub mod Numerals
-pub mod Prefixes
-pub mod Parses
 pub mod Signs

@@ -1,16 +1,20 @@
--- What a digit is to the library and to the definitions.
+-- What a digit is to the library and to the definitions, and numbers digit by digit.
 use Rattle.std.specs.Prelude.{None, Some}
-use Prim.Native.Nat.{ℕ, ◌+◌, ◌-◌, ◌≤◌, ◌<◌}
-use mathlib.Core.Path.{◌≡◌, refl, sym, ◌∙◌}
+use Prim.Native.Nat.{ℕ, ◌+◌, ◌-◌, ◌*◌, ◌≤◌, ◌<◌}
+use mathlib.Core.Path.{◌≡◌, refl, ap, sym, ◌∙◌}
 use mathlib.Core.List.{List, [], ◌∷◌}
-use mathlib.Core.Bool.{Bool, true, false}
+use mathlib.Core.Bool.{Bool, true, false, cond, ◌&&◌, true≢false, false≢true}
 use native.Mathlib.Omega.{arith}
-use lib.ListN.{length}
-use lib.Dec.{leb, ltb}
+use native.Mathlib.Numerals.{add-one}
+use lib.ListN.{length, take, drop, get_or, drop_of_length-le}
+use lib.Dec.{eqb, leb, ltb}
 use borrow.Author.Tests.{le-leb, lt-leb, lt-ltb, le-ltb, leb-true, leb-false, ltb-true, ltb-false}
 use Rattle.std.specs.Char.{digit_value}
 use Rattle.std.specs.Prelude.{SomeIff}
-use Rattle.wording.specs.Numbers.{IsDigit, digit_of, value_from, number_in}
+use Rattle.std.proofs.Math.Seq.{drop-cons}
+use Rattle.wording.specs.Numbers.{AtMost, IsDigit, digit_of, value_from, number_in, unsigned_of, without_prefix, positive_of, negative_of, signed_of}
+use Rattle.texts.specs.Bytes.{strip}
+use lib.Pointwise.{pointwise}
 use Rattle.std.specs.declared.option.Option.{Option}
 
 -- ---- digits
@@ -52,7 +56,7 @@ past_capitals b false e h k =
     let q : digit_value b ≡ 36 = rw (le-ltb b 48 (omega (arith, h)), le-ltb b 58 (omega (arith, h)), le-ltb b 65 (omega (arith, h)), le-ltb b 91 (ltb-false b 91 e), lt-ltb b 97 k) in
     omega (arith, q)
 
-pub past_letters : (b : ℕ) (t : Bool) → ltb b 123 ≡ t → 102 < b → 16 ≤ digit_value b
+past_letters : (b : ℕ) (t : Bool) → ltb b 123 ≡ t → 102 < b → 16 ≤ digit_value b
 past_letters b true e h =
     let q : digit_value b ≡ b - 87 = rw (le-ltb b 48 (omega (arith, h)), le-ltb b 58 (omega (arith, h)), le-ltb b 65 (omega (arith, h)), le-ltb b 91 (omega (arith, h)), le-ltb b 97 (omega (arith, h)), lt-ltb b 123 (ltb-true b 123 e)) in
     omega (arith, q, h)
@@ -110,7 +114,91 @@ digit_found base b None k h =
     digit_none base b k (ltb (digit_value b) 16) refl h w
 
 -- ---- numbers
+pub number_none : (base limit : ℕ) (s : List ℕ) → length s ≡ 0 → number_in base limit s ≡ None
+unfolding number_in
+number_none base limit [] e = refl
+number_none base limit (b ∷ s) e = absurd (omega arith)
+
 pub number_some : (base limit : ℕ) (s : List ℕ) → (length s ≡ 0 → ⊥) → number_in base limit s ≡ value_from base limit 0 s
 unfolding number_in
 number_some base limit [] e = absurd (e refl)
 number_some base limit (b ∷ s) e = refl
+
+both : (t : Bool) (p : Option ℕ) → cond (t && false) p None ≡ None
+both true p = refl
+both false p = refl
+
+module _ (base limit v : ℕ) (s : List ℕ) (i : ℕ) (h : i < length s) where
+  pub no_digit : base ≤ digit_of (get_or s i 0) → value_from base limit v (drop i s) ≡ None
+  unfolding value_from
+  no_digit k = rw (drop-cons s i 0 h, le-ltb (digit_of (get_or s i 0)) base k)
+
+  pub past_limit : limit < v * base + digit_of (get_or s i 0) → value_from base limit v (drop i s) ≡ None
+  unfolding value_from
+  past_limit k = rw (drop-cons s i 0 h, lt-leb (v * base + digit_of (get_or s i 0)) limit k) (both (ltb (digit_of (get_or s i 0)) base) _)
+
+  pub next_digit : (w : ℕ) → w ≡ v * base + digit_of (get_or s i 0) → digit_of (get_or s i 0) < base → w ≤ limit → value_from base limit v (drop i s) ≡ value_from base limit w (drop (i + 1) s)
+  unfolding value_from
+  next_digit w e k l = rw (drop-cons s i 0 h, e, lt-ltb (digit_of (get_or s i 0)) base k, le-leb (v * base + digit_of (get_or s i 0)) limit (omega (arith, e)), add-one i)
+
+pub value_end : (base limit v : ℕ) (s : List ℕ) (i : ℕ) → length s ≤ i → value_from base limit v (drop i s) ≡ Some v
+unfolding value_from
+value_end base limit v s i h = rw (drop_of_length-le s h)
+
+-- both clauses of the contract of `number` where there is no number
+pub no_number : (base limit : ℕ) (s : List ℕ) (r : Option ℕ) → number_in base limit s ≡ None → r ≡ None → (r ≡ number_in base limit s) × AtMost limit r
+no_number base limit s (Some n) h e = absurd (let z : ◌≡◌ {A = ℕ} 0 1 = cc in omega arith)
+no_number base limit s None h e = (sym h, tt)
+
+-- ---- without every 0x at the start
+prefixed : (q : Bool) (a b : ℕ) (t : List ℕ) → List ℕ
+prefixed q a b t = elim q [ true ↦ without_prefix t | false ↦ a ∷ (b ∷ t) ]
+
+pair : (a b : ℕ) (t : List ℕ) → without_prefix (a ∷ (b ∷ t)) ≡ prefixed (eqb a 48 && eqb b 120) a b t
+unfolding without_prefix prefixed
+pair a b t = refl
+
+pub prefix_next : (s t : List ℕ) → pointwise eqb (take 2 s) (48 ∷ (120 ∷ [])) ≡ true → t ≡ drop 2 s → without_prefix s ≡ without_prefix t
+unfolding prefixed
+prefix_next [] t h e = absurd (false≢true h)
+prefix_next (a ∷ []) t h e = go (eqb a 48) h
+  where
+    go : (p : Bool) → (p && false) ≡ true → without_prefix (a ∷ []) ≡ without_prefix t
+    go true k = absurd (false≢true k)
+    go false k = absurd (false≢true k)
+prefix_next (a ∷ (b ∷ s)) t h e = pair a b s ∙ go (eqb a 48) (eqb b 120) h ∙ ap without_prefix (sym e)
+  where
+    go : (p q : Bool) → (p && (q && true)) ≡ true → prefixed (p && q) a b s ≡ without_prefix s
+    go true true k = refl
+    go true false k = absurd (false≢true k)
+    go false q k = absurd (false≢true k)
+
+pub prefix_end : (s : List ℕ) → pointwise eqb (take 2 s) (48 ∷ (120 ∷ [])) ≡ false → without_prefix s ≡ s
+unfolding without_prefix prefixed
+prefix_end [] h = refl
+prefix_end (a ∷ []) h = refl
+prefix_end (a ∷ (b ∷ s)) h = pair a b s ∙ go (eqb a 48) (eqb b 120) h
+  where
+    go : (p q : Bool) → (p && (q && true)) ≡ false → prefixed (p && q) a b s ≡ a ∷ (b ∷ s)
+    go true true k = absurd (true≢false k)
+    go true false k = refl
+    go false q k = refl
+
+-- ---- signs
+pub signed_minus : (s t : List ℕ) → pointwise eqb (take 1 s) (45 ∷ []) ≡ true → t ≡ drop 1 s → signed_of s ≡ negative_of (number_in 10 4294967295 t)
+unfolding signed_of
+signed_minus [] t h e = absurd (false≢true h)
+signed_minus (b ∷ s) t h e = go (eqb b 45) h
+  where
+    go : (p : Bool) → (p && true) ≡ true → cond p (negative_of (number_in 10 4294967295 s)) (positive_of (number_in 10 4294967295 (strip 43 (b ∷ s)))) ≡ negative_of (number_in 10 4294967295 t)
+    go true k = ap (λ (x : List ℕ). negative_of (number_in 10 4294967295 x)) (sym e)
+    go false k = absurd (false≢true k)
+
+pub signed_plus : (s : List ℕ) → pointwise eqb (take 1 s) (45 ∷ []) ≡ false → signed_of s ≡ positive_of (unsigned_of s)
+unfolding signed_of unsigned_of number_in strip
+signed_plus [] h = refl
+signed_plus (b ∷ s) h = go (eqb b 45) h
+  where
+    go : (p : Bool) → (p && true) ≡ false → cond p (negative_of (number_in 10 4294967295 s)) (positive_of (number_in 10 4294967295 (strip 43 (b ∷ s)))) ≡ positive_of (number_in 10 4294967295 (strip 43 (b ∷ s)))
+    go true k = absurd (true≢false k)
+    go false k = refl

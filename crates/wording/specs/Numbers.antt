@@ -1,15 +1,9 @@
 -- Numbers that are read from words: unsigned, signed and hexadecimal ones as Rust reads them (an optional sign, one
 -- digit or more, leading zeros allowed, at most the type's limit), and strict ones, which have exactly one text.
-use Rattle.std.specs.Prelude.{◌≡◌, ℕ, ◌+◌, ◌-◌, ◌*◌, ◌^◌, ◌≤◌, ◌<◌, List, [], ◌∷◌, Bool, true, false, cond, ◌&&◌, eqb, leb, ltb, pos, neg_ℤ, None, Some, ℤ, Result, ◌⊎◌}
+use Rattle.std.specs.Prelude.{◌≡◌, ℕ, ◌+◌, ◌-◌, ◌*◌, ◌^◌, ◌≤◌, ◌<◌, List, [], ◌∷◌, Bool, true, false, cond, ◌&&◌, eqb, leb, ltb, pos, neg_ℤ, None, Some, ℤ}
 use Prim.Native.Char.{code}
-use Rattle.std.specs.Result.{result_ok}
-use Rattle.std.specs.Str.{IsUtf8}
 use Rattle.texts.specs.Bytes.{strip}
 use Rattle.std.specs.declared.option.Option.{Option}
-
--- n is what a reader of texts gives for these bytes; there is none where they are not UTF-8
-unfoldable pub Reads : {T E : Type 0} → (List ℕ → Result T E → Type 0) → List ℕ → Option T → Type 0
-Reads {T} {E} gives s n = ((r : Result T E) × gives s r × (n ≡ result_ok r)) ⊎ ((IsUtf8 s → ⊥) × (n ≡ None))
 
 -- a number that was read is at most k
 abbrev pub AtMost : ℕ → Option ℕ → Type 0

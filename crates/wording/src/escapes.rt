@@ -14,7 +14,7 @@ ghost use Rattle.wording.specs.Steps.{undone_left};
 use texts::space::Space;
 
 // The value of a hexadecimal digit in either case.
-fn digit(b: u8) -> Option<u32>
+pub(crate) fn digit(b: u8) -> Option<u32>
     ensures { IsDigit 16 (digit_of b) result }
 {
     (b as char).to_digit(16)
@@ -90,18 +90,27 @@ impl<'a> Iterator for Undone<'a> {
     }
 }
 
-// Whether every escape in the word is valid.
+// Whether every escape in the word is valid. Most words have no backslash: they are their own text, which is quicker
+// to see.
+#[tactic(auto, using(crate::proofs::Escaped::bare_plain))]
 pub fn is_plain(s: &[u8]) -> bool
     ensures { result ≡ is_plain (plain s.now) }
 {
+    if !s.contains(&b'\\') {
+        return true;
+    }
     Undone(s).all(|b| b.is_some())
 }
 
 // Writes the text of a word; nothing where an escape in it is invalid.
-#[tactic(auto, using(texts::proofs::Overs::over_none, texts::proofs::Overs::over_append, crate::proofs::Escaped::over_undone_none))]
+#[tactic(auto, using(texts::proofs::Overs::over_none, texts::proofs::Overs::over_append, crate::proofs::Escaped::over_undone_none, crate::proofs::Escaped::bare_text))]
 fn put_plain(out: &mut Space, s: &[u8])
     ensures { out.new ≡ over (undone s.now) out.old }
 {
+    if !s.contains(&b'\\') {
+        out.put(s);
+        return;
+    }
     if !is_plain(s) {
         return;
     }

@@ -43,14 +43,16 @@ impl<'a> Iterator for Words<'a> {
 
     ghost remaining = { item_count words_left };
 
-    #[tactic(auto, using(crate::proofs::LineWords::words_first, crate::proofs::LineWords::words_none, crate::proofs::LineWords::fewer))]
+    // One search for the space gives the word and what comes after it.
+    #[tactic(auto, using(crate::proofs::LineWords::words_first, crate::proofs::LineWords::words_none, crate::proofs::LineWords::fewer, texts::proofs::Cuts::after_else), unfolding(crate::specs::Words::first_word, crate::specs::Words::after_word, texts::specs::Bytes::after_first))]
     fn next(&mut self) -> Option<&'a [u8]> {
         let left = self.0;
         if left.len() == 0 {
             return None;
         }
-        self.0 = rest(left);
-        Some(first(left))
+        let (word, after) = bytes::cut_at(left, b' ');
+        self.0 = after.unwrap_or(&[]);
+        Some(word)
     }
 }
 

@@ -13,7 +13,7 @@ pub loop-i-init : goal.loop-i-init
 loop-i-init g c = (search rules, laws.one_word _ _ _ _ (ap (λ (r : MutBor (List ℕ)). r.now) c.new-space.ensures.bytes) c.new-space.ensures.at c.put.ensures)
 
 pub loop-i-preserved : goal.loop-i-preserved
-loop-i-preserved g c = (search rules, laws.one_more _ _ _ c.loop-i.invariant.1 c.put_byte.ensures c.put-in-loop-i.ensures)
+loop-i-preserved g c = (search rules, laws.one_more _ _ c.loop-i.invariant.1 c.join.ensures)
 
 pub returns : goal.returns
 returns g c =
